@@ -1,0 +1,16 @@
+//! Chains over the field of two elements, as finite sets of codes. A code is the rank of a state.
+//!
+//! Read `CodeSet` first; a `Builder` makes one from codes that come in any order, and any number of
+//! times. Contracts see both as chains (`f2_algebra`, specs/Chain.antt), and each answer is an equation
+//! of chains: two sets with the same codes are equal in every clause. A `CodeSet` keeps its codes in
+//! ascending order, a `Builder` keeps a hashed set.
+#![tactic(auto)]
+
+mod builders;
+mod code_sets;
+
+pub use builders::Builder;
+pub use code_sets::{Chain, Cochain, CodeSet};
+
+#[cfg(test)]
+mod tests;
