@@ -1,0 +1,4 @@
+pub mod Bijection
+pub mod Counted
+pub mod States
+pub mod Stored

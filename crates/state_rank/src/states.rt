@@ -1,0 +1,234 @@
+//! Grid states.
+
+ghost use Rattle.std.specs.Prelude.{◌≡◌, ◌≢◌, ◌↔◌, ℕ, ◌+◌, ◌<◌, ◌≤◌, List, [], ◌∷◌, length, slice_index, swap, take, IsTrue, IsNone, IfSome, OnSome, nat_eq};
+ghost use Rattle.std.specs.Cmp.{partial_equiv_from_equiv};
+ghost use Rattle.std.specs.Cmp.Lexicographic.{pointwise, nat_list_eq_equiv};
+ghost use Rattle.state_rank.specs.Bijection.{IsSize, IsBijection};
+ghost use Rattle.state_rank.specs.Counted.{HasExactly};
+ghost use Rattle.state_rank.specs.States.{IsState, is_before, rank, unrank, factorial, transpose};
+
+use crate::MAX_SIZE;
+use std::marker::Model;
+
+const LENGTH: usize = MAX_SIZE as usize;
+
+/// A grid state: a bijection of 0 to n - 1, where the size n is from 2 to `MAX_SIZE`.
+///
+/// It has one point on each vertical circle and one on each horizontal circle of the torus. Contracts
+/// see it as the list that says, for each vertical circle from circle 0 on, on which horizontal circle
+/// its point is (Ozsváth, Stipsicz and Szabó, "Grid Homology for Knots and Links", chapter 4).
+#[derive(Clone, Copy, Debug)]
+pub struct State {
+    rows: [u8; LENGTH],
+    size: u8,
+}
+
+impl Model for State {
+    ghost use Rattle.std.specs.Prelude.{ℕ, List, length, take};
+    ghost use Rattle.state_rank.specs.Stored.{IsStored, length-kept, padded, padded-kept};
+
+    ghost Value = { List ℕ };
+
+    ghost view = { λ s. take s.size s.rows };
+
+    ghost invariant = { λ s. IsStored s.size s.rows };
+
+    ghost inverse = { λ x. record { rows = padded x; size = length x } };
+
+    ghost inverse_ok = { λ s h i. record {
+      rows = padded-kept s.size s.rows h i;
+      size = length-kept s.size s.rows h i;
+    } };
+}
+
+impl State {
+    /// The state with these rows, where they are a bijection of 0 to n - 1 and n is a size.
+    pub fn of(rows: &[u8]) -> Option<State>
+        ensures rows { IfSome result (λ x. x ≡ rows.now) }
+        ensures state { OnSome result (IsState rows.now) }
+        ensures none { IsNone result → IsState rows.now → ⊥ }
+    {
+        if rows.len() < 2 || rows.len() > LENGTH || !is_bijection(rows) {
+            return None;
+        }
+        let mut stored = [0; LENGTH];
+        stored[..rows.len()].copy_from_slice(rows);
+        Some(State {
+            rows: stored,
+            size: rows.len() as u8,
+        })
+    }
+
+    /// How many vertical circles, and so horizontal circles, there are.
+    #[inline]
+    pub fn size(&self) -> u8
+        ensures size { result ≡ length self.now }
+        ensures state { IsState self.now }
+    {
+        self.size
+    }
+
+    /// The horizontal circle of the point on the vertical circle `c`.
+    #[inline]
+    pub fn row(&self, c: u8) -> u8
+        requires { c < length self.now }
+        ensures row { result ≡ slice_index self.now c }
+        ensures below { result < length self.now }
+        ensures state { IsState self.now }
+    {
+        self.rows[c as usize]
+    }
+
+    /// The horizontal circles of the points, from vertical circle 0 on.
+    pub fn rows(&self) -> &[u8]
+        ensures rows { result.now ≡ self.now }
+        ensures state { IsState self.now }
+    {
+        &self.rows[..self.size as usize]
+    }
+
+    /// The place of this state among the states of its size in lexicographic order: how many of them
+    /// come before it.
+    pub fn rank(&self) -> u32
+        ensures rank { result ≡ rank self.now }
+        ensures below { result < factorial (length self.now) }
+
+        // Exactly so many states of this size come before this one.
+        ensures before { HasExactly (λ y. (IsState y × (length y ≡ length self.now)) × IsTrue (is_before y self.now)) result }
+
+        // `unrank` gives each state back from its rank.
+        ensures unranked { (x : List ℕ) → IsState x → unrank (length x) (rank x) ≡ x }
+
+        // The order of two states of one size is that of their ranks.
+        ensures order { (x y : List ℕ) → IsState x → IsState y → length x ≡ length y
+            → IsTrue (is_before x y) ↔ (rank x < rank y) }
+    {
+        let mut rank = 0;
+        let mut block = 1;
+        let mut seen = 0u16;
+        for c in (0..self.size).rev() {
+            let row = self.rows[c as usize];
+            let lower = seen & ((1 << row) - 1);
+            rank += lower.count_ones() * block;
+            block *= u32::from(self.size - c);
+            seen |= 1 << row;
+        }
+        rank
+    }
+
+    /// The state of size `n` and rank `k`, which is from 0 to n! - 1.
+    pub fn unrank(n: u8, k: u32) -> State
+        requires size { IsSize n }
+        requires rank { k < factorial n }
+        ensures state { result ≡ unrank n k }
+        ensures size { length result ≡ n }
+        ensures rank { rank result ≡ k }
+
+        // `rank` gives each number below n! back from its state.
+        ensures ranked { (m j : ℕ) → j < factorial m → rank (unrank m j) ≡ j }
+        ensures sized { (m j : ℕ) → j < factorial m → length (unrank m j) ≡ m }
+
+        // The order of two ranks is that of their states.
+        ensures order { (m i j : ℕ) → i < factorial m → j < factorial m
+            → (i < j) ↔ IsTrue (is_before (unrank m i) (unrank m j)) }
+    {
+        let mut rows = [0; LENGTH];
+        let mut left = k;
+        for c in (0..n).rev() {
+            let places = u32::from(n - c);
+            let row = (left % places) as u8;
+            left /= places;
+            raise(&mut rows, c + 1, n, row);
+            rows[c as usize] = row;
+        }
+        State { rows, size: n }
+    }
+
+    /// This state with its points on the vertical circles `a` and `b` moved to each other's horizontal
+    /// circles.
+    #[inline]
+    pub fn exchange(&self, a: u8, b: u8) -> State
+        requires a_below { a < length self.now }
+        requires b_below { b < length self.now }
+        ensures state { result ≡ swap self.now a b }
+        ensures size { length result ≡ length self.now }
+    {
+        let mut rows = self.rows;
+        rows.swap(a as usize, b as usize);
+        State {
+            rows,
+            size: self.size,
+        }
+    }
+
+    /// The inverse bijection: vertical and horizontal circles change places.
+    pub fn transpose(&self) -> State
+        ensures state { result ≡ transpose self.now }
+        ensures size { length result ≡ length self.now }
+    {
+        let mut columns = [0; LENGTH];
+        for c in 0..self.size {
+            columns[self.rows[c as usize] as usize] = c;
+        }
+        State {
+            rows: columns,
+            size: self.size,
+        }
+    }
+}
+
+/// The state `01`.
+impl Default for State {
+    fn default() -> State
+        ensures { result ≡ 0 ∷ 1 ∷ [] }
+    {
+        let mut rows = [0; LENGTH];
+        rows[1] = 1;
+        State { rows, size: 2 }
+    }
+}
+
+impl PartialEq for State {
+    ghost eq = { pointwise nat_eq };
+
+    ghost laws = { partial_equiv_from_equiv nat_list_eq_equiv };
+
+    fn eq(&self, other: &State) -> bool {
+        self.rows() == other.rows()
+    }
+}
+
+impl Eq for State {
+    ghost laws = { nat_list_eq_equiv };
+}
+
+// Whether the rows are those of a bijection.
+fn is_bijection(rows: &[u8]) -> bool
+    ensures { IsTrue result ↔ IsBijection (length rows.now) rows.now }
+{
+    for (c, row) in rows.iter().enumerate() {
+        if *row as usize >= rows.len() || rows[..c].contains(row) {
+            return false;
+        }
+    }
+    true
+}
+
+// Raises by one each row from column `from` up to `to` that is not below `row`.
+fn raise(rows: &mut [u8; LENGTH], from: u8, to: u8, row: u8)
+    requires ordered { from ≤ to }
+    requires to_within { to ≤ MAX_SIZE }
+    requires fit { (c : ℕ) → from ≤ c → c < to → slice_index rows.old c < MAX_SIZE }
+    ensures low { (c : ℕ) → from ≤ c → c < to → slice_index rows.old c < row
+        → slice_index rows.new c ≡ slice_index rows.old c }
+    ensures high { (c : ℕ) → from ≤ c → c < to → row ≤ slice_index rows.old c
+        → slice_index rows.new c ≡ slice_index rows.old c + 1 }
+    ensures kept_below { (c : ℕ) → c < from → slice_index rows.new c ≡ slice_index rows.old c }
+    ensures kept_above { (c : ℕ) → to ≤ c → slice_index rows.new c ≡ slice_index rows.old c }
+{
+    for c in from..to {
+        if rows[c as usize] >= row {
+            rows[c as usize] += 1;
+        }
+    }
+}
