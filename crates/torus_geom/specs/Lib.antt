@@ -1,0 +1,12 @@
+pub mod Counts
+pub mod Marks
+pub mod Kept
+pub mod Transposed
+pub mod Components
+pub mod Range
+pub mod Rectangle
+pub mod Border
+pub mod Degrees
+pub mod Front
+pub mod GridComplex
+pub mod Homology

@@ -1,0 +1,206 @@
+//! Rectangles on the torus, and when they are empty and unmarked.
+
+ghost use Rattle.std.specs.Prelude.{◌≡◌, ◌≢◌, ◌<◌, ◌==◌, ◌&&◌, ◌||◌, not, length, slice_index};
+ghost use Rattle.torus_geom.specs.Marks.{size};
+ghost use Rattle.torus_geom.specs.Range.{in_range as in_range_of, is_inside as is_inside_of};
+ghost use Rattle.torus_geom.specs.Rectangle.{IsProper, is_empty as is_empty_of, is_unmarked as is_unmarked_of};
+
+use crate::Grid;
+use state_rank::State;
+
+/// A rectangle on the torus: its columns are the range from `left` up to `right`, its rows the range
+/// from `low` up to `high`, both mod the size of the grid.
+#[derive(Clone, Copy, PartialEq, Eq, Debug)]
+pub struct Rect {
+    pub left: u8,
+    pub right: u8,
+    pub low: u8,
+    pub high: u8,
+}
+
+impl Rect {
+    /// The rectangle whose lower left corner is the point of `x` on the circle `left`, and whose upper
+    /// right corner is its point on the circle `right`.
+    pub fn leaving(x: &State, left: u8, right: u8) -> Rect
+        requires left_below { left < length x.now }
+        requires right_below { right < length x.now }
+        requires apart { left ≢ right }
+        ensures columns { (result.left ≡ left) × (result.right ≡ right) }
+        ensures low { result.low ≡ slice_index x.now left }
+        ensures high { result.high ≡ slice_index x.now right }
+        ensures proper { IsProper (length x.now) result }
+    {
+        Rect {
+            left,
+            right,
+            low: x.row(left),
+            high: x.row(right),
+        }
+    }
+}
+
+/// Whether `i` is in the range from `a` up to `b`, mod `n`: met on the way up from `a`, `a` included,
+/// before `b`.
+pub fn in_range(n: u8, a: u8, b: u8, i: u8) -> bool
+    requires a_below { a < n }
+    requires b_below { b < n }
+    requires i_below { i < n }
+    requires proper { a ≢ b }
+    ensures { result ≡ in_range_of n a b i }
+{
+    if a < b {
+        a <= i && i < b
+    } else {
+        a <= i || i < b
+    }
+}
+
+/// Whether no point of `x` is strictly inside the rectangle `r`.
+pub fn is_empty(x: &State, r: &Rect) -> bool
+    requires { IsProper (length x.now) r.now }
+    ensures { result ≡ is_empty_of x.now r.now }
+{
+    for c in 0..x.size() {
+        if is_point_inside(x, r, c) {
+            return false;
+        }
+    }
+    true
+}
+
+/// Whether no mark of `g` is in the rectangle `r`.
+pub fn is_unmarked(g: &Grid, r: &Rect) -> bool
+    requires { IsProper (size g.now) r.now }
+    ensures { result ≡ is_unmarked_of g.now r.now }
+{
+    for c in 0..g.size() {
+        if is_marked_column(g, r, c) {
+            return false;
+        }
+    }
+    true
+}
+
+// Whether `i` is in the range from `a` up to `b`, and is not `a`.
+fn is_inside(n: u8, a: u8, b: u8, i: u8) -> bool
+    requires a_below { a < n }
+    requires b_below { b < n }
+    requires i_below { i < n }
+    requires proper { a ≢ b }
+    ensures { result ≡ is_inside_of n a b i }
+{
+    in_range(n, a, b, i) && i != a
+}
+
+// Whether the point of `x` on the circle `c` is strictly inside `r`.
+fn is_point_inside(x: &State, r: &Rect, c: u8) -> bool
+    requires proper { IsProper (length x.now) r.now }
+    requires below { c < length x.now }
+    ensures { result ≡ (is_inside_of (length x.now) r.now.left r.now.right c
+        && is_inside_of (length x.now) r.now.low r.now.high (slice_index x.now c)) }
+{
+    let n = x.size();
+    is_inside(n, r.left, r.right, c) && is_inside(n, r.low, r.high, x.row(c))
+}
+
+// Whether column `c` is one of `r` and has a mark in a row of `r`.
+fn is_marked_column(g: &Grid, r: &Rect, c: u8) -> bool
+    requires proper { IsProper (size g.now) r.now }
+    requires below { c < size g.now }
+    ensures { result ≡ (in_range_of (size g.now) r.now.left r.now.right c
+        && (in_range_of (size g.now) r.now.low r.now.high (slice_index g.now.o c)
+        || in_range_of (size g.now) r.now.low r.now.high (slice_index g.now.x c))) }
+{
+    let n = g.size();
+    in_range(n, r.left, r.right, c)
+        && (in_range(n, r.low, r.high, g.o(c)) || in_range(n, r.low, r.high, g.x(c)))
+}
+
+#[cfg(test)]
+mod tests {
+    use super::*;
+
+    #[test]
+    fn ranges(rt: HostRuntime) {
+        // from, up to, and the circles of size five that are met
+        let cases: [(u8, u8, &[u8]); 4] = [
+            (0, 4, &[0, 1, 2, 3]),
+            (2, 3, &[2]),
+            (3, 1, &[0, 3, 4]),
+            (4, 0, &[4]),
+        ];
+        for (a, b, met) in cases {
+            for i in 0..5u8 {
+                if a < 5 && b < 5 && a != b {
+                    assert_eq!(rt;
+                        in_range(5, a, b, i),
+                        met.contains(&i),
+                        "{i} from {a} to {b}"
+                    );
+                }
+            }
+        }
+    }
+
+    // The two rectangles that leave the state 201 at the circles 0 and 2, of which one is empty.
+    #[test]
+    fn rectangles_of_a_state(rt: HostRuntime) {
+        let x = State::of(&[2, 0, 1]).unwrap_or_default();
+        if x.size() == 3 {
+            let plain = Rect::leaving(&x, 0, 2);
+            let across = Rect::leaving(&x, 2, 0);
+            assert_eq!(rt;
+                plain,
+                Rect {
+                    left: 0,
+                    right: 2,
+                    low: 2,
+                    high: 1
+                }
+            );
+            assert!(rt; !is_empty(&x, &plain));
+            assert!(rt; is_empty(&x, &across));
+        }
+    }
+
+    #[test]
+    fn marks_in_a_rectangle(rt: HostRuntime) {
+        if let Ok(g) = Grid::of(&[2, 1, 0], &[1, 0, 2])
+            && g.size() == 3
+        {
+            assert!(rt;
+                is_unmarked(
+                    &g,
+                    &Rect {
+                        left: 0,
+                        right: 1,
+                        low: 0,
+                        high: 1
+                    }
+                )
+            );
+            assert!(rt;
+                !is_unmarked(
+                    &g,
+                    &Rect {
+                        left: 1,
+                        right: 2,
+                        low: 0,
+                        high: 1
+                    }
+                )
+            );
+            assert!(rt;
+                !is_unmarked(
+                    &g,
+                    &Rect {
+                        left: 1,
+                        right: 2,
+                        low: 1,
+                        high: 2
+                    }
+                )
+            );
+        }
+    }
+}
