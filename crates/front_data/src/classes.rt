@@ -1,0 +1,87 @@
+//! The Legendrian grid states x+ and x-.
+ghost use Rattle.std.specs.Prelude.{◌≡◌, ◌<◌, pos, ◌+ℤ◌, ◌-ℤ◌};
+ghost use Rattle.f2_algebra.specs.Chain.{nothing};
+ghost use Rattle.torus_geom.specs.Border.{border_of_state};
+ghost use Rattle.torus_geom.specs.Degrees.{maslov_o};
+ghost use Rattle.torus_geom.specs.Front.{thurston_bennequin, rotation, one_up as one_up_of, one_down as one_down_of, plus_state as plus_state_of, minus_state as minus_state_of};
+
+use state_rank::{MAX_SIZE, State};
+use torus_geom::Grid;
+
+/// The room for the rows of a state of any size.
+const ROOM: usize = MAX_SIZE as usize;
+
+/// The state x+ of `g`: the NE corners of the squares with an X.
+///
+/// At circle c + 1 it has the row of the X of column c, plus one, both mod the size (Ozsváth, Szabó and
+/// Thurston, "Legendrian knots, transverse knots and combinatorial knot Floer homology").
+pub fn plus_state(g: &Grid) -> State
+    ensures state { result ≡ plus_state_of g.now }
+
+    // It is a cycle: each rectangle that leaves it holds an X.
+    ensures cycle { border_of_state g.now (plus_state_of g.now) ≡ nothing }
+
+    // Its Maslov degree is tb - rot + 1.
+    ensures degree { maslov_o g.now (plus_state_of g.now)
+        ≡ thurston_bennequin g.now -ℤ rotation g.now +ℤ pos 1 }
+{
+    let n = g.size();
+    let mut rows = [0; ROOM];
+    for c in 0..n {
+        rows[usize::from(c)] = one_up(n, g.x(one_down(n, c)));
+    }
+    State::of(&rows[..usize::from(n)]).unwrap()
+}
+
+/// The state x- of `g`: the SW corners of the squares with an X, so their rows.
+///
+/// The source is that of `plus_state`.
+pub fn minus_state(g: &Grid) -> State
+    ensures state { result ≡ minus_state_of g.now }
+
+    // It is a cycle: each rectangle that leaves it holds an X.
+    ensures cycle { border_of_state g.now (minus_state_of g.now) ≡ nothing }
+
+    // Its Maslov degree is tb + rot + 1.
+    ensures degree { maslov_o g.now (minus_state_of g.now)
+        ≡ thurston_bennequin g.now +ℤ rotation g.now +ℤ pos 1 }
+{
+    State::of(g.x_rows()).unwrap()
+}
+
+// The circle after `i`.
+fn one_up(n: u8, i: u8) -> u8
+    requires { i < n }
+    ensures value { result ≡ one_up_of n i }
+    ensures below { result < n }
+{
+    if i + 1 < n { i + 1 } else { 0 }
+}
+
+// The circle before `i`.
+fn one_down(n: u8, i: u8) -> u8
+    requires { i < n }
+    ensures value { result ≡ one_down_of n i }
+    ensures below { result < n }
+{
+    if i == 0 { n - 1 } else { i - 1 }
+}
+
+#[cfg(test)]
+mod tests {
+    use super::*;
+    use std::test::Fail;
+
+    // x+ of a trefoil, and x+ and x- of an unknot of size three.
+    #[test]
+    fn states_of_small_grids(rt: HostRuntime) -> Result<(), Fail> {
+        let trefoil = Grid::of(&[0, 1, 2, 3, 4], &[2, 3, 4, 0, 1])
+            .ok()
+            .ok_or("trefoil")?;
+        let small = Grid::of(&[2, 1, 0], &[1, 0, 2]).ok().ok_or("small")?;
+        assert_eq!(rt; plus_state(&trefoil).rows(), [2, 3, 4, 0, 1].as_slice());
+        assert_eq!(rt; plus_state(&small).rows(), [0, 2, 1].as_slice());
+        assert_eq!(rt; minus_state(&small).rows(), [1, 0, 2].as_slice());
+        Ok(())
+    }
+}
