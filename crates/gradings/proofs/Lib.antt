@@ -1,0 +1,4 @@
+pub mod ParityLemmas
+pub mod EvennessLemmas
+pub mod MaslovLemmas
+pub mod DegreeReads

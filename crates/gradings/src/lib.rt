@@ -1,0 +1,11 @@
+//! The degrees of states: Maslov and Alexander.
+//!
+//! Read `degree` first. Contracts say that the answers are the degrees by their definitions, which count
+//! pairs of points, and that the Alexander degree is whole, for every grid and state. A state's degree
+//! is found in one sweep of its columns. Nothing here asks for memory.
+//! Stands on `torus_geom`, where the definitions are, and `state_rank`.
+#![tactic(auto)]
+
+mod degrees;
+
+pub use degrees::{Bidegree, GREATEST_DEGREE, alexander, degree, maslov_o, maslov_x};
