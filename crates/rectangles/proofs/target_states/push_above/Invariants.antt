@@ -1,0 +1,10 @@
+use Rattle.std.proofs.Common.{◌≡◌, ◌-◌, ◌++◌, length, take, reverse}
+use Rattle.std.specs.List.{flat_map}
+use Rattle.state_rank.specs.Bijection.{ascending}
+use Rattle.rectangles.specs.Open.{exchanges_above}
+use Rattle.rectangles.proofs.target_states.push_above.Given as goal
+
+abbrev pub invariant-loop-a : goal.invariant-loop-a
+invariant-loop-a l =
+    (l.states.items ≡ l.fn.states.items ++ flat_map (exchanges_above l.x l.columns l.odds) (take (l.n - l.a) (reverse (ascending (length l.x)))))
+    × (l.states.capacity ≡ l.fn.states.capacity)

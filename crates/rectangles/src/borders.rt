@@ -1,0 +1,83 @@
+//! The border of a state, and of a chain.
+ghost use Rattle.std.specs.Prelude.{List, pos, ◌+ℤ◌, ◌≡◌, ◌<◌, ℕ, length, true, IfOk, OnOk};
+ghost use Rattle.std.specs.List.{All};
+ghost use Rattle.f2_algebra.specs.Chain.{Chain as Codes, holds, codes as codes_of, nothing, ◌⊕◌};
+ghost use Rattle.state_rank.specs.States.{IsState, rank, factorial};
+ghost use Rattle.torus_geom.specs.Marks.{size};
+ghost use Rattle.torus_geom.specs.Degrees.{maslov_o, alexander};
+ghost use Rattle.torus_geom.specs.Border.{border_of_state as border_of, border as border_of_chain};
+
+use crate::target_states::targets;
+use f2_chain::{Builder, Chain};
+use grid_ports::NoMemory;
+use state_rank::State;
+use std::alloc::Global;
+use torus_geom::Grid;
+
+/// The border of the state `x`: the states to which an odd number of empty unmarked rectangles of `g`
+/// lead from `x`, by their ranks.
+///
+/// `g` and `x` have one size.
+///
+/// # Errors
+///
+/// `NoMemory` if the allocator refuses.
+pub fn border_of_state(alloc: Global, g: &Grid, x: &State) -> Result<Chain, NoMemory>
+    requires size { length x.now ≡ size g.now }
+    ensures border { IfOk result (λ z. z ≡ border_of g.now x.now) }
+    ensures ranks { IfOk result (λ z. All (λ code. code < factorial (size g.now)) (codes_of z)) }
+
+    // Each state of the border has a Maslov degree one lower than `x`, whatever the call answers.
+    ensures lowers_maslov { (y : List ℕ) → IsState y → length y ≡ size g.now
+        → holds (border_of g.now x.now) (rank y) ≡ true
+        → maslov_o g.now x.now ≡ maslov_o g.now y +ℤ pos 1 }
+
+    // And the same Alexander degree.
+    ensures keeps_alexander { (y : List ℕ) → IsState y → length y ≡ size g.now
+        → holds (border_of g.now x.now) (rank y) ≡ true
+        → alexander g.now x.now ≡ alexander g.now y }
+{
+    let _ = g.size();
+    let _ = x.size();
+    let mut sum = Builder::new(alloc);
+    toggle_targets(alloc, g, x, &mut sum)?;
+    sum.finish()
+}
+
+/// The border of `z`: the states that an odd number of empty unmarked rectangles of `g` reach from
+/// members of `z`.
+///
+/// It is the differential of the fully blocked grid complex over F2 (Ozsváth, Stipsicz and Szabó,
+/// "Grid Homology for Knots and Links", chapter 4). `z` and the answer hold ranks of states, each
+/// from 0 to n! - 1, where n is the size of `g`.
+///
+/// # Errors
+///
+/// `NoMemory` if the allocator refuses.
+pub fn border(alloc: Global, g: &Grid, z: &Chain) -> Result<Chain, NoMemory>
+    requires ranks { All (λ code. code < factorial (size g.now)) (codes_of z.now) }
+    ensures border { IfOk result (λ y. y ≡ border_of_chain g.now z.now) }
+    ensures ranks_again { IfOk result (λ y. All (λ code. code < factorial (size g.now)) (codes_of y)) }
+
+    // The border of the border of any chain is empty, whatever the call answers.
+    ensures square { (y : Codes) → border_of_chain g.now (border_of_chain g.now y) ≡ nothing }
+{
+    let n = g.size();
+    let mut sum = Builder::new(alloc);
+    for code in z.codes() {
+        toggle_targets(alloc, g, &State::unrank(n, *code), &mut sum)?;
+    }
+    sum.finish()
+}
+
+// Toggles each state of the border of `x`.
+fn toggle_targets(alloc: Global, g: &Grid, x: &State, sum: &mut Builder) -> Result<(), NoMemory>
+    requires { length x.now ≡ size g.now }
+    ensures { OnOk result (sum.new ≡ sum.old ⊕ border_of g.now x.now) }
+{
+    let states = targets(alloc, g, x);
+    for y in states.as_slice() {
+        sum.toggle(y.rank())?;
+    }
+    Ok(())
+}
