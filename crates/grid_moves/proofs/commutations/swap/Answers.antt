@@ -1,0 +1,8 @@
+-- The transposed grid has the same size.
+use Rattle.std.proofs.Common.{ap, ◌∙◌, arith}
+use Rattle.torus_geom.specs.Marks.{size}
+use Rattle.torus_geom.proofs.TransposeLemmas.{length-transpose}
+use Rattle.grid_moves.proofs.commutations.swap.Goals as goal
+
+pub swapped_columns-requires-in-Rows : goal.swapped_columns-requires-in-Rows
+swapped_columns-requires-in-Rows c = let same = ap size c.transpose.ensures ∙ length-transpose c.args.g.now.o in let below = c.requires.below in omega (arith, same)
