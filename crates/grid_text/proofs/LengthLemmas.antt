@@ -1,0 +1,20 @@
+-- The number of bytes of the plain form.
+use Rattle.std.proofs.Common.{◌≡◌, ℕ, ◌+◌, ◌≤◌, List, ◌++◌, length, take, codes, ap, ◌∙◌, arith, length-append}
+use Rattle.std.specs.List.{flat_map}
+use Rattle.std.proofs.lemmas.List.{take_all}
+use Rattle.torus_geom.specs.Marks.{Marks}
+use Rattle.grid_text.specs.Script.{GridScript}
+use Rattle.grid_text.specs.PlainForm.{command_line, head_lines, plain_form}
+use Rattle.grid_text.specs.declared.commands.Command.{Command}
+
+-- of the head, of all commands and of the last line
+pub length-plain_form : (s : GridScript) (g : Marks) (commands : List Command) (k head count : ℕ) → g ≡ s.grid → commands ≡ s.commands → length commands ≤ k
+    → head ≡ length (head_lines g) → count ≡ head + length (flat_map command_line (take k commands)) → count + 4 ≡ length (plain_form s)
+unfolding plain_form
+length-plain_form s g commands k head count same_g same done counted_head counted =
+    let whole = length-append (head_lines s.grid ++ flat_map command_line s.commands) (codes "end\n") in
+    let first = length-append (head_lines s.grid) (flat_map command_line s.commands) in
+    let same_count : count ≡ head + length (flat_map command_line s.commands) =
+    counted ∙ ap (λ cs. head + length (flat_map command_line cs)) (take_all k commands done ∙ same) in
+    let same_head : head ≡ length (head_lines s.grid) = counted_head ∙ ap (λ h. length (head_lines h)) same_g in
+    omega (arith, whole, first, same_count, same_head)

@@ -1,0 +1,17 @@
+pub mod WordLemmas
+pub mod SeenLemmas
+pub mod KindLemmas
+pub mod StateLemmas
+pub mod ScriptLemmas
+pub mod FaultLemmas
+pub mod RepeatedLemmas
+pub mod ChainLemmas
+pub mod CommandLemmas
+pub mod RowLemmas
+pub mod ReadLemmas
+pub mod PartLemmas
+pub mod PlaceLemmas
+pub mod PrintLemmas
+pub mod LengthLemmas
+pub mod ReadBackLemmas
+pub mod JudgementLemmas

@@ -1,0 +1,14 @@
+use Rattle.grid_text.proofs.JudgementLemmas as laws
+use Rattle.grid_text.proofs.judgement.judge.Goals as goal
+
+pub returns-clause-no_document : goal.returns-clause-no_document
+returns-clause-no_document c = laws.no_document
+
+pub returns-clause-one_script : goal.returns-clause-one_script
+returns-clause-one_script c = laws.one_script
+
+pub returns-clause-allowed : goal.returns-clause-allowed
+returns-clause-allowed c = laws.allowed
+
+pub returns-clause-one_place : goal.returns-clause-one_place
+returns-clause-one_place c = laws.one_place_of_path

@@ -1,0 +1,59 @@
+-- The lines and words of a text, which is a list of bytes, and the words for numbers and states.
+--     parts is_end bytes     the bytes up to each byte that ends a part, and where bytes follow the last such
+--                            byte, these as one more part
+--     lines_of text          its lines: each is ended by a line feed, but the last may be ended by the text
+--     words_of line          the longest runs of bytes other than spaces
+--     numeral low high word  the number from low to high whose decimal form the word is, if there is one
+--     state_word x           the rows of a state as digits, with nothing between them
+--     state_of n word        the state of size n whose word it is, if there is one
+use Rattle.std.specs.Prelude.{ℕ, ◌+◌, ◌-◌, Bool, true, false, ◌&&◌, List, [], ◌∷◌, map, ◌==◌, if◌then◌else◌}
+use Rattle.std.specs.declared.option.Option.{Option}
+use Rattle.std.specs.List.{filter, find}
+use Rattle.std.specs.Fmt.{decimal}
+use Rattle.state_rank.specs.Bijection.{tabulate}
+use Rattle.state_rank.specs.States.{states}
+
+abbrev pub Word : Type 0
+Word = List ℕ
+
+abbrev pub is_line_feed : ℕ → Bool
+is_line_feed b = b == 10
+
+abbrev pub is_space : ℕ → Bool
+is_space b = b == 32
+
+abbrev pub before_parts : ℕ → List (List ℕ) → List (List ℕ)
+before_parts b [] = (b ∷ []) ∷ []
+before_parts b (part ∷ parts) = (b ∷ part) ∷ parts
+
+abbrev pub parts : (ℕ → Bool) → List ℕ → List (List ℕ)
+parts is_end [] = []
+parts is_end (b ∷ bytes) = if is_end b then [] ∷ parts is_end bytes else before_parts b (parts is_end bytes)
+
+abbrev pub is_filled : List ℕ → Bool
+is_filled [] = false
+is_filled (b ∷ bytes) = true
+
+abbrev pub lines_of : List ℕ → List (List ℕ)
+lines_of text = parts is_line_feed text
+
+abbrev pub words_of : List ℕ → List Word
+words_of line = filter is_filled (parts is_space line)
+
+abbrev pub is_word : Word → Word → Bool
+is_word [] [] = true
+is_word [] (c ∷ w) = false
+is_word (b ∷ v) [] = false
+is_word (b ∷ v) (c ∷ w) = (b == c) && is_word v w
+
+abbrev pub numbers_between : ℕ → ℕ → List ℕ
+numbers_between low high = tabulate (high + 1 - low) (λ i. low + i)
+
+unfoldable pub numeral : ℕ → ℕ → Word → Option ℕ
+numeral low high word = find (λ v. is_word (decimal v) word) (numbers_between low high)
+
+abbrev pub state_word : List ℕ → Word
+state_word x = map (λ r. 48 + r) x
+
+unfoldable pub state_of : ℕ → Word → Option (List ℕ)
+state_of n word = find (λ x. is_word (state_word x) word) (states n)

@@ -1,0 +1,121 @@
+//! Which texts are documents.
+ghost use Rattle.std.specs.Prelude.{◌≡◌, ◌↔◌, ◌≤◌, ℕ, List, None, length, map, IfOk, IfErr};
+ghost use Rattle.grid_text.specs.Words.{Word, words_of as words_of_line};
+ghost use Rattle.grid_text.specs.Script.{GridScript};
+ghost use Rattle.grid_text.specs.Document.{Place as PlaceOf, head, Leads, Path, IsDocument};
+ghost use Rattle.grid_text.specs.Faults.{fault_at, IsFirstFault};
+ghost use Rattle.grid_text.specs.Reading.{IsPlace};
+ghost use Rattle.grid_text.specs.Next.{place_of, IsNext};
+ghost use Rattle.grid_text.specs.End.{IsEnd};
+
+use crate::faults::TextFault;
+use crate::places::{Place, next_place};
+use crate::scripts::Script;
+use crate::words::{first_part, words_of};
+use grid_ports::NoMemory;
+use std::alloc::Global;
+use thiserror::Error;
+
+/// The greatest number of bytes of a text that is judged.
+pub const MAX_TEXT: usize = 65_536;
+
+/// The script of a document, and the line on which its head begins.
+#[derive(Drop)]
+pub struct Judged {
+    pub script: Script,
+    pub grid_line: u32,
+}
+
+/// Why a text has no script.
+#[derive(Clone, Copy, Debug, PartialEq, Eq, Error)]
+pub enum TextEnd {
+    /// The text is no document.
+    #[error("line {line} has a fault")]
+    Refused { fault: TextFault, line: u32 },
+    /// The allocator refused.
+    #[error("out of memory")]
+    NoMemory,
+}
+
+impl From<NoMemory> for TextEnd {
+    ghost use Rattle.grid_text.specs.declared.judgement.TextEnd.TheVariants.{NoMemory};
+
+    ghost from_gives = { λ _ e. e ≡ NoMemory };
+
+    fn from(_: NoMemory) -> Self {
+        TextEnd::NoMemory
+    }
+}
+
+/// The script whose document the text is, or the first fault of the text and the line that has it.
+///
+/// The lines are taken in order, and the fault is that of the first row of the table that holds for the
+/// first line that may not stand where it does. Lines are counted from 1.
+///
+/// # Errors
+///
+/// `Refused` exactly where the text is no document; `NoMemory` if the allocator refuses.
+pub fn judge(alloc: Global, text: &[u8]) -> Result<Judged, TextEnd>
+    requires { length text.now ≤ MAX_TEXT }
+    ensures document { IfOk result (λ j. IsDocument text.now j.script) }
+    ensures head { IfOk result (λ j. j.grid_line ≡ 1) }
+    ensures refused { IfErr result (IsEnd text.now) }
+
+    // No text with a first fault is a document, and none is that of two scripts.
+    ensures no_document { (other : List ℕ) (f : TextFault) (line : ℕ) (s : GridScript)
+        → IsFirstFault other f line → IsDocument other s → ⊥ }
+    ensures one_script { (other : List ℕ) (s t : GridScript)
+        → IsDocument other s → IsDocument other t → s ≡ t }
+
+    // At a place that lines lead to, a line is allowed exactly where no row of the table holds, and
+    // then it leads to one place.
+    ensures allowed { (lines : List (List Word)) (p : PlaceOf) (words : List Word) → Path head lines p
+        → (fault_at p words ≡ None) ↔ ((q : PlaceOf) × Leads p words q) }
+    ensures one_place { (lines : List (List Word)) (p q r : PlaceOf) (words : List Word)
+        → Path head lines p → Leads p words q → Leads p words r → q ≡ r }
+{
+    judge_lines(alloc, text)
+}
+
+// The same, without the laws.
+fn judge_lines(alloc: Global, text: &[u8]) -> Result<Judged, TextEnd>
+    requires { length text.now ≤ MAX_TEXT }
+    ensures document { IfOk result (λ j. IsDocument text.now j.script) }
+    ensures head { IfOk result (λ j. j.grid_line ≡ 1) }
+    ensures refused { IfErr result (IsEnd text.now) }
+{
+    let mut place = Place::Head;
+    let mut rest = text;
+    let mut line: u32 = 1;
+    while let Some((bytes, after)) = first_part(rest, b'\n') {
+        match next_of_line(alloc, place, bytes)? {
+            Ok(next) => place = next,
+            Err(fault) => return Err(TextEnd::Refused { fault, line }),
+        }
+        rest = after;
+        line += 1;
+    }
+    match place {
+        Place::Ended(script) => Ok(Judged {
+            script,
+            grid_line: 1,
+        }),
+        _ => Err(TextEnd::Refused {
+            fault: TextFault::NoEnd,
+            line,
+        }),
+    }
+}
+
+// The place to which a line with these bytes leads, or its fault.
+fn next_of_line(
+    alloc: Global,
+    place: Place,
+    bytes: &[u8],
+) -> Result<Result<Place, TextFault>, NoMemory>
+    requires { IsPlace (place_of place) }
+    ensures { IfOk result (IsNext (place_of place) (words_of_line bytes.now)) }
+{
+    let words = words_of(alloc, bytes)?;
+    next_place(alloc, place, &words)
+}

@@ -1,0 +1,29 @@
+//! Documents: which texts are documents, what is the first fault of any other, and the plain form.
+//!
+//! Read `judge` first: it decides of every text whether it is a document, and of which script, or which
+//! line has the first fault. `print` writes the plain form of a script, which `judge` reads back. A text is
+//! a list of bytes; its lines and words are in specs/Words.antt, documents in specs/Document.antt, faults
+//! in specs/Faults.antt.
+#![tactic(auto)]
+
+mod bodies;
+mod commands;
+mod faults;
+mod judgement;
+mod keywords;
+mod lengths;
+mod places;
+mod printing;
+mod scripts;
+mod words;
+
+pub use commands::{Command, MAX_COMMANDS, Sign, StateList};
+pub use faults::{TextFault, fault_word};
+pub use judgement::{Judged, MAX_TEXT, TextEnd, judge};
+pub use lengths::print_len;
+pub use printing::print;
+pub use scripts::Script;
+pub use words::numeral;
+
+#[cfg(test)]
+mod tests;

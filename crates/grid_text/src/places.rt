@@ -1,0 +1,180 @@
+//! Places of a text, and where a line leads.
+ghost use Rattle.std.specs.Prelude.{◌≡◌, ◌≢◌, ℕ, ◌-◌, ◌<◌, ◌≤◌, true, List, [], ◌∷◌, map, length, take, codes, Some, IfOk, IfErr, IfSome, IfNone};
+ghost use Rattle.std.specs.List.{list_any};
+ghost use Rattle.std.specs.Fmt.{decimal};
+ghost use Rattle.state_rank.specs.Bijection.{IsSize, IsBijection};
+ghost use Rattle.grid_text.specs.Words.{Word};
+ghost use Rattle.grid_text.specs.Commands.{axis_word};
+ghost use Rattle.grid_text.specs.Script.{GridScript};
+ghost use Rattle.grid_text.specs.Document.{Place as PlaceOf, head, o_line, x_line, body};
+ghost use Rattle.grid_text.specs.Faults.{fault_at, number, is_bad_number};
+ghost use Rattle.grid_text.specs.Reading.{IsPlace, IsRowPlace, AreNumerals};
+ghost use Rattle.grid_text.specs.Next.{place_of, IsNext};
+
+use crate::bodies::line_of_body;
+use crate::commands::MAX_COMMANDS;
+use crate::faults::TextFault;
+use crate::keywords::is_word;
+use crate::scripts::Script;
+use crate::words::numeral;
+use grid_ports::NoMemory;
+use state_rank::{MAX_SIZE, State};
+use std::alloc::Global;
+use torus_geom::Grid;
+
+/// Where the next line of a text stands.
+#[derive(Drop)]
+pub(crate) enum Place {
+    /// At the head.
+    Head,
+    /// At the O line of a grid of this size.
+    OLine(u8),
+    /// At the X line of a grid whose O are in these rows.
+    XLine(State),
+    /// In the body.
+    Body(Script),
+    /// After the end.
+    Ended(Script),
+}
+
+/// The room for the rows of a grid of any size.
+const ROOM: usize = MAX_SIZE as usize;
+
+/// The place to which a line with these words leads, or its fault.
+pub(crate) fn next_place(
+    alloc: Global,
+    place: Place,
+    words: &[&[u8]],
+) -> Result<Result<Place, TextFault>, NoMemory>
+    requires { IsPlace (place_of place) }
+    ensures { IfOk result (IsNext (place_of place) (map (λ w. w.now) words.now)) }
+{
+    match place {
+        Place::Head => Ok(after_head(words)),
+        Place::OLine(n) => Ok(after_o_line(n, words)),
+        Place::XLine(o) => Ok(after_x_line(alloc, &o, words)),
+        Place::Body(script) => after_body_line(alloc, script, words),
+        Place::Ended(_) => Ok(Err(TextFault::AfterEnd)),
+    }
+}
+
+// The place after the line of the head.
+fn after_head(words: &[&[u8]]) -> Result<Place, TextFault>
+    ensures { IsNext head (map (λ w. w.now) words.now) result }
+{
+    let Some(arguments) = after_word(b"grid", words) else {
+        return Err(TextFault::BadWord);
+    };
+    if arguments.len() != 1 {
+        return Err(TextFault::BadCount);
+    }
+    let Some(n) = numeral(arguments[0], 2, u32::from(MAX_SIZE)) else {
+        return Err(TextFault::BadNumber);
+    };
+    Ok(Place::OLine(n as u8))
+}
+
+// The place after an O line.
+fn after_o_line(n: u8, words: &[&[u8]]) -> Result<Place, TextFault>
+    requires { IsSize n }
+    ensures { IsNext (o_line n) (map (λ w. w.now) words.now) result }
+{
+    match rows_of_line(b"O", n, words) {
+        Ok(o) => Ok(Place::XLine(o)),
+        Err(fault) => Err(fault),
+    }
+}
+
+// The place after an X line.
+fn after_x_line(alloc: Global, o: &State, words: &[&[u8]]) -> Result<Place, TextFault>
+    ensures { IsNext (x_line (length o.now) o.now) (map (λ w. w.now) words.now) result }
+{
+    let x = match rows_of_line(b"X", o.size(), words) {
+        Ok(x) => x,
+        Err(fault) => return Err(fault),
+    };
+    match Grid::of(o.rows(), x.rows()) {
+        Ok(grid) => Ok(Place::Body(Script::new(alloc, &grid))),
+        Err(_) => Err(TextFault::SameSquare),
+    }
+}
+
+// The place after a line of the body.
+fn after_body_line(
+    alloc: Global,
+    mut script: Script,
+    words: &[&[u8]],
+) -> Result<Result<Place, TextFault>, NoMemory>
+    ensures { IfOk result (IsNext (body script) (map (λ w. w.now) words.now)) }
+{
+    let line = match line_of_body(alloc, &script, words)? {
+        Ok(line) => line,
+        Err(fault) => return Ok(Err(fault)),
+    };
+    let Some(command) = line else {
+        return Ok(Ok(Place::Ended(script)));
+    };
+    if script.commands().len() >= MAX_COMMANDS {
+        return Ok(Err(TextFault::TooMany));
+    }
+    script.push(command)?;
+    Ok(Ok(Place::Body(script)))
+}
+
+// The rows in an O or X line of a grid of this size.
+fn rows_of_line(letter: &[u8], n: u8, words: &[&[u8]]) -> Result<State, TextFault>
+    requires { IsSize n }
+    ensures ok { IfOk result (λ x. IsBijection n x
+        × (map (λ w. w.now) words.now ≡ letter.now ∷ map decimal x)) }
+    ensures err { IfErr result (λ f. (p : PlaceOf) → IsRowPlace letter.now n p
+        → fault_at p (map (λ w. w.now) words.now) ≡ Some f) }
+{
+    let Some(arguments) = after_word(letter, words) else {
+        return Err(TextFault::BadWord);
+    };
+    if arguments.len() != usize::from(n) {
+        return Err(TextFault::BadCount);
+    }
+    let Some(rows) = numbers_of(arguments, n) else {
+        return Err(TextFault::BadNumber);
+    };
+    match State::of(&rows[..arguments.len()]) {
+        Some(state) => Ok(state),
+        None => Err(TextFault::NotPermutation),
+    }
+}
+
+// The numbers below n whose words these are, in front of an array.
+fn numbers_of(words: &[&[u8]], n: u8) -> Option<[u8; ROOM]>
+    requires size { IsSize n }
+    requires fits { length words.now ≤ ROOM }
+    ensures some { IfSome result
+        (λ rows. AreNumerals n (take (length words.now) rows) (map (λ w. w.now) words.now)) }
+    ensures none { IfNone result
+        (list_any (is_bad_number (number 0 (n - 1))) (map (λ w. w.now) words.now) ≡ true) }
+{
+    let mut rows = [0; ROOM];
+    for (c, word) in words.iter().enumerate() {
+        let Some(row) = numeral(word, 0, u32::from(n) - 1) else {
+            return None;
+        };
+        rows[c] = row as u8;
+    }
+    Some(rows)
+}
+
+// The words after the first, where that is the one expected.
+fn after_word<'a>(expected: &[u8], words: &'a [&'a [u8]]) -> Option<&'a [&'a [u8]]>
+    ensures some { IfSome result (λ rest.
+        map (λ w. w.now) words.now ≡ expected.now ∷ map (λ w. w.now) rest.now) }
+    ensures none { IfNone result ((rest : List Word)
+        → map (λ w. w.now) words.now ≢ expected.now ∷ rest) }
+{
+    let [word, rest @ ..] = words else {
+        return None;
+    };
+    if !is_word(expected, word) {
+        return None;
+    }
+    Some(rest)
+}

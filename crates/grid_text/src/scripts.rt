@@ -1,0 +1,100 @@
+//! Scripts: a grid and the commands that are carried out on it.
+ghost use Rattle.std.specs.Prelude.{◌≡◌, ◌<◌, [], length, OnOk, OnErr};
+ghost use Rattle.torus_geom.specs.Marks.{IsGrid};
+ghost use Rattle.grid_text.specs.Commands.{IsAllowed, grid_after as grid_after_command};
+ghost use Rattle.grid_text.specs.Script.{GridScript, IsScript, grid_in_force, with_command};
+
+use crate::commands::{Command, MAX_COMMANDS};
+use grid_moves::{swap, turn};
+use grid_ports::NoMemory;
+use std::alloc::Global;
+use std::marker::Model;
+use torus_geom::Grid;
+
+/// A grid and at most `MAX_COMMANDS` commands, each of which may stand where it does.
+///
+/// A command may stand where its states have the grid's size, and where its columns or rows commute in the
+/// grid in force there, which is the grid after the turns and commutations before it.
+#[derive(Drop)]
+pub struct Script {
+    grid: Grid,
+    commands: Vec<Command>,
+    in_force: Grid,
+}
+
+impl Model for Script {
+    ghost use Rattle.std.specs.Prelude.{◌≡◌};
+    ghost use Rattle.grid_text.specs.Script.{GridScript};
+
+    ghost Value = { GridScript };
+
+    ghost use Rattle.grid_text.specs.Kept.{script, IsKept};
+
+    ghost view = { script };
+
+    ghost invariant = { IsKept };
+}
+
+impl Script {
+    /// The script of this grid with no command. It asks for no memory.
+    pub fn new(alloc: Global, g: &Grid) -> Script
+        ensures script { result ≡ record { grid = g.now; commands = [] } }
+        ensures kept { IsScript result }
+    {
+        let _size = g.size();
+        Script {
+            grid: *g,
+            commands: Vec::new(alloc),
+            in_force: *g,
+        }
+    }
+
+    /// Appends a command.
+    pub fn push(&mut self, c: Command) -> Result<(), NoMemory>
+        requires few { length self.old.commands < MAX_COMMANDS }
+        requires allowed { IsAllowed (grid_in_force self.old) c }
+        ensures ok { OnOk result (self.new ≡ with_command self.old c) }
+        ensures err { OnErr result (self.new ≡ self.old) }
+    {
+        let in_force = grid_after(&self.in_force, &c);
+        self.commands.push(c)?;
+        self.in_force = in_force;
+        Ok(())
+    }
+
+    /// The grid before the first command.
+    pub fn grid(&self) -> &Grid
+        ensures grid { result.now ≡ self.now.grid }
+        ensures script { IsScript self.now }
+    {
+        &self.grid
+    }
+
+    /// The commands, in order.
+    pub fn commands(&self) -> &[Command]
+        ensures commands { result.now ≡ self.now.commands }
+        ensures script { IsScript self.now }
+    {
+        &self.commands
+    }
+
+    // The grid in force after the commands.
+    pub(crate) fn in_force(&self) -> &Grid
+        ensures grid { result.now ≡ grid_in_force self.now }
+        ensures script { IsScript self.now }
+    {
+        &self.in_force
+    }
+}
+
+// The grid in force after a command.
+fn grid_after(g: &Grid, command: &Command) -> Grid
+    requires { IsAllowed g.now command.now }
+    ensures { result ≡ grid_after_command g.now command.now }
+{
+    match command {
+        Command::Turn(side) => turn(g, *side),
+        Command::Commute(axis, c, _) => swap(g, *axis, *c),
+        _ => *g,
+    }
+}
