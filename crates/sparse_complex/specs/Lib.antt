@@ -1,0 +1,4 @@
+pub mod Slices
+pub mod Kept
+pub mod Toggled
+pub mod Built
