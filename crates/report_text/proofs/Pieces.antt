@@ -1,0 +1,15 @@
+-- Lines that are appended piece by piece.
+use Rattle.std.proofs.Common.{◌≡◌, List, ℕ, ℤ, [], ◌∷◌, ◌++◌, codes, ap, ◌∙◌, append_assoc}
+use Rattle.std.proofs.lemmas.Int.{to_z-of_z}
+use Rattle.std.specs.Fmt.{signed_decimal}
+use mir.Syntax.{w32}
+use mir.Val.{SFits, to_z, of_z}
+use Rattle.report_text.specs.Lines.{line}
+
+-- what is printed of a signed number of 32 bits is the number
+pub printed : (old new : List ℕ) (z : ℤ) → SFits w32 z → new ≡ old ++ signed_decimal (to_z w32 (of_z w32 z)) → new ≡ old ++ signed_decimal z
+printed old new z fits e = e ∙ ap (λ y. old ++ signed_decimal y) (to_z-of_z w32 z fits)
+
+-- the pieces of a row make one line
+pub row_line-pieces : (l m a d : List ℕ) → ((((((l ++ codes "rank ") ++ m) ++ 32 ∷ []) ++ a) ++ 32 ∷ []) ++ d) ++ 10 ∷ [] ≡ l ++ line (codes "rank " ++ m ++ 32 ∷ a ++ 32 ∷ d)
+row_line-pieces l m a d = simp append_assoc

@@ -1,0 +1,8 @@
+use Rattle.std.proofs.Common.{◌≡◌, ◌++◌, ◌∷◌, take}
+use Rattle.report_text.specs.Lines.{state_word}
+use Rattle.report_text.proofs.lines.push_word.Given as goal
+
+-- the digits so far are appended
+abbrev pub invariant-loop-row : goal.invariant-loop-row
+invariant-loop-row l =
+    l.line.items ≡ l.fn.line.items ++ 32 ∷ state_word (take l.row-index l.row-items)

@@ -1,0 +1,121 @@
+//! Lines of values.
+ghost use Rattle.std.specs.Prelude.{◌≡◌, ◌+◌, ◌<◌, ◌∷◌, ◌++◌, length, All, IfOk, OnOk};
+ghost use Rattle.f2_algebra.specs.Chain.{codes as codes_of};
+ghost use Rattle.state_rank.specs.Bijection.{IsSize};
+ghost use Rattle.state_rank.specs.States.{factorial};
+ghost use Rattle.report_text.specs.Lines.{front_line as front_line_of, row_line, table_lines as table_lines_of, state_word, set_line as set_line_of, refused_line as refused_line_of};
+
+use f2_chain::Chain;
+use front_data::FrontNumbers;
+use grid_ports::NoMemory;
+use hat_division::{Table, TableRow};
+use itoa::{Buffer, Integer};
+use state_rank::State;
+use std::alloc::Global;
+
+/// The line of the classical invariants of a front: `front tb T rot R components L`.
+///
+/// # Errors
+///
+/// `NoMemory` if the allocator refuses.
+pub fn front_line(alloc: Global, f: &FrontNumbers) -> Result<Vec<u8>, NoMemory>
+    ensures { IfOk result (λ line.
+        line.items ≡ front_line_of f.now.tb f.now.rot f.now.components) }
+{
+    let mut line = Vec::from_slice(alloc, b"front tb ")?;
+    push_number(&mut line, f.tb)?;
+    line.extend_from_slice(b" rot ")?;
+    push_number(&mut line, f.rot)?;
+    line.extend_from_slice(b" components ")?;
+    push_number(&mut line, f.components)?;
+    line.push(b'\n')?;
+    Ok(line)
+}
+
+/// The lines of a table of ranks: `ranks K` with the number of rows, then a line `rank M A D` for each
+/// row, in the order of the table, with the Maslov degree M, the Alexander degree A and the rank D.
+///
+/// # Errors
+///
+/// `NoMemory` if the allocator refuses.
+pub fn table_lines(alloc: Global, t: &Table) -> Result<Vec<u8>, NoMemory>
+    ensures { IfOk result (λ lines. lines.items ≡ table_lines_of t.now) }
+{
+    let rows = t.rows();
+    let mut lines = Vec::from_slice(alloc, b"ranks ")?;
+    push_number(&mut lines, rows.len())?;
+    lines.push(b'\n')?;
+    for row in rows {
+        push_row(&mut lines, row)?;
+    }
+    Ok(lines)
+}
+
+/// The line of a set of states: `word`, then the states of size `n` whose ranks are in `z`, in ascending
+/// order. An empty set adds nothing to the word.
+///
+/// # Errors
+///
+/// `NoMemory` if the allocator refuses.
+pub fn set_line(alloc: Global, word: &str, n: u8, z: &Chain) -> Result<Vec<u8>, NoMemory>
+    requires size { IsSize n }
+    requires ranks { All (λ code. code < factorial n) (codes_of z.now) }
+    ensures { IfOk result (λ line. line.items ≡ set_line_of word.now n z.now) }
+{
+    let mut line = Vec::from_slice(alloc, word.as_bytes())?;
+    for code in z.codes() {
+        push_word(&mut line, &State::unrank(n, *code))?;
+    }
+    line.push(b'\n')?;
+    Ok(line)
+}
+
+/// The line of a refusal: `refused WORD line L` with the word of the fault and the number of its line.
+///
+/// # Errors
+///
+/// `NoMemory` if the allocator refuses.
+pub fn refused_line(alloc: Global, word: &str, line: u32) -> Result<Vec<u8>, NoMemory>
+    ensures { IfOk result (λ text. text.items ≡ refused_line_of word.now line) }
+{
+    let mut text = Vec::from_slice(alloc, b"refused ")?;
+    text.extend_from_slice(word.as_bytes())?;
+    text.extend_from_slice(b" line ")?;
+    push_number(&mut text, line)?;
+    text.push(b'\n')?;
+    Ok(text)
+}
+
+// Appends the decimal digits of a number.
+fn push_number<I: Integer>(line: &mut Vec<u8>, number: I) -> Result<(), NoMemory>
+    ensures { OnOk result (line.new.items ≡ line.old.items ++ I.text number) }
+{
+    let mut buffer = Buffer::new();
+    line.extend_from_slice(buffer.format(number).as_bytes())?;
+    Ok(())
+}
+
+// Appends the line of a row.
+fn push_row(lines: &mut Vec<u8>, row: &TableRow) -> Result<(), NoMemory>
+    ensures { OnOk result (lines.new.items ≡ lines.old.items ++ row_line row.now) }
+{
+    lines.extend_from_slice(b"rank ")?;
+    push_number(lines, row.m)?;
+    lines.push(b' ')?;
+    push_number(lines, row.a)?;
+    lines.push(b' ')?;
+    push_number(lines, row.rank)?;
+    lines.push(b'\n')?;
+    Ok(())
+}
+
+// Appends a space and the word of a state.
+fn push_word(line: &mut Vec<u8>, state: &State) -> Result<(), NoMemory>
+    ensures { OnOk result (line.new.items ≡ line.old.items ++ 32 ∷ state_word state.now) }
+{
+    line.push(b' ')?;
+    for row in state.rows() {
+        line.push(b'0' + row)?;
+    }
+    Ok(())
+}
