@@ -1,0 +1,5 @@
+pub mod CellCounts
+pub mod RowsBefore
+pub mod SliceRanks
+pub mod TableLemmas
+pub mod LoopLemmas
