@@ -1,0 +1,3 @@
+pub mod Report
+pub mod Headline
+pub mod Status

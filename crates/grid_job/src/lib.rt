@@ -1,0 +1,18 @@
+//! The top call: from the bytes that come in to the bytes that go out.
+//!
+//! Read `gridhom` first. Its contract says that a run that is done has read a document to its end and
+//! written a report of it, and when each other answer comes, with what was written until then. What a
+//! document and a report are is said in specs/, with no trace of how they are read and written.
+//! Stands on `grid_ports`, on `grid_text`, which judges texts, on `front_data`, `rectangles` and
+//! `homology_cert`, which answer the commands, and on `report_text`, which prints their answers.
+#![tactic(auto)]
+
+mod jobs;
+mod reports;
+mod statuses;
+
+pub use jobs::gridhom;
+pub use statuses::Status;
+
+#[cfg(test)]
+mod tests;

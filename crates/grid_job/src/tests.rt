@@ -1,0 +1,230 @@
+//! Documents, what the source and the sink do, and what the program answers and writes.
+use crate::*;
+use grid_ports::{MemSink, MemSource};
+use std::alloc::Global;
+use std::test::Fail;
+
+const UNKNOT: &str = "grid 2\nO 1 0\nX 0 1\nfront\nend\n";
+
+/// Calls: the words, what the source has, the read and the write that fail (counted from 1, each moves
+/// one byte), the exit status, and what is written.
+const ROWS: [(&str, &str, (u64, u64), u8, &str); 21] = [
+    ("run", UNKNOT, (0, 0), 0, "front tb -1 rot 0 components 1\n"),
+    (
+        "run",
+        "grid 3\nO 2 1 0\nX 1 0 2\nfront\nend\n",
+        (0, 0),
+        0,
+        "front tb -2 rot -1 components 1\n",
+    ),
+    (
+        "run",
+        "grid 4\nO 0 1 2 3\nX 2 3 0 1\nfront\nfront\nend\n",
+        (0, 0),
+        0,
+        "front tb 0 rot 0 components 2\nfront tb 0 rot 0 components 2\n",
+    ),
+    (
+        "run",
+        "grid 9\nO 0 1 2 3 4 5 6 7 8\nX 4 5 6 7 8 0 1 2 3\nfront\nend\n",
+        (0, 0),
+        0,
+        "front tb 11 rot 0 components 1\n",
+    ),
+    ("run", "grid 2\nO 1 0\nX 0 1\nend\n", (0, 0), 0, ""),
+    (
+        "run",
+        "grid 3\nO 2 1 0\nX 1 0 2\nborder 012\nborder 021\nend\n",
+        (0, 0),
+        0,
+        "border 102\nborder\n",
+    ),
+    (
+        "run",
+        "grid 5\nO 0 1 2 3 4\nX 2 3 4 0 1\nborder 23401\nend\n",
+        (0, 0),
+        0,
+        "border\n",
+    ),
+    (
+        "run",
+        "grid 2\nO 1 0\nX 0 1\nranks\nend\n",
+        (0, 0),
+        0,
+        "ranks 2\nrank 0 0 1\nrank -1 -1 1\n",
+    ),
+    (
+        "run",
+        "grid 5\nO 0 1 2 3 4\nX 2 3 4 0 1\nranks\nend\n",
+        (0, 0),
+        0,
+        "ranks 7\nrank 2 1 1\nrank 1 0 5\nrank 0 -1 11\nrank -1 -2 14\nrank -2 -3 11\nrank -3 -4 5\nrank -4 -5 1\n",
+    ),
+    (
+        "run",
+        "grid 3\nO 2 1 0\nX 1 0 2\nranks\nend\n",
+        (0, 0),
+        0,
+        "ranks 3\nrank 0 0 1\nrank -1 -1 2\nrank -2 -2 1\n",
+    ),
+    (
+        "run",
+        "grid 2\nO 1 0\nX 0 1\nfront\nranks\nend\n",
+        (0, 40),
+        4,
+        "front tb -1 rot 0 components 1\nranks 2\n",
+    ),
+    (
+        "run",
+        "grid 2\nO 1 0\nX 0 1\nborder 011\nend\n",
+        (0, 0),
+        2,
+        "refused BadState line 4\n",
+    ),
+    (
+        "run",
+        "grid 2\nO 1 0\nX 0 1\nhat\nend\n",
+        (0, 0),
+        2,
+        "refused NotBuilt line 0\n",
+    ),
+    (
+        "run",
+        "grid 2\nO 1 0\nX 1 0\nend\n",
+        (0, 0),
+        2,
+        "refused SameSquare line 3\n",
+    ),
+    (
+        "run",
+        "grid 2\nO 1 0\nX 0 1\nend\nfront\n",
+        (0, 0),
+        2,
+        "refused AfterEnd line 5\n",
+    ),
+    ("run", "", (0, 0), 2, "refused NoEnd line 1\n"),
+    ("run", UNKNOT, (0, 2), 4, "f"),
+    ("run", UNKNOT, (3, 0), 3, ""),
+    ("run now", UNKNOT, (0, 0), 1, ""),
+    ("", UNKNOT, (0, 0), 1, ""),
+    ("cert", UNKNOT, (0, 0), 1, ""),
+];
+
+/// The lines of a grid of two columns, and of one of five.
+const SMALL: &str = "grid 2\nO 1 0\nX 0 1\n";
+
+const LARGE: &str = "grid 5\nO 0 1 2 3 4\nX 2 3 4 0 1\n";
+
+/// Texts that are refused, each in two parts, and the line that says so.
+const FAULTS: [(&str, &str, &str); 21] = [
+    (LARGE, "cols 1 over\nend\n", "refused NotCommuting line 4\n"),
+    (SMALL, "", "refused NoEnd line 4\n"),
+    (SMALL, "end\nfront\n", "refused AfterEnd line 5\n"),
+    (
+        "grid 2\nO 0 1\nX 0 1\n",
+        "hats\nend\n",
+        "refused SameSquare line 3\n",
+    ),
+    ("grid 10\n", "", "refused BadNumber line 1\n"),
+    (
+        "grid 2\nO 1 1\n",
+        "X 0 1\nend\n",
+        "refused NotPermutation line 2\n",
+    ),
+    ("", "", "refused NoEnd line 1\n"),
+    (SMALL, "hats\nend\n", "refused BadWord line 4\n"),
+    (SMALL, "class\nend\n", "refused BadCount line 4\n"),
+    (SMALL, "class *\nend\n", "refused BadChoice line 4\n"),
+    (SMALL, "cols 2 over\nend\n", "refused BadNumber line 4\n"),
+    (SMALL, "border 011\nend\n", "refused BadState line 4\n"),
+    (
+        SMALL,
+        "chain 01 01\nend\n",
+        "refused RepeatedState line 4\n",
+    ),
+    (SMALL, "cols 1 over\nend\n", "refused NotCommuting line 4\n"),
+    (SMALL, "show\nend\n", "refused NotBuilt line 0\n"),
+    (SMALL, "front\nhat\nend\n", "refused NotBuilt line 0\n"),
+    (SMALL, "class +\nend\n", "refused NotBuilt line 0\n"),
+    (SMALL, "chain 01\nend\n", "refused NotBuilt line 0\n"),
+    (SMALL, "bounds\nend\n", "refused NotBuilt line 0\n"),
+    (SMALL, "turn left\nend\n", "refused NotBuilt line 0\n"),
+    (SMALL, "show\nfronts\n", "refused BadWord line 5\n"),
+];
+
+/// The exit status of a call, and what it wrote.
+fn answer(
+    alloc: Global,
+    words: &str,
+    text: Vec<u8>,
+    fails: (u64, u64),
+) -> Result<(u8, Vec<u8>), Fail> {
+    let mut list = Vec::new(alloc);
+    for word in words.split_whitespace() {
+        list.push(String::from_str(alloc, word)?)?;
+    }
+    let (read, write) = fails;
+    let mut source = MemSource::new(text, 1, vec![in alloc; read]?);
+    let mut sink = MemSink::new(alloc, 4096, 1, vec![in alloc; write]?)?;
+    let status = gridhom(alloc, &list, &mut source, &mut sink);
+    Ok((status.code(), Vec::from_slice(alloc, sink.written())?))
+}
+
+#[test]
+fn documents_ends_and_words(rt: HostRuntime) -> Result<(), Fail> {
+    let alloc = rt.alloc();
+    for (words, text, fails, status, written) in ROWS {
+        let bytes = Vec::from_slice(alloc, text.as_bytes())?;
+        let (code, bytes) = answer(alloc, words, bytes, fails)?;
+        assert_eq!(rt; code, status, "the status of {words:?} on {text:?}");
+        assert_eq!(rt;
+            bytes.as_slice(),
+            written.as_bytes(),
+            "what {words:?} writes on {text:?}"
+        );
+    }
+    Ok(())
+}
+
+#[test]
+fn a_long_text_is_refused(rt: HostRuntime) -> Result<(), Fail> {
+    let alloc = rt.alloc();
+    let text = vec![in alloc; b'\n'; 65_537]?;
+    let (status, written) = answer(alloc, "run", text, (0, 0))?;
+    assert_eq!(rt; status, 2);
+    assert_eq!(rt; written.as_slice(), b"refused TooLong line 0\n".as_slice());
+    Ok(())
+}
+
+#[test]
+fn faults_and_their_lines(rt: HostRuntime) -> Result<(), Fail> {
+    let alloc = rt.alloc();
+    for (first, later, line) in FAULTS {
+        let mut text = Vec::from_slice(alloc, first.as_bytes())?;
+        text.extend_from_slice(later.as_bytes())?;
+        let (status, written) = answer(alloc, "run", text, (0, 0))?;
+        assert_eq!(rt; status, 2, "the status on {first:?} {later:?}");
+        assert_eq!(rt;
+            written.as_slice(),
+            line.as_bytes(),
+            "what is written on {first:?} {later:?}"
+        );
+    }
+    Ok(())
+}
+
+#[test]
+fn a_command_too_many_is_refused(rt: HostRuntime) -> Result<(), Fail> {
+    let alloc = rt.alloc();
+    let mut text = Vec::from_slice(alloc, SMALL.as_bytes())?;
+    for _ in 0..257 {
+        text.extend_from_slice(b"show\n")?;
+    }
+    let (status, written) = answer(alloc, "run", text, (0, 0))?;
+    assert_eq!(rt; status, 2);
+    assert_eq!(rt;
+        written.as_slice(),
+        b"refused TooMany line 260\n".as_slice()
+    );
+    Ok(())
+}
