@@ -1,4 +1,4 @@
 pub mod Bijection
 pub mod Counted
+pub mod Inner
 pub mod States
-pub mod Stored

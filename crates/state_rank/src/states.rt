@@ -1,11 +1,12 @@
 //! Grid states.
 
-ghost use Rattle.std.specs.Prelude.{◌≡◌, ◌≢◌, ◌↔◌, ℕ, ◌+◌, ◌<◌, ◌≤◌, List, [], ◌∷◌, length, slice_index, swap, take, IsTrue, IsNone, IfSome, OnSome, nat_eq};
+ghost use Rattle.std.specs.Prelude.{◌≡◌, ◌≢◌, ◌↔◌, ℕ, ◌+◌, ◌<◌, ◌≤◌, List, [], ◌∷◌, length, slice_index, swap, take, IsTrue, IsNone, IfSome, OnSome, nat_eq, not};
 ghost use Rattle.std.specs.Cmp.{partial_equiv_from_equiv};
 ghost use Rattle.std.specs.Cmp.Lexicographic.{pointwise, nat_list_eq_equiv};
 ghost use Rattle.state_rank.specs.Bijection.{IsSize, IsBijection};
 ghost use Rattle.state_rank.specs.Counted.{HasExactly};
 ghost use Rattle.state_rank.specs.States.{IsState, is_before, rank, unrank, factorial, transpose};
+ghost use Rattle.state_rank.specs.Inner.Steps.{FallsFrom};
 
 use crate::MAX_SIZE;
 use std::marker::Model;
@@ -25,7 +26,7 @@ pub struct State {
 
 impl Model for State {
     ghost use Rattle.std.specs.Prelude.{ℕ, List, length, take};
-    ghost use Rattle.state_rank.specs.Stored.{IsStored, length-kept, padded, padded-kept};
+    ghost use Rattle.state_rank.specs.Inner.Stored.{IsStored, length-kept, padded, padded-kept};
 
     ghost Value = { List ℕ };
 
@@ -144,6 +145,26 @@ impl State {
         State { rows, size: n }
     }
 
+    /// Goes to the next state in lexicographic order, in place, and says whether there was one. The last
+    /// state stays.
+    ///
+    /// Over all states of a size, a step takes constant time on average.
+    pub fn advance(&mut self) -> bool
+        ensures state { IsTrue result → self.new ≡ unrank (length self.old) (rank self.old + 1) }
+        ensures rank { IsTrue result → rank self.new ≡ rank self.old + 1 }
+        ensures size { length self.new ≡ length self.old }
+        ensures kept { IsTrue (not result) → self.new ≡ self.old }
+        ensures last { IsTrue (not result) ↔ (rank self.old + 1 ≡ factorial (length self.old)) }
+    {
+        let Some(place) = last_ascent(self.rows()) else {
+            return false;
+        };
+        let other = last_above(self.rows(), place);
+        self.rows.swap(place, other);
+        self.rows[place + 1..self.size as usize].reverse();
+        true
+    }
+
     /// This state with its points on the vertical circles `a` and `b` moved to each other's horizontal
     /// circles.
     #[inline]
@@ -202,6 +223,18 @@ impl Eq for State {
     ghost laws = { nat_list_eq_equiv };
 }
 
+/// The number of states of size `n`.
+pub fn state_count(n: u8) -> u32
+    requires { IsSize n }
+    ensures { result ≡ factorial n }
+{
+    let mut count = 1;
+    for k in 0..n {
+        count *= u32::from(k) + 1;
+    }
+    count
+}
+
 // Whether the rows are those of a bijection.
 fn is_bijection(rows: &[u8]) -> bool
     ensures { IsTrue result ↔ IsBijection (length rows.now) rows.now }
@@ -212,6 +245,39 @@ fn is_bijection(rows: &[u8]) -> bool
         }
     }
     true
+}
+
+// The last place whose row is below the next one.
+fn last_ascent(rows: &[u8]) -> Option<usize>
+    ensures within { IfSome result (λ p. p + 1 < length rows.now) }
+    ensures ascent { IfSome result (λ p. slice_index rows.now p < slice_index rows.now (p + 1)) }
+    ensures falls { IfSome result (λ p. FallsFrom (p + 1) rows.now) }
+    ensures none { IsNone result → FallsFrom 0 rows.now }
+{
+    for next in (1..rows.len()).rev() {
+        if rows[next - 1] < rows[next] {
+            return Some(next - 1);
+        }
+    }
+    None
+}
+
+// The last place whose row is above that at `place`, which is lower than the next one.
+fn last_above(rows: &[u8], place: usize) -> usize
+    requires within { place + 1 < length rows.now }
+    requires ascent { slice_index rows.now place < slice_index rows.now (place + 1) }
+    ensures behind { place < result }
+    ensures within { result < length rows.now }
+    ensures above { slice_index rows.now place < slice_index rows.now result }
+    ensures last { (i : ℕ) → result < i → i < length rows.now → slice_index rows.now i ≤ slice_index rows.now place }
+{
+    let row = rows[place];
+    for other in (place + 2..rows.len()).rev() {
+        if row < rows[other] {
+            return other;
+        }
+    }
+    place + 1
 }
 
 // Raises by one each row from column `from` up to `to` that is not below `row`.

@@ -1,4 +1,4 @@
-use crate::State;
+use crate::{State, state_count};
 
 #[test]
 fn ranks(rt: HostRuntime) {
@@ -42,4 +42,20 @@ fn circles_change_places(rt: HostRuntime) {
         assert_eq!(rt; state.exchange(1, 3), exchanged);
         assert_eq!(rt; state.row(1), 2);
     }
+}
+
+#[test]
+fn all_states_in_order(rt: HostRuntime) {
+    // 120 states that rise, so each state of size 5 once
+    let mut state = State::of(&[0, 1, 2, 3, 4]).unwrap_or_default();
+    let count = state_count(5);
+    assert_eq!(rt; count, 120);
+    for rank in 0..119 {
+        assert_eq!(rt; state.rank(), rank);
+        let earlier = state;
+        assert!(rt; state.advance());
+        assert!(rt; earlier.rows() < state.rows(), "after {rank}");
+    }
+    assert!(rt; !state.advance());
+    assert_eq!(rt; state.rows(), [4, 3, 2, 1, 0].as_slice());
 }
