@@ -80,7 +80,7 @@ pub fn degree(g: &Grid, x: &State) -> Bidegree
 }
 
 // Half of an even number.
-fn half(doubled: i32) -> i32
+pub(crate) fn half(doubled: i32) -> i32
     ensures { (a : ℤ) → doubled ≡ a +ℤ a → result ≡ a }
 {
     doubled / 2
@@ -118,7 +118,8 @@ fn gain(marks: &[u8], mark: u8, points: &[u8], point: u8) -> i32
 }
 
 // How many of the rows are below `row`.
-fn below(rows: &[u8], row: u8) -> i32
+#[inline]
+pub(crate) fn below(rows: &[u8], row: u8) -> i32
     requires { length rows.now ≤ MAX_SIZE }
     ensures value { result ≡ count_below (length rows.now) (λ c. nat_lt (slice_index rows.now c) row) }
     ensures low { pos 0 ≤ℤ result }
@@ -136,6 +137,7 @@ fn below(rows: &[u8], row: u8) -> i32
 #[cfg(test)]
 mod tests {
     use super::*;
+    use crate::DegreeTables;
     use std::test::Fail;
 
     // All states of an unknot of size three, with their Maslov and Alexander degrees.
@@ -154,6 +156,8 @@ mod tests {
             let x = State::of(&rows).ok_or("state")?;
             assert_eq!(rt; g.size(), x.size());
             assert_eq!(rt; degree(&g, &x), Bidegree { m, a }, "{x:?}");
+            let tables = DegreeTables::of(&g);
+            assert_eq!(rt; tables.degree(&x), Bidegree { m, a }, "by tables at {x:?}");
         }
         Ok(())
     }
@@ -167,6 +171,7 @@ mod tests {
         assert_eq!(rt; maslov_o(&g, &x), 1);
         assert_eq!(rt; maslov_x(&g, &x), -3);
         assert_eq!(rt; alexander(&g, &x), 1);
+        assert_eq!(rt; DegreeTables::of(&g).alexander(&x), 1);
         Ok(())
     }
 }

@@ -2,10 +2,13 @@
 //!
 //! Read `degree` first. Contracts say that the answers are the degrees by their definitions, which count
 //! pairs of points, and that the Alexander degree is whole, for every grid and state. A state's degree
-//! is found in one sweep of its columns. Nothing here asks for memory.
+//! is found in one sweep of its columns. For many states of one grid make its `DegreeTables` once: they
+//! give the same degrees faster. Nothing here asks for memory.
 //! Stands on `torus_geom`, where the definitions are, and `state_rank`.
 #![tactic(auto)]
 
 mod degrees;
+mod tables;
 
 pub use degrees::{Bidegree, GREATEST_DEGREE, alexander, degree, maslov_o, maslov_x};
+pub use tables::DegreeTables;

@@ -81,6 +81,7 @@ impl State {
     }
 
     /// The horizontal circles of the points, from vertical circle 0 on.
+    #[inline]
     pub fn rows(&self) -> &[u8]
         ensures rows { result.now ≡ self.now }
         ensures state { IsState self.now }
