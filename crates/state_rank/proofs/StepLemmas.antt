@@ -8,10 +8,10 @@ use Rattle.std.specs.List.{swap}
 use Rattle.state_rank.specs.Bijection.{IsSize, IsBijection}
 use Rattle.state_rank.specs.States.{is_before, rank, unrank, factorial}
 use Rattle.state_rank.specs.Inner.Steps.{FallsFrom}
-use Rattle.state_rank.specs.Inner.Stored.{IsStored, length-kept}
 use Rattle.state_rank.proofs.Pigeonhole.{onto}
 use Rattle.state_rank.proofs.OrderLemmas.{is_before-lower, is_before-higher, is_before-equal}
 use Rattle.state_rank.proofs.SwapLemmas.{slice_index-swap_first, slice_index-swap_second, slice_index-swap_other, IsBijection-swap, take-swap}
+use Rattle.state_rank.proofs.StoredLemmas.{IsStoredByPlace, length-stored}
 use Rattle.state_rank.proofs.RankLemmas.{IsBijection-unrank, rank-unrank, rank-below, unrank-rank, rank_order}
 
 -- ---- the two loops
@@ -363,10 +363,10 @@ turned_rows n rows w ys p m b l fits is turned =
     }
 
 -- the array of a state, after an exchange and a reversal behind p
-module _ (size : ℕ) (rows : List ℕ) (s : IsStored size rows) (p m : ℕ) (k : IsChosen (take size rows) (take size rows) p m)
+module _ (size : ℕ) (rows : List ℕ) (s : IsStoredByPlace size rows) (p m : ℕ) (k : IsChosen (take size rows) (take size rows) p m)
     (w ys : List ℕ) (is : w ≡ swap rows p m) (turned : ys ≡ reverse (take (size - (p + 1)) (drop (p + 1) w))) where
   long_now : length (take size rows) ≡ size
-  long_now = length-kept size rows s
+  long_now = length-stored size rows s
 
   was : IsBijection size (take size rows)
   was = subst (λ n. IsBijection n (take size rows)) long_now s.state.bijection
@@ -378,7 +378,7 @@ module _ (size : ℕ) (rows : List ℕ) (s : IsStored size rows) (p m : ℕ) (k 
   now = IsBijection-chosen size (take size rows) (take size (rewritten (p + 1) size w ys)) p m was k turned_is
 
   -- the array stores a state
-  pub stored : IsStored size (rewritten (p + 1) size w ys)
+  pub stored : IsStoredByPlace size (rewritten (p + 1) size w ys)
   stored =
       let e = long_now in let l = k.within in let b = k.behind in let a = s.long in let f = s.fits in
       let lw : length w ≡ length rows = ap length is ∙ length-swap rows p m in

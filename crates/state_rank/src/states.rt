@@ -5,13 +5,12 @@ ghost use Rattle.std.specs.Cmp.{partial_equiv_from_equiv};
 ghost use Rattle.std.specs.Cmp.Lexicographic.{pointwise, nat_list_eq_equiv};
 ghost use Rattle.state_rank.specs.Bijection.{IsSize, IsBijection};
 ghost use Rattle.state_rank.specs.Counted.{HasExactly};
-ghost use Rattle.state_rank.specs.States.{IsState, is_before, rank, unrank, factorial, transpose};
+ghost use Rattle.std.specs.List.{Contains, AllPairs};
+ghost use Rattle.state_rank.specs.States.{IsState, is_before, states, rank, unrank, factorial, transpose};
 ghost use Rattle.state_rank.specs.Inner.Steps.{FallsFrom};
 
-use crate::MAX_SIZE;
+use crate::{MAX_SIZE, ROOM};
 use std::marker::Model;
-
-const LENGTH: usize = MAX_SIZE as usize;
 
 /// A grid state: a bijection of 0 to n - 1, where the size n is from 2 to `MAX_SIZE`.
 ///
@@ -20,13 +19,14 @@ const LENGTH: usize = MAX_SIZE as usize;
 /// its point is (Ozsváth, Stipsicz and Szabó, "Grid Homology for Knots and Links", chapter 4).
 #[derive(Clone, Copy, Debug)]
 pub struct State {
-    rows: [u8; LENGTH],
+    rows: [u8; ROOM],
     size: u8,
 }
 
 impl Model for State {
     ghost use Rattle.std.specs.Prelude.{ℕ, List, length, take};
-    ghost use Rattle.state_rank.specs.Inner.Stored.{IsStored, length-kept, padded, padded-kept};
+    ghost use Rattle.std.proofs.Common.{length-take-le, sym};
+    ghost use Rattle.state_rank.specs.Inner.Stored.{IsStored, padded};
 
     ghost Value = { List ℕ };
 
@@ -36,9 +36,9 @@ impl Model for State {
 
     ghost inverse = { λ x. record { rows = padded x; size = length x } };
 
-    ghost inverse_ok = { λ s h i. record {
-      rows = padded-kept s.size s.rows h i;
-      size = length-kept s.size s.rows h i;
+    ghost inverse_ok = { λ s stored i. record {
+      rows = sym stored.zeros i;
+      size = length-take-le s.size s.rows stored.within i;
     } };
 }
 
@@ -49,10 +49,10 @@ impl State {
         ensures state { OnSome result (IsState rows.now) }
         ensures none { IsNone result → IsState rows.now → ⊥ }
     {
-        if rows.len() < 2 || rows.len() > LENGTH || !is_bijection(rows) {
+        if rows.len() < 2 || rows.len() > ROOM || !is_bijection(rows) {
             return None;
         }
-        let mut stored = [0; LENGTH];
+        let mut stored = [0; ROOM];
         stored[..rows.len()].copy_from_slice(rows);
         Some(State {
             rows: stored,
@@ -130,11 +130,16 @@ impl State {
         ensures ranked { (m j : ℕ) → j < factorial m → rank (unrank m j) ≡ j }
         ensures sized { (m j : ℕ) → j < factorial m → length (unrank m j) ≡ m }
 
+        // `states m` has exactly the bijections of 0 to m - 1, which are m!, each before the later ones.
+        ensures bijections { (m : ℕ) (x : List ℕ) → Contains (states m) x ↔ IsBijection m x }
+        ensures count { (m : ℕ) → length (states m) ≡ factorial m }
+        ensures ascending { (m : ℕ) → AllPairs (λ x y. IsTrue (is_before x y)) (states m) }
+
         // The order of two ranks is that of their states.
         ensures order { (m i j : ℕ) → i < factorial m → j < factorial m
             → (i < j) ↔ IsTrue (is_before (unrank m i) (unrank m j)) }
     {
-        let mut rows = [0; LENGTH];
+        let mut rows = [0; ROOM];
         let mut left = k;
         for c in (0..n).rev() {
             let places = u32::from(n - c);
@@ -187,8 +192,9 @@ impl State {
     pub fn transpose(&self) -> State
         ensures state { result ≡ transpose self.now }
         ensures size { length result ≡ length self.now }
+        ensures inverse { (c : ℕ) → c < length self.now → slice_index result (slice_index self.now c) ≡ c }
     {
-        let mut columns = [0; LENGTH];
+        let mut columns = [0; ROOM];
         for c in 0..self.size {
             columns[self.rows[c as usize] as usize] = c;
         }
@@ -204,7 +210,7 @@ impl Default for State {
     fn default() -> State
         ensures { result ≡ 0 ∷ 1 ∷ [] }
     {
-        let mut rows = [0; LENGTH];
+        let mut rows = [0; ROOM];
         rows[1] = 1;
         State { rows, size: 2 }
     }
@@ -282,7 +288,7 @@ fn last_above(rows: &[u8], place: usize) -> usize
 }
 
 // Raises by one each row from column `from` up to `to` that is not below `row`.
-fn raise(rows: &mut [u8; LENGTH], from: u8, to: u8, row: u8)
+fn raise(rows: &mut [u8; ROOM], from: u8, to: u8, row: u8)
     requires ordered { from ≤ to }
     requires to_within { to ≤ MAX_SIZE }
     requires fit { (c : ℕ) → from ≤ c → c < to → slice_index rows.old c < MAX_SIZE }

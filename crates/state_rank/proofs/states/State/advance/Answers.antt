@@ -4,9 +4,9 @@ use Rattle.std.proofs.lemmas.Bool.{false≢true}
 use Rattle.state_rank.specs.Bijection.{IsBijection}
 use Rattle.state_rank.specs.States.{rank, unrank}
 use Rattle.state_rank.specs.Inner.Steps.{FallsFrom}
-use Rattle.state_rank.specs.Inner.Stored.{length-kept}
 use Rattle.state_rank.proofs.RankLemmas.{rank-below, unrank-rank}
 use Rattle.state_rank.proofs.StepLemmas.{IsChosen, rewritten, stored, next_rank, now, rank-last}
+use Rattle.state_rank.proofs.StoredLemmas.{length-stored, by_place, stored_from}
 use Rattle.state_rank.proofs.states.State.advance.Goals as goal
 
 chosen : (c : goal.After-reverse) → IsChosen (take c.self.inside.size c.self.inside.rows) (take c.self.inside.size c.self.inside.rows) c.in-Some.place c.last_above-other.result
@@ -24,11 +24,11 @@ chosen c =
     }))
 
 pub invariant_of-self : goal.invariant_of-self
-invariant_of-self c = stored c.self.inside.size c.self.inside.rows c.self.invariant c.in-Some.place c.last_above-other.result (chosen c) c.swap.new.self c.reverse.new.self c.swap.ensures.after c.reverse.ensures.after
+invariant_of-self c = stored_from (stored c.self.inside.size c.self.inside.rows (by_place c.self.invariant) c.in-Some.place c.last_above-other.result (chosen c) c.swap.new.self c.reverse.new.self c.swap.ensures.after c.reverse.ensures.after)
 
 new_rank : (c : goal.After-reverse) → rank (take c.self.inside.size (rewritten (c.in-Some.place + 1) c.self.inside.size c.swap.new.self c.reverse.new.self)) ≡ rank c.args.self.now + 1
 new_rank c =
-    next_rank c.self.inside.size c.self.inside.rows c.self.invariant c.in-Some.place c.last_above-other.result (chosen c) c.swap.new.self c.reverse.new.self c.swap.ensures.after c.reverse.ensures.after
+    next_rank c.self.inside.size c.self.inside.rows (by_place c.self.invariant) c.in-Some.place c.last_above-other.result (chosen c) c.swap.new.self c.reverse.new.self c.swap.ensures.after c.reverse.ensures.after
     ∙ ap (λ x. rank x + 1) c.self.view_is
 
 pub returns-clause-rank : goal.returns-clause-rank
@@ -37,8 +37,8 @@ returns-clause-rank c = λ t. new_rank c
 new_state : (c : goal.After-reverse) → IsBijection (length c.args.self.now) (take c.self.inside.size (rewritten (c.in-Some.place + 1) c.self.inside.size c.swap.new.self c.reverse.new.self))
 new_state c =
     subst (λ n. IsBijection n (take c.self.inside.size (rewritten (c.in-Some.place + 1) c.self.inside.size c.swap.new.self c.reverse.new.self)))
-    (sym (length-kept c.self.inside.size c.self.inside.rows c.self.invariant) ∙ ap length c.self.view_is)
-    (now c.self.inside.size c.self.inside.rows c.self.invariant c.in-Some.place c.last_above-other.result (chosen c) c.swap.new.self c.reverse.new.self c.swap.ensures.after c.reverse.ensures.after)
+    (sym (length-stored c.self.inside.size c.self.inside.rows (by_place c.self.invariant)) ∙ ap length c.self.view_is)
+    (now c.self.inside.size c.self.inside.rows (by_place c.self.invariant) c.in-Some.place c.last_above-other.result (chosen c) c.swap.new.self c.reverse.new.self c.swap.ensures.after c.reverse.ensures.after)
 
 pub returns-clause-state : goal.returns-clause-state
 returns-clause-state c =
