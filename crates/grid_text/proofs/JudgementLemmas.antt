@@ -24,7 +24,7 @@ pub HasRead-none : (text : List ℕ) → HasRead text 1 text head
 HasRead-none text = record { before = []; lines = refl; path = refl; number = refl; room = omega arith; place = tt }
 
 -- one more line at the end of a path
-Path-more : (p q r : Place) (lines : List (List Word)) (words : List Word) → Path p lines q → Leads q words r → Path p (lines ++ words ∷ []) r
+pub Path-more : (p q r : Place) (lines : List (List Word)) (words : List Word) → Path p lines q → Leads q words r → Path p (lines ++ words ∷ []) r
 Path-more p q r [] words e l = (r, subst (λ x. Leads x words r) (sym e) l, refl)
 Path-more p q r (first ∷ lines) words path l = (path.0, path.1, Path-more path.0 q r lines words path.2 l)
 
@@ -97,7 +97,7 @@ unfolding ended_script
 one_script text s t d e = ap (ended_script s) (one_end head (ended s) (ended t) (map words_of (lines_of text)) tt d e)
 
 -- what follows some lines of a path
-Path-rest : (p q r : Place) (before after : List (List Word)) → IsPlace p → Path p before q → Path p (before ++ after) r → Path q after r
+pub Path-rest : (p q r : Place) (before after : List (List Word)) → IsPlace p → Path p before q → Path p (before ++ after) r → Path q after r
 Path-rest p q r [] after h e path = subst (λ x. Path x after r) e path
 Path-rest p q r (words ∷ before) after h path whole =
     let same = one_place p whole.0 path.0 words h whole.1 path.1 in

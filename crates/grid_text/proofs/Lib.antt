@@ -15,3 +15,4 @@ pub mod PrintLemmas
 pub mod LengthLemmas
 pub mod ReadBackLemmas
 pub mod JudgementLemmas
+pub mod OutcomeLemmas

@@ -1,5 +1,5 @@
 //! Which texts are documents.
-ghost use Rattle.std.specs.Prelude.{◌≡◌, ◌↔◌, ◌≤◌, ℕ, List, None, length, map, IfOk, IfErr};
+ghost use Rattle.std.specs.Prelude.{◌≡◌, ◌↔◌, ◌⊎◌, ◌≤◌, ℕ, List, None, length, map, IfOk, IfErr};
 ghost use Rattle.grid_text.specs.Words.{Word, words_of as words_of_line};
 ghost use Rattle.grid_text.specs.Script.{GridScript};
 ghost use Rattle.grid_text.specs.Document.{Place as PlaceOf, head, Leads, Path, IsDocument};
@@ -61,11 +61,17 @@ pub fn judge(alloc: Global, text: &[u8]) -> Result<Judged, TextEnd>
     ensures head { IfOk result (λ j. j.grid_line ≡ 1) }
     ensures refused { IfErr result (IsEnd text.now) }
 
-    // No text with a first fault is a document, and none is that of two scripts.
+    // Every text is a document or has a first fault, and no text is both.
+    ensures every_text { (other : List ℕ) → ((s : GridScript) × IsDocument other s)
+        ⊎ ((f : TextFault) × (line : ℕ) × IsFirstFault other f line) }
     ensures no_document { (other : List ℕ) (f : TextFault) (line : ℕ) (s : GridScript)
         → IsFirstFault other f line → IsDocument other s → ⊥ }
+
+    // A document is that of one script alone, and another text has one first fault, at one line.
     ensures one_script { (other : List ℕ) (s t : GridScript)
         → IsDocument other s → IsDocument other t → s ≡ t }
+    ensures one_fault { (other : List ℕ) (f g : TextFault) (line number : ℕ)
+        → IsFirstFault other f line → IsFirstFault other g number → (f ≡ g) × (line ≡ number) }
 
     // At a place that lines lead to, a line is allowed exactly where no row of the table holds, and
     // then it leads to one place.

@@ -1,4 +1,5 @@
 use Rattle.grid_text.proofs.JudgementLemmas as laws
+use Rattle.grid_text.proofs.OutcomeLemmas.{every_text, one_fault}
 use Rattle.grid_text.proofs.judgement.judge.Goals as goal
 
 pub returns-clause-no_document : goal.returns-clause-no_document
@@ -12,3 +13,9 @@ returns-clause-allowed c = laws.allowed
 
 pub returns-clause-one_place : goal.returns-clause-one_place
 returns-clause-one_place c = laws.one_place_of_path
+
+pub returns-clause-every_text : goal.returns-clause-every_text
+returns-clause-every_text c = every_text
+
+pub returns-clause-one_fault : goal.returns-clause-one_fault
+returns-clause-one_fault c = one_fault
