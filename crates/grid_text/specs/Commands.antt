@@ -1,9 +1,15 @@
 -- The commands of a document: their words, what they ask of the grid that stands there, and what they make
 -- of it.
---     sign_word, side_word, corner_word, axis_word   the words for choices
---     IsLineOf words command     the words of a line are the command's
---     IsAllowed g command        the command may stand where the grid g is in force
---     grid_after g command       the grid in force after it
+--     sign_word, side_word, corner_word, axis_word   the word for each sign, side, corner and axis
+--     signs, sides, corners      all of them
+--     Argument                   what a word of a command after its first stands for
+--     argument_word a            the word for it
+--     command_row c              THE TABLE OF COMMANDS: the first word of a command, and its arguments
+--     command_words c            the words of a command
+--     IsLineOf words c           the words of a line are the command's
+--     IsStateOf g x              x is a state of the grid g
+--     IsAllowed g c              the command may stand where the grid g is in force
+--     grid_after g c             the grid in force after it
 use Rattle.std.specs.Prelude.{◌≡◌, ℕ, ◌<◌, true, List, [], ◌∷◌, length, map, codes}
 use Rattle.std.specs.List.{All}
 use Rattle.std.specs.List.Sorted.{IsPermutation}
@@ -24,9 +30,14 @@ use Rattle.grid_text.specs.declared.commands.Sign.TheVariants.{Plus, Minus}
 use Rattle.grid_text.specs.declared.commands.Command.{Command}
 use Rattle.grid_text.specs.declared.commands.Command.TheVariants as command
 
+-- ---- choices
+
 abbrev pub sign_word : Sign → Word
 sign_word Plus = codes "+"
 sign_word Minus = codes "-"
+
+abbrev pub signs : List Sign
+signs = Plus ∷ Minus ∷ []
 
 abbrev pub side_word : Side → Word
 side_word Left = codes "left"
@@ -34,28 +45,59 @@ side_word Right = codes "right"
 side_word Up = codes "up"
 side_word Down = codes "down"
 
+abbrev pub sides : List Side
+sides = Left ∷ Right ∷ Up ∷ Down ∷ []
+
 abbrev pub corner_word : Corner → Word
 corner_word Over = codes "over"
 corner_word Under = codes "under"
+
+abbrev pub corners : List Corner
+corners = Over ∷ Under ∷ []
 
 abbrev pub axis_word : Axis → Word
 axis_word Cols = codes "cols"
 axis_word Rows = codes "rows"
 
--- the states of a chain may stand in any order
-abbrev pub IsLineOf : List Word → Command → Type 0
-IsLineOf words command.Front = words ≡ codes "front" ∷ []
-IsLineOf words command.Ranks = words ≡ codes "ranks" ∷ []
-IsLineOf words command.Hat = words ≡ codes "hat" ∷ []
-IsLineOf words (command.Class sign) = words ≡ codes "class" ∷ sign_word sign ∷ []
-IsLineOf words (command.Border x) = words ≡ codes "border" ∷ state_word x ∷ []
-IsLineOf words (command.Chain z) = (xs : List (List ℕ)) × IsPermutation xs z × (words ≡ codes "chain" ∷ map state_word xs)
-IsLineOf words command.Show = words ≡ codes "show" ∷ []
-IsLineOf words command.Bounds = words ≡ codes "bounds" ∷ []
-IsLineOf words (command.Turn side) = words ≡ codes "turn" ∷ side_word side ∷ []
-IsLineOf words (command.Commute axis c corner) = words ≡ axis_word axis ∷ decimal c ∷ corner_word corner ∷ []
+-- ---- the words of commands
 
--- a state of the grid
+pub data Argument : Type 0 where
+  sign : (v : Sign) → Argument
+  side : (v : Side) → Argument
+  corner : (v : Corner) → Argument
+  number : (c : ℕ) → Argument
+  state : (x : List ℕ) → Argument
+
+abbrev pub argument_word : Argument → Word
+argument_word (sign v) = sign_word v
+argument_word (side v) = side_word v
+argument_word (corner v) = corner_word v
+argument_word (number c) = decimal c
+argument_word (state x) = state_word x
+
+-- each command is said here, and nowhere else
+abbrev pub command_row : Command → Word × List Argument
+command_row command.Front = (codes "front", [])
+command_row command.Ranks = (codes "ranks", [])
+command_row command.Hat = (codes "hat", [])
+command_row (command.Class v) = (codes "class", sign v ∷ [])
+command_row (command.Border x) = (codes "border", state x ∷ [])
+command_row (command.Chain z) = (codes "chain", map state z)
+command_row command.Show = (codes "show", [])
+command_row command.Bounds = (codes "bounds", [])
+command_row (command.Turn v) = (codes "turn", side v ∷ [])
+command_row (command.Commute axis c v) = (axis_word axis, number c ∷ corner v ∷ [])
+
+abbrev pub command_words : Command → List Word
+command_words c = (command_row c).0 ∷ map argument_word (command_row c).1
+
+-- the states of a chain may stand in any order; all other words stand as in the table
+abbrev pub IsLineOf : List Word → Command → Type 0
+IsLineOf words (command.Chain z) = (xs : List (List ℕ)) × IsPermutation xs z × (words ≡ command_words (command.Chain xs))
+IsLineOf words c = words ≡ command_words c
+
+-- ---- what commands ask and make
+
 pub record IsStateOf (g : Marks) (x : List ℕ) : Type 0 where
   pub state : IsState x
   pub same_size : length x ≡ size g
@@ -64,22 +106,22 @@ abbrev pub IsAllowed : Marks → Command → Type 0
 IsAllowed g command.Front = Unit {0}
 IsAllowed g command.Ranks = Unit {0}
 IsAllowed g command.Hat = Unit {0}
-IsAllowed g (command.Class sign) = Unit {0}
+IsAllowed g (command.Class v) = Unit {0}
 IsAllowed g (command.Border x) = IsStateOf g x
 IsAllowed g (command.Chain z) = All (IsStateOf g) z × AreAscending z
 IsAllowed g command.Show = Unit {0}
 IsAllowed g command.Bounds = Unit {0}
-IsAllowed g (command.Turn side) = Unit {0}
-IsAllowed g (command.Commute axis c corner) = (c < size g) × (are_commuting axis g c ≡ true)
+IsAllowed g (command.Turn v) = Unit {0}
+IsAllowed g (command.Commute axis c v) = (c < size g) × (are_commuting axis g c ≡ true)
 
 abbrev pub grid_after : Marks → Command → Marks
 grid_after g command.Front = g
 grid_after g command.Ranks = g
 grid_after g command.Hat = g
-grid_after g (command.Class sign) = g
+grid_after g (command.Class v) = g
 grid_after g (command.Border x) = g
 grid_after g (command.Chain z) = g
 grid_after g command.Show = g
 grid_after g command.Bounds = g
-grid_after g (command.Turn side) = turned side g
-grid_after g (command.Commute axis c corner) = swapped axis g c
+grid_after g (command.Turn v) = turned v g
+grid_after g (command.Commute axis c v) = swapped axis g c

@@ -1,4 +1,5 @@
 -- The words for faults.
+--     fault_word f    the word for a fault in a refusal: its name
 use Rattle.std.specs.Prelude.{codes}
 use Rattle.grid_text.specs.Words.{Word}
 use Rattle.grid_text.specs.declared.faults.TextFault.{TextFault}

@@ -1,13 +1,11 @@
+pub mod Limits
 pub mod Words
 pub mod States
 pub mod FaultWords
 pub mod Commands
 pub mod Script
-pub mod Kept
 pub mod Document
 pub mod Faults
-pub mod Reading
-pub mod Next
 pub mod End
 pub mod PlainForm
-pub mod Printing
+pub mod Inner

@@ -1,8 +1,11 @@
 -- The lines and words of a text, which is a list of bytes, and the words for numbers and states.
+--     Word                   a list of bytes
 --     parts is_end bytes     the bytes up to each byte that ends a part, and where bytes follow the last such
 --                            byte, these as one more part
 --     lines_of text          its lines: each is ended by a line feed, but the last may be ended by the text
 --     words_of line          the longest runs of bytes other than spaces
+--     words_of_lines text    the words of each line, in order
+--     is_word v w            the two words are the same
 --     numeral low high word  the number from low to high whose decimal form the word is, if there is one
 --     state_word x           the rows of a state as digits, with nothing between them
 --     state_of n word        the state of size n whose word it is, if there is one
@@ -39,6 +42,9 @@ lines_of text = parts is_line_feed text
 
 abbrev pub words_of : List ℕ → List Word
 words_of line = filter is_filled (parts is_space line)
+
+abbrev pub words_of_lines : List ℕ → List (List Word)
+words_of_lines text = map words_of (lines_of text)
 
 abbrev pub is_word : Word → Word → Bool
 is_word [] [] = true

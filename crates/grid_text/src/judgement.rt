@@ -1,13 +1,15 @@
 //! Which texts are documents.
 ghost use Rattle.std.specs.Prelude.{◌≡◌, ◌↔◌, ◌⊎◌, ◌≤◌, ℕ, List, None, length, map, IfOk, IfErr};
+ghost use Rattle.grid_text.specs.Limits.{max_commands, max_text};
 ghost use Rattle.grid_text.specs.Words.{Word, words_of as words_of_line};
 ghost use Rattle.grid_text.specs.Script.{GridScript};
 ghost use Rattle.grid_text.specs.Document.{Place as PlaceOf, head, Leads, Path, IsDocument};
 ghost use Rattle.grid_text.specs.Faults.{fault_at, IsFirstFault};
-ghost use Rattle.grid_text.specs.Reading.{IsPlace};
-ghost use Rattle.grid_text.specs.Next.{place_of, IsNext};
+ghost use Rattle.grid_text.specs.Inner.Reading.{IsPlace};
+ghost use Rattle.grid_text.specs.Inner.Next.{place_of, IsNext};
 ghost use Rattle.grid_text.specs.End.{IsEnd};
 
+use crate::commands::MAX_COMMANDS;
 use crate::faults::TextFault;
 use crate::places::{Place, next_place};
 use crate::scripts::Script;
@@ -56,7 +58,7 @@ impl From<NoMemory> for TextEnd {
 ///
 /// `Refused` exactly where the text is no document; `NoMemory` if the allocator refuses.
 pub fn judge(alloc: Global, text: &[u8]) -> Result<Judged, TextEnd>
-    requires { length text.now ≤ MAX_TEXT }
+    requires { length text.now ≤ max_text }
     ensures document { IfOk result (λ j. IsDocument text.now j.script) }
     ensures head { IfOk result (λ j. j.grid_line ≡ 1) }
     ensures refused { IfErr result (IsEnd text.now) }
@@ -79,13 +81,16 @@ pub fn judge(alloc: Global, text: &[u8]) -> Result<Judged, TextEnd>
         → (fault_at p words ≡ None) ↔ ((q : PlaceOf) × Leads p words q) }
     ensures one_place { (lines : List (List Word)) (p q r : PlaceOf) (words : List Word)
         → Path head lines p → Leads p words q → Leads p words r → q ≡ r }
+
+    // The limits are those of the definitions.
+    ensures limits { (MAX_COMMANDS ≡ max_commands) × (MAX_TEXT ≡ max_text) }
 {
     judge_lines(alloc, text)
 }
 
 // The same, without the laws.
 fn judge_lines(alloc: Global, text: &[u8]) -> Result<Judged, TextEnd>
-    requires { length text.now ≤ MAX_TEXT }
+    requires { length text.now ≤ max_text }
     ensures document { IfOk result (λ j. IsDocument text.now j.script) }
     ensures head { IfOk result (λ j. j.grid_line ≡ 1) }
     ensures refused { IfErr result (IsEnd text.now) }

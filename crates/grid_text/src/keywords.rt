@@ -1,15 +1,13 @@
-//! The words of lines, and what they stand for.
-ghost use Rattle.std.specs.Prelude.{◌≡◌, ◌≢◌, ℕ, ◌≤◌, true, List, length, take, drop, None, IfSome, IfNone};
-ghost use Rattle.state_rank.specs.Bijection.{IsSize};
-ghost use Rattle.grid_text.specs.Commands.{sign_word, side_word, corner_word};
-ghost use Rattle.grid_text.specs.Words.{is_word as is_word_of, state_word, state_of as state_of_word};
-ghost use Rattle.grid_text.specs.Faults.{form_among, body_forms, is_bad_choice, sign, side, corner};
-ghost use Rattle.grid_text.specs.Reading.{keyword_word};
+//! The first words of the lines of a body.
+ghost use Rattle.std.specs.Prelude.{◌≡◌, true};
+ghost use Rattle.std.specs.List.{find};
+ghost use Rattle.grid_text.specs.Words.{is_word as is_word_of};
+ghost use Rattle.grid_text.specs.Commands.{command_row};
+ghost use Rattle.grid_text.specs.Inner.Reading.{keyword_word, keywords, example, stands_alone};
 
-use crate::commands::Sign;
-use grid_moves::Side;
-use pentagon_map::Corner;
-use state_rank::{MAX_SIZE, State};
+use crate::commands::Command;
+use crate::words::is_word;
+use grid_moves::Axis;
 
 /// The first words of the lines of a body.
 #[derive(Clone, Copy, PartialEq, Eq, Debug)]
@@ -28,142 +26,81 @@ pub(crate) enum Keyword {
     End,
 }
 
-/// The room for the rows of a state of any size.
-const ROOM: usize = MAX_SIZE as usize;
+/// All keywords.
+const KEYWORDS: [Keyword; 12] = [
+    Keyword::Front,
+    Keyword::Ranks,
+    Keyword::Hat,
+    Keyword::Class,
+    Keyword::Border,
+    Keyword::Chain,
+    Keyword::Show,
+    Keyword::Bounds,
+    Keyword::Turn,
+    Keyword::Cols,
+    Keyword::Rows,
+    Keyword::End,
+];
 
 /// The keyword that the word is.
-pub(crate) fn keyword_of(word: &[u8]) -> Option<Keyword>
-    ensures some { IfSome result (λ k. word.now ≡ keyword_word k) }
-    ensures none { IfNone result ((n : ℕ) → form_among (body_forms n) word.now ≡ None) }
+pub(crate) fn read_keyword(word: &[u8]) -> Option<Keyword>
+    ensures { result ≡ find (λ k. is_word_of (keyword_word k) word.now) keywords }
 {
-    if is_word(b"front", word) {
-        return Some(Keyword::Front);
-    }
-    if is_word(b"ranks", word) {
-        return Some(Keyword::Ranks);
-    }
-    if is_word(b"hat", word) {
-        return Some(Keyword::Hat);
-    }
-    if is_word(b"class", word) {
-        return Some(Keyword::Class);
-    }
-    if is_word(b"border", word) {
-        return Some(Keyword::Border);
-    }
-    if is_word(b"chain", word) {
-        return Some(Keyword::Chain);
-    }
-    later_keyword_of(word)
+    KEYWORDS
+        .iter()
+        .copied()
+        .find(|keyword| is_word(keyword_text(*keyword), word))
 }
 
-// The same of the words that stand later in the table.
-fn later_keyword_of(word: &[u8]) -> Option<Keyword>
-    ensures some { IfSome result (λ k. word.now ≡ keyword_word k) }
-    ensures none { IfNone result ((n : ℕ) → form_among (drop 6 (body_forms n)) word.now ≡ None) }
+/// The word of a keyword.
+pub(crate) fn keyword_text(keyword: Keyword) -> &'static [u8]
+    ensures { result.now ≡ keyword_word keyword }
 {
-    if is_word(b"show", word) {
-        return Some(Keyword::Show);
+    match keyword {
+        Keyword::Front => b"front",
+        Keyword::Ranks => b"ranks",
+        Keyword::Hat => b"hat",
+        Keyword::Class => b"class",
+        Keyword::Border => b"border",
+        Keyword::Chain => b"chain",
+        Keyword::Show => b"show",
+        Keyword::Bounds => b"bounds",
+        Keyword::Turn => b"turn",
+        Keyword::Cols => b"cols",
+        Keyword::Rows => b"rows",
+        Keyword::End => b"end",
     }
-    if is_word(b"bounds", word) {
-        return Some(Keyword::Bounds);
-    }
-    if is_word(b"turn", word) {
-        return Some(Keyword::Turn);
-    }
-    if is_word(b"cols", word) {
-        return Some(Keyword::Cols);
-    }
-    if is_word(b"rows", word) {
-        return Some(Keyword::Rows);
-    }
-    if is_word(b"end", word) {
-        return Some(Keyword::End);
-    }
-    None
 }
 
-/// The sign that the word is.
-pub(crate) fn sign_of(word: &[u8]) -> Option<Sign>
-    ensures some { IfSome result (λ v. word.now ≡ sign_word v) }
-    ensures none { IfNone result (is_bad_choice sign word.now ≡ true) }
+/// The keyword with which the line of a command begins.
+pub(crate) fn keyword_of(command: &Command) -> Keyword
+    ensures { keyword_word result ≡ (command_row command.now).0 }
 {
-    if is_word(b"+", word) {
-        return Some(Sign::Plus);
+    match command {
+        Command::Front => Keyword::Front,
+        Command::Ranks => Keyword::Ranks,
+        Command::Hat => Keyword::Hat,
+        Command::Class(_) => Keyword::Class,
+        Command::Border(_) => Keyword::Border,
+        Command::Chain(_) => Keyword::Chain,
+        Command::Show => Keyword::Show,
+        Command::Bounds => Keyword::Bounds,
+        Command::Turn(_) => Keyword::Turn,
+        Command::Commute(Axis::Cols, _, _) => Keyword::Cols,
+        Command::Commute(Axis::Rows, _, _) => Keyword::Rows,
     }
-    if is_word(b"-", word) {
-        return Some(Sign::Minus);
-    }
-    None
 }
 
-/// The side that the word is.
-pub(crate) fn side_of(word: &[u8]) -> Option<Side>
-    ensures some { IfSome result (λ v. word.now ≡ side_word v) }
-    ensures none { IfNone result (is_bad_choice side word.now ≡ true) }
+/// The command of a keyword that stands alone; none for `end`.
+pub(crate) fn command_alone(keyword: Keyword) -> Option<Command>
+    ensures { stands_alone keyword ≡ true → result ≡ example keyword }
 {
-    if is_word(b"left", word) {
-        return Some(Side::Left);
+    match keyword {
+        Keyword::Front => Some(Command::Front),
+        Keyword::Ranks => Some(Command::Ranks),
+        Keyword::Hat => Some(Command::Hat),
+        Keyword::Show => Some(Command::Show),
+        Keyword::Bounds => Some(Command::Bounds),
+        _ => None,
     }
-    if is_word(b"right", word) {
-        return Some(Side::Right);
-    }
-    if is_word(b"up", word) {
-        return Some(Side::Up);
-    }
-    if is_word(b"down", word) {
-        return Some(Side::Down);
-    }
-    None
-}
-
-/// The corner that the word is.
-pub(crate) fn corner_of(word: &[u8]) -> Option<Corner>
-    ensures some { IfSome result (λ v. word.now ≡ corner_word v) }
-    ensures none { IfNone result (is_bad_choice corner word.now ≡ true) }
-{
-    if is_word(b"over", word) {
-        return Some(Corner::Over);
-    }
-    if is_word(b"under", word) {
-        return Some(Corner::Under);
-    }
-    None
-}
-
-/// The state of size `n` whose word it is.
-pub(crate) fn state_of(word: &[u8], n: u8) -> Option<State>
-    requires { IsSize n }
-    ensures { result ≡ state_of_word n word.now }
-{
-    if word.len() != usize::from(n) {
-        return None;
-    }
-    let Some(rows) = rows_of(word) else {
-        return None;
-    };
-    State::of(&rows[..word.len()])
-}
-
-// The numbers whose word it is, in front of an array.
-fn rows_of(word: &[u8]) -> Option<[u8; ROOM]>
-    requires { length word.now ≤ ROOM }
-    ensures some { IfSome result (λ rows. word.now ≡ state_word (take (length word.now) rows)) }
-    ensures none { IfNone result ((x : List ℕ) → word.now ≢ state_word x) }
-{
-    let mut rows = [0; ROOM];
-    for (c, byte) in word.iter().enumerate() {
-        let Some(row) = byte.checked_sub(b'0') else {
-            return None;
-        };
-        rows[c] = row;
-    }
-    Some(rows)
-}
-
-/// Whether the words are one.
-pub(crate) fn is_word(expected: &[u8], word: &[u8]) -> bool
-    ensures { result ≡ is_word_of expected.now word.now }
-{
-    expected == word
 }

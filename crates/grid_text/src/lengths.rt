@@ -1,16 +1,15 @@
 //! The numbers of bytes of plain forms.
-ghost use Rattle.std.specs.Prelude.{◌≡◌, ◌≤◌, ◌<◌, ◌^◌, ◌+◌, ◌*◌, length, map, All};
+ghost use Rattle.std.specs.Prelude.{◌≡◌, ◌≤◌, ◌<◌, ◌^◌, ◌*◌, length, map, All};
 ghost use Rattle.grid_text.specs.Words.{state_word};
-ghost use Rattle.grid_text.specs.Commands.{corner_word};
+ghost use Rattle.grid_text.specs.Commands.{argument_word, command_row};
 ghost use Rattle.grid_text.specs.PlainForm.{after_space, command_line, head_lines, plain_form};
-ghost use Rattle.grid_text.specs.Printing.{IsPrintable};
-ghost use Rattle.grid_text.specs.declared.commands.Command.TheVariants as command;
+ghost use Rattle.grid_text.specs.Inner.Printing.{IsPrintable};
 ghost use Rattle.std.specs.Fmt.{decimal};
 
-use crate::commands::{Command, Sign};
-use crate::printing::side_text;
+use crate::choices::{corner_text, side_text, sign_text};
+use crate::commands::Command;
+use crate::keywords::{keyword_of, keyword_text};
 use crate::scripts::Script;
-use pentagon_map::Corner;
 use state_rank::State;
 use torus_geom::Grid;
 
@@ -39,34 +38,31 @@ fn command_len(command: &Command) -> u128
     ensures exact { result ≡ length (command_line command.now) }
     ensures few { result ≤ 2 ^ 70 }
 {
+    keyword_text(keyword_of(command)).len() as u128 + arguments_len(command) + 1
+}
+
+// The number of bytes of the words of a command after the first, each after a space.
+fn arguments_len(command: &Command) -> u128
+    requires { IsPrintable command.now }
+    ensures exact { result ≡ length (after_space (map argument_word (command_row command.now).1)) }
+    ensures few { result ≤ 2 ^ 69 }
+{
     match command {
-        Command::Front | Command::Ranks => 6,
-        Command::Hat => 4,
-        Command::Class(sign) => class_len(*sign),
-        Command::Border(x) => 8 + u128::from(x.size()),
-        Command::Chain(z) => chain_len(z.states()),
-        Command::Show => 5,
-        Command::Bounds => 7,
-        Command::Turn(side) => 6 + side_text(*side).len() as u128,
-        Command::Commute(_, c, corner) => 7 + number_len(*c) + corner_len(*corner),
+        Command::Class(sign) => 1 + sign_text(*sign).len() as u128,
+        Command::Border(x) => 1 + u128::from(x.size()),
+        Command::Chain(z) => states_len(z.states()),
+        Command::Turn(side) => 1 + side_text(*side).len() as u128,
+        Command::Commute(_, c, corner) => 2 + number_len(*c) + corner_text(*corner).len() as u128,
+        _ => 0,
     }
 }
 
-// The number of bytes of the line of `class`.
-fn class_len(sign: Sign) -> u128
-    ensures { result ≡ length (command_line (command.Class sign)) }
+// The number of bytes of the words of states, each after a space.
+fn states_len(states: &[State]) -> u128
+    ensures exact { result ≡ length (after_space (map state_word states.now)) }
+    ensures few { result ≤ 10 * length states.now }
 {
-    match sign {
-        Sign::Plus | Sign::Minus => 8,
-    }
-}
-
-// The number of bytes of the line of `chain`.
-fn chain_len(states: &[State]) -> u128
-    ensures exact { result ≡ 6 + length (after_space (map state_word states.now)) }
-    ensures few { result ≤ 6 + 10 * length states.now }
-{
-    let mut count = 6;
+    let mut count = 0;
     for x in states {
         count += 1 + u128::from(x.size());
     }
@@ -84,17 +80,6 @@ fn numbers_len(numbers: &[u8]) -> u128
         count += 1 + number_len(*n);
     }
     count
-}
-
-// The number of bytes of the word for a corner.
-fn corner_len(corner: Corner) -> u128
-    ensures exact { result ≡ length (corner_word corner) }
-    ensures few { result ≤ 5 }
-{
-    match corner {
-        Corner::Over => 4,
-        Corner::Under => 5,
-    }
 }
 
 // The number of digits of a number.

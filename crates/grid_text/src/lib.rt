@@ -7,6 +7,7 @@
 #![tactic(auto)]
 
 mod bodies;
+mod choices;
 mod commands;
 mod faults;
 mod judgement;
@@ -15,6 +16,7 @@ mod lengths;
 mod places;
 mod printing;
 mod scripts;
+mod state_words;
 mod words;
 
 pub use commands::{Command, MAX_COMMANDS, Sign, StateList};

@@ -1,22 +1,19 @@
 //! Places of a text, and where a line leads.
-ghost use Rattle.std.specs.Prelude.{◌≡◌, ◌≢◌, ℕ, ◌-◌, ◌<◌, ◌≤◌, true, List, [], ◌∷◌, map, length, take, codes, Some, IfOk, IfErr, IfSome, IfNone};
+ghost use Rattle.std.specs.Prelude.{◌≡◌, ◌≢◌, ℕ, ◌-◌, ◌<◌, ◌≤◌, true, List, ◌∷◌, map, length, take, Some, IfOk, IfErr, IfSome, IfNone};
 ghost use Rattle.std.specs.List.{list_any};
 ghost use Rattle.std.specs.Fmt.{decimal};
 ghost use Rattle.state_rank.specs.Bijection.{IsSize, IsBijection};
 ghost use Rattle.grid_text.specs.Words.{Word};
-ghost use Rattle.grid_text.specs.Commands.{axis_word};
-ghost use Rattle.grid_text.specs.Script.{GridScript};
 ghost use Rattle.grid_text.specs.Document.{Place as PlaceOf, head, o_line, x_line, body};
-ghost use Rattle.grid_text.specs.Faults.{fault_at, number, is_bad_number};
-ghost use Rattle.grid_text.specs.Reading.{IsPlace, IsRowPlace, AreNumerals};
-ghost use Rattle.grid_text.specs.Next.{place_of, IsNext};
+ghost use Rattle.grid_text.specs.Faults.{fault_at, number_between, is_bad};
+ghost use Rattle.grid_text.specs.Inner.Reading.{IsPlace, IsRowPlace, AreNumerals};
+ghost use Rattle.grid_text.specs.Inner.Next.{place_of, IsNext};
 
-use crate::bodies::line_of_body;
+use crate::bodies::read_line;
 use crate::commands::MAX_COMMANDS;
 use crate::faults::TextFault;
-use crate::keywords::is_word;
 use crate::scripts::Script;
-use crate::words::numeral;
+use crate::words::{is_word, numeral};
 use grid_ports::NoMemory;
 use state_rank::{MAX_SIZE, State};
 use std::alloc::Global;
@@ -50,19 +47,19 @@ pub(crate) fn next_place(
     ensures { IfOk result (IsNext (place_of place) (map (λ w. w.now) words.now)) }
 {
     match place {
-        Place::Head => Ok(after_head(words)),
-        Place::OLine(n) => Ok(after_o_line(n, words)),
-        Place::XLine(o) => Ok(after_x_line(alloc, &o, words)),
-        Place::Body(script) => after_body_line(alloc, script, words),
+        Place::Head => Ok(read_head(words)),
+        Place::OLine(n) => Ok(read_o_line(n, words)),
+        Place::XLine(o) => Ok(read_x_line(alloc, &o, words)),
+        Place::Body(script) => read_body_line(alloc, script, words),
         Place::Ended(_) => Ok(Err(TextFault::AfterEnd)),
     }
 }
 
 // The place after the line of the head.
-fn after_head(words: &[&[u8]]) -> Result<Place, TextFault>
+fn read_head(words: &[&[u8]]) -> Result<Place, TextFault>
     ensures { IsNext head (map (λ w. w.now) words.now) result }
 {
-    let Some(arguments) = after_word(b"grid", words) else {
+    let Some(arguments) = words_after(b"grid", words) else {
         return Err(TextFault::BadWord);
     };
     if arguments.len() != 1 {
@@ -75,21 +72,21 @@ fn after_head(words: &[&[u8]]) -> Result<Place, TextFault>
 }
 
 // The place after an O line.
-fn after_o_line(n: u8, words: &[&[u8]]) -> Result<Place, TextFault>
+fn read_o_line(n: u8, words: &[&[u8]]) -> Result<Place, TextFault>
     requires { IsSize n }
     ensures { IsNext (o_line n) (map (λ w. w.now) words.now) result }
 {
-    match rows_of_line(b"O", n, words) {
+    match read_rows(b"O", n, words) {
         Ok(o) => Ok(Place::XLine(o)),
         Err(fault) => Err(fault),
     }
 }
 
 // The place after an X line.
-fn after_x_line(alloc: Global, o: &State, words: &[&[u8]]) -> Result<Place, TextFault>
+fn read_x_line(alloc: Global, o: &State, words: &[&[u8]]) -> Result<Place, TextFault>
     ensures { IsNext (x_line (length o.now) o.now) (map (λ w. w.now) words.now) result }
 {
-    let x = match rows_of_line(b"X", o.size(), words) {
+    let x = match read_rows(b"X", o.size(), words) {
         Ok(x) => x,
         Err(fault) => return Err(fault),
     };
@@ -100,14 +97,14 @@ fn after_x_line(alloc: Global, o: &State, words: &[&[u8]]) -> Result<Place, Text
 }
 
 // The place after a line of the body.
-fn after_body_line(
+fn read_body_line(
     alloc: Global,
     mut script: Script,
     words: &[&[u8]],
 ) -> Result<Result<Place, TextFault>, NoMemory>
     ensures { IfOk result (IsNext (body script) (map (λ w. w.now) words.now)) }
 {
-    let line = match line_of_body(alloc, &script, words)? {
+    let line = match read_line(alloc, &script, words)? {
         Ok(line) => line,
         Err(fault) => return Ok(Err(fault)),
     };
@@ -122,20 +119,20 @@ fn after_body_line(
 }
 
 // The rows in an O or X line of a grid of this size.
-fn rows_of_line(letter: &[u8], n: u8, words: &[&[u8]]) -> Result<State, TextFault>
+fn read_rows(letter: &[u8], n: u8, words: &[&[u8]]) -> Result<State, TextFault>
     requires { IsSize n }
     ensures ok { IfOk result (λ x. IsBijection n x
         × (map (λ w. w.now) words.now ≡ letter.now ∷ map decimal x)) }
     ensures err { IfErr result (λ f. (p : PlaceOf) → IsRowPlace letter.now n p
         → fault_at p (map (λ w. w.now) words.now) ≡ Some f) }
 {
-    let Some(arguments) = after_word(letter, words) else {
+    let Some(arguments) = words_after(letter, words) else {
         return Err(TextFault::BadWord);
     };
     if arguments.len() != usize::from(n) {
         return Err(TextFault::BadCount);
     }
-    let Some(rows) = numbers_of(arguments, n) else {
+    let Some(rows) = read_numbers(arguments, n) else {
         return Err(TextFault::BadNumber);
     };
     match State::of(&rows[..arguments.len()]) {
@@ -145,13 +142,13 @@ fn rows_of_line(letter: &[u8], n: u8, words: &[&[u8]]) -> Result<State, TextFaul
 }
 
 // The numbers below n whose words these are, in front of an array.
-fn numbers_of(words: &[&[u8]], n: u8) -> Option<[u8; ROOM]>
+fn read_numbers(words: &[&[u8]], n: u8) -> Option<[u8; ROOM]>
     requires size { IsSize n }
     requires fits { length words.now ≤ ROOM }
     ensures some { IfSome result
         (λ rows. AreNumerals n (take (length words.now) rows) (map (λ w. w.now) words.now)) }
     ensures none { IfNone result
-        (list_any (is_bad_number (number 0 (n - 1))) (map (λ w. w.now) words.now) ≡ true) }
+        (list_any (is_bad (number_between 0 (n - 1))) (map (λ w. w.now) words.now) ≡ true) }
 {
     let mut rows = [0; ROOM];
     for (c, word) in words.iter().enumerate() {
@@ -164,7 +161,7 @@ fn numbers_of(words: &[&[u8]], n: u8) -> Option<[u8; ROOM]>
 }
 
 // The words after the first, where that is the one expected.
-fn after_word<'a>(expected: &[u8], words: &'a [&'a [u8]]) -> Option<&'a [&'a [u8]]>
+fn words_after<'a>(expected: &[u8], words: &'a [&'a [u8]]) -> Option<&'a [&'a [u8]]>
     ensures some { IfSome result (λ rest.
         map (λ w. w.now) words.now ≡ expected.now ∷ map (λ w. w.now) rest.now) }
     ensures none { IfNone result ((rest : List Word)

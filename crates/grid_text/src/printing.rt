@@ -4,15 +4,16 @@ ghost use Rattle.std.specs.List.{flat_map};
 ghost use Rattle.std.specs.Fmt.{decimal};
 ghost use Rattle.torus_geom.specs.Marks.{Marks};
 ghost use Rattle.grid_text.specs.Words.{state_word};
-ghost use Rattle.grid_text.specs.Commands.{sign_word, side_word, corner_word, axis_word, IsAllowed};
+ghost use Rattle.grid_text.specs.Commands.{corner_word, argument_word, command_row};
 ghost use Rattle.grid_text.specs.PlainForm.{after_space, command_line, head_lines, plain_form};
 ghost use Rattle.grid_text.specs.Script.{GridScript, IsScript};
 ghost use Rattle.grid_text.specs.Document.{IsDocument};
-ghost use Rattle.grid_text.specs.Printing.{IsPrintable};
+ghost use Rattle.grid_text.specs.Inner.Printing.{IsPrintable};
 
-use crate::commands::{Command, Sign};
+use crate::choices::{corner_text, side_text, sign_text};
+use crate::commands::Command;
+use crate::keywords::{keyword_of, keyword_text};
 use crate::scripts::Script;
-use grid_moves::{Axis, Side};
 use grid_ports::NoMemory;
 use pentagon_map::Corner;
 use state_rank::State;
@@ -66,64 +67,55 @@ fn push_command(text: &mut Vec<u8>, command: &Command) -> Result<(), NoMemory>
     requires { IsPrintable command.now }
     ensures { OnOk result (text.new.items ≡ text.old.items ++ command_line command.now) }
 {
+    push(text, keyword_text(keyword_of(command)))?;
+    push_arguments(text, command)?;
+    push(text, b"\n")
+}
+
+// Appends the words of a command after the first, each after a space.
+fn push_arguments(text: &mut Vec<u8>, command: &Command) -> Result<(), NoMemory>
+    requires { IsPrintable command.now }
+    ensures { OnOk result (text.new.items
+        ≡ text.old.items ++ after_space (map argument_word (command_row command.now).1)) }
+{
     match command {
-        Command::Front => push(text, b"front\n"),
-        Command::Ranks => push(text, b"ranks\n"),
-        Command::Hat => push(text, b"hat\n"),
-        Command::Class(sign) => push_choice(text, b"class ", sign_text(*sign)),
-        Command::Border(x) => push_border(text, x),
-        Command::Chain(z) => push_chain(text, z.states()),
-        Command::Show => push(text, b"show\n"),
-        Command::Bounds => push(text, b"bounds\n"),
-        Command::Turn(side) => push_choice(text, b"turn ", side_text(*side)),
-        Command::Commute(axis, c, corner) => push_commute(text, *axis, *c, *corner),
+        Command::Class(sign) => push_word(text, sign_text(*sign)),
+        Command::Border(x) => push_state(text, x),
+        Command::Chain(z) => push_states(text, z.states()),
+        Command::Turn(side) => push_word(text, side_text(*side)),
+        Command::Commute(_, c, corner) => push_commute(text, *c, *corner),
+        _ => Ok(()),
     }
 }
 
-// Appends a line with a word and a choice.
-fn push_choice(text: &mut Vec<u8>, word: &[u8], choice: &[u8]) -> Result<(), NoMemory>
-    ensures { OnOk result
-        (text.new.items ≡ text.old.items ++ word.now ++ choice.now ++ 10 ∷ []) }
+// Appends a space and a word.
+fn push_word(text: &mut Vec<u8>, word: &[u8]) -> Result<(), NoMemory>
+    ensures { OnOk result (text.new.items ≡ text.old.items ++ 32 ∷ word.now) }
 {
-    push(text, word)?;
-    push(text, choice)?;
-    push(text, b"\n")
+    text.push(b' ')?;
+    push(text, word)
 }
 
-// Appends the line of `cols` or `rows`.
-fn push_commute(text: &mut Vec<u8>, axis: Axis, c: u8, corner: Corner) -> Result<(), NoMemory>
+// Appends a number and the word for a corner, each after a space.
+fn push_commute(text: &mut Vec<u8>, c: u8, corner: Corner) -> Result<(), NoMemory>
     requires { c < 100 }
     ensures { OnOk result
-        (text.new.items ≡ text.old.items ++ axis_word axis ++ 32 ∷ decimal c ++ 32 ∷ corner_word corner ++ 10 ∷ []) }
+        (text.new.items ≡ text.old.items ++ 32 ∷ decimal c ++ 32 ∷ corner_word corner) }
 {
-    push(text, axis_text(axis))?;
     push(text, b" ")?;
     push_number(text, c)?;
-    push(text, b" ")?;
-    push(text, corner_text(corner))?;
-    push(text, b"\n")
+    push_word(text, corner_text(corner))
 }
 
-// Appends the line of `border`.
-fn push_border(text: &mut Vec<u8>, x: &State) -> Result<(), NoMemory>
+// Appends the words of states, each after a space.
+fn push_states(text: &mut Vec<u8>, states: &[State]) -> Result<(), NoMemory>
     ensures { OnOk result
-        (text.new.items ≡ text.old.items ++ codes "border" ++ 32 ∷ state_word x.now ++ 10 ∷ []) }
+        (text.new.items ≡ text.old.items ++ after_space (map state_word states.now)) }
 {
-    push(text, b"border")?;
-    push_state(text, x)?;
-    push(text, b"\n")
-}
-
-// Appends the line of `chain`.
-fn push_chain(text: &mut Vec<u8>, states: &[State]) -> Result<(), NoMemory>
-    ensures { OnOk result
-        (text.new.items ≡ text.old.items ++ codes "chain" ++ after_space (map state_word states.now) ++ 10 ∷ []) }
-{
-    push(text, b"chain")?;
     for x in states {
         push_state(text, x)?;
     }
-    push(text, b"\n")
+    Ok(())
 }
 
 // Appends a space and the word of a state.
@@ -167,46 +159,4 @@ fn push(text: &mut Vec<u8>, bytes: &[u8]) -> Result<(), NoMemory>
 {
     text.extend_from_slice(bytes)?;
     Ok(())
-}
-
-// The word for a sign.
-fn sign_text(sign: Sign) -> &'static [u8]
-    ensures { result.now ≡ sign_word sign }
-{
-    match sign {
-        Sign::Plus => b"+",
-        Sign::Minus => b"-",
-    }
-}
-
-// The word for a side.
-pub(crate) fn side_text(side: Side) -> &'static [u8]
-    ensures { result.now ≡ side_word side }
-{
-    match side {
-        Side::Left => b"left",
-        Side::Right => b"right",
-        Side::Up => b"up",
-        Side::Down => b"down",
-    }
-}
-
-// The word for an axis.
-fn axis_text(axis: Axis) -> &'static [u8]
-    ensures { result.now ≡ axis_word axis }
-{
-    match axis {
-        Axis::Cols => b"cols",
-        Axis::Rows => b"rows",
-    }
-}
-
-// The word for a corner.
-fn corner_text(corner: Corner) -> &'static [u8]
-    ensures { result.now ≡ corner_word corner }
-{
-    match corner {
-        Corner::Over => b"over",
-        Corner::Under => b"under",
-    }
 }

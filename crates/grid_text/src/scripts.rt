@@ -1,10 +1,11 @@
 //! Scripts: a grid and the commands that are carried out on it.
 ghost use Rattle.std.specs.Prelude.{◌≡◌, ◌<◌, [], length, OnOk, OnErr};
 ghost use Rattle.torus_geom.specs.Marks.{IsGrid};
+ghost use Rattle.grid_text.specs.Limits.{max_commands};
 ghost use Rattle.grid_text.specs.Commands.{IsAllowed, grid_after as grid_after_command};
 ghost use Rattle.grid_text.specs.Script.{GridScript, IsScript, grid_in_force, with_command};
 
-use crate::commands::{Command, MAX_COMMANDS};
+use crate::commands::Command;
 use grid_moves::{swap, turn};
 use grid_ports::NoMemory;
 use std::alloc::Global;
@@ -28,7 +29,7 @@ impl Model for Script {
 
     ghost Value = { GridScript };
 
-    ghost use Rattle.grid_text.specs.Kept.{script, IsKept};
+    ghost use Rattle.grid_text.specs.Inner.Kept.{script, IsKept};
 
     ghost view = { script };
 
@@ -51,7 +52,7 @@ impl Script {
 
     /// Appends a command.
     pub fn push(&mut self, c: Command) -> Result<(), NoMemory>
-        requires few { length self.old.commands < MAX_COMMANDS }
+        requires few { length self.old.commands < max_commands }
         requires allowed { IsAllowed (grid_in_force self.old) c }
         ensures ok { OnOk result (self.new ≡ with_command self.old c) }
         ensures err { OnErr result (self.new ≡ self.old) }

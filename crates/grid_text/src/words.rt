@@ -1,7 +1,7 @@
 //! Parts, words and numbers.
 ghost use Rattle.std.specs.Prelude.{◌≡◌, ◌≢◌, ◌↔◌, ℕ, ◌^◌, ◌<◌, ◌≤◌, ◌==◌, [], ◌∷◌, map, length, slice_index, IsTrue, IfSome, IfNone, IfOk};
 ghost use Rattle.std.specs.Fmt.{decimal};
-ghost use Rattle.grid_text.specs.Words.{numeral as numeral_of, parts, words_of as words_of_line};
+ghost use Rattle.grid_text.specs.Words.{is_word as is_word_of, numeral as numeral_of, parts, words_of as words_of_line};
 
 use grid_ports::NoMemory;
 use std::alloc::Global;
@@ -59,15 +59,15 @@ pub(crate) fn first_part(bytes: &[u8], end: u8) -> Option<(&[u8], &[u8])>
     if bytes.is_empty() {
         return None;
     }
-    let at = place_of_byte(bytes, end);
+    let at = index_of_byte(bytes, end);
     if at == bytes.len() {
         return Some((bytes, &bytes[at..]));
     }
     Some((&bytes[..at], &bytes[at + 1..]))
 }
 
-// The place of the first byte that is `wanted`, or the number of bytes.
-fn place_of_byte(bytes: &[u8], wanted: u8) -> usize
+// Where the first byte that is `wanted` stands, or the number of bytes.
+fn index_of_byte(bytes: &[u8], wanted: u8) -> usize
     ensures within { result ≤ length bytes.now }
     ensures before { (k : ℕ) → k < result → slice_index bytes.now k ≢ wanted }
     ensures found { result < length bytes.now → slice_index bytes.now result ≡ wanted }
@@ -93,4 +93,11 @@ pub(crate) fn words_of(alloc: Global, line: &[u8]) -> Result<Vec<&[u8]>, NoMemor
         rest = after;
     }
     Ok(words)
+}
+
+/// Whether the words are one.
+pub(crate) fn is_word(expected: &[u8], word: &[u8]) -> bool
+    ensures { result ≡ is_word_of expected.now word.now }
+{
+    expected == word
 }

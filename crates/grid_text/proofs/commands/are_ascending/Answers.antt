@@ -1,5 +1,5 @@
 use Rattle.std.proofs.Common.{true≢false, sym, ◌∙◌}
-use Rattle.grid_text.proofs.StateLemmas.{AreStates-not_next}
+use Rattle.grid_text.proofs.States.StateLemmas.{AreStates-not_next}
 use Rattle.grid_text.proofs.commands.are_ascending.Goals as goal
 
 pub returns-then-not-may_follow : goal.returns-then-not-may_follow

@@ -1,6 +1,6 @@
 use Rattle.std.proofs.Common.{◌<◌, length, arith}
 use Rattle.std.proofs.lemmas.Bool.Decides.{nat_tests}
-use Rattle.grid_text.proofs.StateLemmas.{AreStates-more, AreStates-next}
+use Rattle.grid_text.proofs.States.StateLemmas.{AreStates-more, AreStates-next}
 use Rattle.grid_text.proofs.commands.may_follow.Goals as goal
 
 pub returns : goal.returns

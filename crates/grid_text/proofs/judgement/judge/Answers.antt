@@ -1,5 +1,5 @@
-use Rattle.grid_text.proofs.JudgementLemmas as laws
-use Rattle.grid_text.proofs.OutcomeLemmas.{every_text, one_fault}
+use Rattle.grid_text.proofs.Paths.JudgementLemmas as laws
+use Rattle.grid_text.proofs.Paths.OutcomeLemmas.{every_text, one_fault}
 use Rattle.grid_text.proofs.judgement.judge.Goals as goal
 
 pub returns-clause-no_document : goal.returns-clause-no_document

@@ -1,7 +1,7 @@
 use Rattle.std.proofs.Common.{subst}
 use Rattle.grid_text.specs.Words.{words_of}
-use Rattle.grid_text.specs.Next.{place_of, IsNext}
-use Rattle.grid_text.proofs.JudgementLemmas.{HasRead-more}
+use Rattle.grid_text.specs.Inner.Next.{place_of, IsNext}
+use Rattle.grid_text.proofs.Paths.JudgementLemmas.{HasRead-more}
 use Rattle.grid_text.proofs.judgement.judge_lines.Goals as goal
 
 pub loop-bytes-preserved : goal.loop-bytes-preserved

@@ -1,7 +1,7 @@
 -- the lines so far lead to the place
 use Rattle.std.proofs.Common.{length}
-use Rattle.grid_text.specs.Next.{place_of}
-use Rattle.grid_text.proofs.JudgementLemmas.{HasRead}
+use Rattle.grid_text.specs.Inner.Next.{place_of}
+use Rattle.grid_text.proofs.Paths.JudgementLemmas.{HasRead}
 use Rattle.grid_text.proofs.judgement.judge_lines.Given as goal
 
 abbrev pub invariant-loop-bytes : goal.invariant-loop-bytes

@@ -1,6 +1,6 @@
 use Rattle.std.proofs.Common.{sym, ap, length, arith}
 use Rattle.std.proofs.lemmas.Fmt.{decimal_digit}
-use Rattle.grid_text.proofs.PrintLemmas.{decimal_two}
+use Rattle.grid_text.proofs.PlainForm.PrintLemmas.{decimal_two}
 use Rattle.grid_text.proofs.lengths.number_len.Goals as goal
 
 pub returns-then-n-lt10-clause-exact : goal.returns-then-n-lt10-clause-exact

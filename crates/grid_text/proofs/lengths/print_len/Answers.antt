@@ -1,7 +1,7 @@
 use Rattle.std.proofs.Common.{◌∙◌, sym, ap, subst, length, get_or, arith}
-use Rattle.grid_text.specs.Printing.{IsPrintable}
-use Rattle.grid_text.proofs.PrintLemmas.{IsPrintable-script}
-use Rattle.grid_text.proofs.LengthLemmas.{length-plain_form}
+use Rattle.grid_text.specs.Inner.Printing.{IsPrintable}
+use Rattle.grid_text.proofs.PlainForm.PrintLemmas.{IsPrintable-script}
+use Rattle.grid_text.proofs.PlainForm.LengthLemmas.{length-plain_form}
 use Rattle.grid_text.proofs.lengths.print_len.Goals as goal
 
 pub command_len-count-requires : goal.command_len-count-requires

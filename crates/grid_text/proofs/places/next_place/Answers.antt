@@ -1,9 +1,9 @@
 use Rattle.std.proofs.Common.{ap, ◌∙◌, refl}
 use Rattle.grid_text.specs.Document.{ended}
 use Rattle.grid_text.specs.Faults.{fault_at}
-use Rattle.grid_text.specs.Next.{place_of}
-use Rattle.grid_text.proofs.SeenLemmas.{seen}
-use Rattle.grid_text.proofs.FaultLemmas.{fault_at-ended}
+use Rattle.grid_text.specs.Inner.Next.{place_of}
+use Rattle.grid_text.proofs.Lines.SeenLemmas.{seen}
+use Rattle.grid_text.proofs.Lines.FaultLemmas.{fault_at-ended}
 use Rattle.grid_text.proofs.places.next_place.Goals as goal
 
 pub returns : goal.returns

@@ -1,4 +1,4 @@
-use Rattle.grid_text.proofs.ReadBackLemmas.{IsDocument-plain_form}
+use Rattle.grid_text.proofs.PlainForm.ReadBackLemmas.{IsDocument-plain_form}
 use Rattle.grid_text.proofs.printing.print.Goals as goal
 
 pub returns-clause-read_back : goal.returns-clause-read_back

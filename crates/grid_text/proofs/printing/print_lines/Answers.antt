@@ -1,6 +1,6 @@
 use Rattle.std.proofs.Common.{◌∙◌, sym, ap, subst, length, get_or, arith}
-use Rattle.grid_text.specs.Printing.{IsPrintable}
-use Rattle.grid_text.proofs.PrintLemmas.{IsPrintable-script, plain_form-printed}
+use Rattle.grid_text.specs.Inner.Printing.{IsPrintable}
+use Rattle.grid_text.proofs.PlainForm.PrintLemmas.{IsPrintable-script, plain_form-printed}
 use Rattle.grid_text.proofs.printing.print_lines.Goals as goal
 
 pub push_command-requires : goal.push_command-requires

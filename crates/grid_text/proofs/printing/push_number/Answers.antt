@@ -1,6 +1,6 @@
 use Rattle.std.proofs.Common.{◌≡◌, List, ℕ, sym, subst, ◌++◌, OnOk}
 use Rattle.std.proofs.lemmas.Fmt.{decimal_digit}
-use Rattle.grid_text.proofs.PrintLemmas.{decimal_two}
+use Rattle.grid_text.proofs.PlainForm.PrintLemmas.{decimal_two}
 use Rattle.grid_text.proofs.printing.push_number.Goals as goal
 
 pub returns-then-n-ge10 : goal.returns-then-n-ge10

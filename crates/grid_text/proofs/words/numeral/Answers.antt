@@ -1,5 +1,5 @@
 use Rattle.std.proofs.Common.{sym, arith}
-use Rattle.grid_text.proofs.WordLemmas.{numeral-decimal, numeral-none, decimal-out_of_bounds}
+use Rattle.grid_text.proofs.Lines.WordLemmas.{numeral-decimal, numeral-none, decimal-out_of_bounds}
 use Rattle.grid_text.proofs.words.numeral.Goals as goal
 
 pub returns-in_default-clause-value : goal.returns-in_default-clause-value

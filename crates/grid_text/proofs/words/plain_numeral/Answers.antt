@@ -5,7 +5,7 @@ use Rattle.std.specs.Fmt.{decimal}
 use Rattle.std.specs.Str.{IsUtf8}
 use Rattle.std.proofs.lemmas.Fmt.{IsAscii-decimal}
 use Rattle.std.proofs.lemmas.Str.{IsUtf8-from_ascii}
-use Rattle.grid_text.proofs.WordLemmas.{decimal-plain_start, parsed-decimal, parsed-none, HasPlainStart}
+use Rattle.grid_text.proofs.Lines.WordLemmas.{decimal-plain_start, parsed-decimal, parsed-none, HasPlainStart}
 use Rattle.grid_text.proofs.words.plain_numeral.Goals as goal
 
 pub returns-then-not-has_plain_start-clause-none :

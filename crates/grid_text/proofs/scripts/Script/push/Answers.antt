@@ -2,7 +2,7 @@ use Rattle.std.proofs.Common.{◌<◌, length, subst, sym}
 use Rattle.grid_text.specs.Commands.{IsAllowed}
 use Rattle.grid_text.specs.Script.{GridScript, grid_in_force}
 use Rattle.grid_text.specs.declared.commands.TheConstants.{MAX_COMMANDS}
-use Rattle.grid_text.proofs.ScriptLemmas.{with_command-kept}
+use Rattle.grid_text.proofs.Lines.ScriptLemmas.{with_command-kept}
 use Rattle.grid_text.proofs.scripts.Script.push.Goals as goal
 
 pub invariant_of-self-2 : goal.invariant_of-self-2

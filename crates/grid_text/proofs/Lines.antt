@@ -1,0 +1,10 @@
+pub mod WordLemmas
+pub mod KindLemmas
+pub mod FaultLemmas
+pub mod SeenLemmas
+pub mod PartLemmas
+pub mod ScriptLemmas
+pub mod KeywordLemmas
+pub mod CommandLemmas
+pub mod ReadLemmas
+pub mod BodyLemmas

@@ -1,0 +1,315 @@
+-- The lines of commands. A line with a command that may stand there has no fault before the last row of the table:
+-- its words are good for their kinds, which are those of the table, and where it exchanges columns or rows they
+-- commute. A line is that of one command.
+use Rattle.std.proofs.Common.{◌≡◌, ℕ, ◌-◌, ◌<◌, ◌^◌, true, false, not, ◌||◌, ◌&&◌, cond, List, [], ◌∷◌, length, map, None, Some, refl, ap, subst, ◌∙◌, sym, arith, true≢false}
+use Rattle.std.specs.Prelude.{nat_le}
+use Rattle.std.specs.Option.{option_map_or}
+use Rattle.std.specs.List.Sorted.{IsPermutation}
+use Rattle.std.specs.List.{list_any, Contains, All}
+use Rattle.std.specs.Fmt.{decimal}
+use Rattle.std.proofs.lemmas.List.Sorted.{All-permutation, IsPermutation-sym}
+use Rattle.std.proofs.lemmas.List.Elements.{All-contains, All-head, All-tail}
+use Rattle.std.proofs.lemmas.Fmt.{decimal_injective}
+use Rattle.state_rank.specs.Bijection.{IsBijection}
+use Rattle.state_rank.proofs.MemberLemmas.{member_head, member_tail}
+use Rattle.torus_geom.specs.Marks.{Marks, size}
+use Rattle.grid_moves.specs.Moves.{are_commuting}
+use Rattle.grid_moves.specs.declared.turns.Side.{Side}
+use Rattle.grid_moves.specs.declared.turns.Side.TheVariants.{Left, Right, Up, Down}
+use Rattle.grid_moves.specs.declared.commutations.Axis.{Axis}
+use Rattle.grid_moves.specs.declared.commutations.Axis.TheVariants.{Cols, Rows}
+use Rattle.pentagon_map.specs.declared.Corner.{Corner}
+use Rattle.pentagon_map.specs.declared.Corner.TheVariants.{Over, Under}
+use Rattle.grid_text.specs.Limits.{max_commands}
+use Rattle.grid_text.specs.Words.{Word, is_word, state_word}
+use Rattle.grid_text.specs.Commands.{sign_word, side_word, corner_word, axis_word, state, argument_word, command_row, command_words, IsLineOf, IsAllowed, IsStateOf}
+use Rattle.grid_text.specs.Script.{GridScript, IsScript, grid_in_force}
+use Rattle.grid_text.specs.Document.{body, end_word}
+use Rattle.grid_text.specs.Faults.{Form, exactly, any_number_of, state_of_size, kind_of, is_bad, is_bad_by, form_at, has_repeated, fails_to_commute, is_not_commuting, fault_at}
+use Rattle.grid_text.specs.declared.commands.Sign.{Sign}
+use Rattle.grid_text.specs.declared.commands.Sign.TheVariants.{Plus, Minus}
+use Rattle.grid_text.specs.declared.commands.Command.{Command}
+use Rattle.grid_text.specs.declared.commands.Command.TheVariants as command
+use Rattle.grid_text.specs.declared.faults.TextFault.TheVariants as fault
+use Rattle.grid_text.proofs.Lines.WordLemmas.{is_word-same, numeral-decimal, state_word_injective}
+use Rattle.grid_text.proofs.Lines.KindLemmas.{state-good, list_any-never, AreGood, arguments-good, arguments-count}
+use Rattle.grid_text.proofs.Lines.KeywordLemmas.{not_end}
+use Rattle.grid_text.proofs.Lines.FaultLemmas.{NoRowHolds, fault_at-last}
+use Rattle.grid_text.proofs.Lines.ScriptLemmas.{IsGridOf-grid_in_force}
+use Rattle.grid_text.proofs.States.ChainLemmas.{repeated-none, same_chain}
+
+-- ---- the words of a chain
+
+-- the words of states, as arguments
+pub state_words : (xs : List (List ℕ)) → map argument_word (map state xs) ≡ map state_word xs
+state_words [] = refl
+state_words (x ∷ xs) = ap (λ words. state_word x ∷ words) (state_words xs)
+
+-- the words of a line `chain`
+pub chain_words : (xs : List (List ℕ)) → command_words (command.Chain xs) ≡ (command_row (command.Chain [])).0 ∷ map state_word xs
+chain_words xs = ap (λ words. (command_row (command.Chain [])).0 ∷ words) (state_words xs)
+
+-- no word of states is bad
+pub states-good : (n : ℕ) (xs : List (List ℕ)) → ((x : List ℕ) → Contains xs x → IsBijection n x)
+    → list_any (is_bad (state_of_size n)) (map state_word xs) ≡ false
+states-good n [] all = refl
+states-good n (x ∷ xs) all =
+    ap (λ b. b || list_any (is_bad (state_of_size n)) (map state_word xs)) (state-good n x (all x (member_head x xs)))
+    ∙ states-good n xs (λ y m. all y (member_tail x xs y m))
+
+-- ---- the arguments of a command that may stand there
+
+-- a state of a grid is a bijection of its size
+bijection_of : (g : Marks) (x : List ℕ) → IsStateOf g x → IsBijection (size g) x
+bijection_of g x is = subst (λ m. IsBijection m x) is.same_size is.state.bijection
+
+-- the states of a chain
+states-allowed : (g : Marks) (z : List (List ℕ)) → All (IsStateOf g) z → AreGood (size g) (map state z)
+states-allowed g [] all = tt
+states-allowed g (x ∷ z) all = (bijection_of g x (All-head (IsStateOf g) x z all), states-allowed g z (All-tail (IsStateOf g) x z all))
+
+-- they are good
+pub arguments-allowed : (g : Marks) (c : Command) → IsAllowed g c → AreGood (size g) (command_row c).1
+arguments-allowed g (command.Class v) allowed = (tt, tt)
+arguments-allowed g (command.Border x) allowed = (bijection_of g x allowed, tt)
+arguments-allowed g (command.Chain z) allowed = states-allowed g z allowed.0
+arguments-allowed g (command.Turn v) allowed = (tt, tt)
+arguments-allowed g (command.Commute axis c v) allowed = (allowed.0, (tt, tt))
+arguments-allowed g c allowed = tt
+
+-- ---- what the rows are for a line of a command
+
+module _ (s : GridScript) (h : IsScript s) where
+  -- no row before the last holds, and the line is not `end`
+  pub record IsFaultless (words : List Word) : Type 0 where
+    pub first : Word
+    pub arguments : List Word
+    pub form : Form
+    pub is : words ≡ first ∷ arguments
+    pub known : form_at (body s) first ≡ Some form
+    pub rows : NoRowHolds (body s) form first arguments
+    pub no_end : is_word end_word first ≡ false
+
+  -- the size of the grid in force
+  abbrev n : ℕ
+  n = size (grid_in_force s)
+
+  -- it is small
+  n-small : n < 2 ^ 32
+  n-small = let most = (IsGridOf-grid_in_force s h).grid.is_size.greatest in omega arith
+
+  -- a command with good arguments in their order
+  exact-faultless : (c : Command) (words : List Word) → words ≡ command_words c
+      → form_at (body s) (command_row c).0 ≡ Some (exactly (map (kind_of n) (command_row c).1))
+      → AreGood n (command_row c).1 → is_not_commuting (body s) (command_words c) ≡ false → IsFaultless words
+  exact-faultless c words e known good commuting =
+      let small = n-small in
+      let fits : n < 2 ^ 64 = omega arith in
+      record {
+        first = (command_row c).0;
+        arguments = map argument_word (command_row c).1;
+        form = exactly (map (kind_of n) (command_row c).1);
+        is = e;
+        known = known;
+        rows = record {
+          count = arguments-count n (command_row c).1;
+          choice = arguments-good n fits fault.BadChoice (command_row c).1 good;
+          number = arguments-good n fits fault.BadNumber (command_row c).1 good;
+          permutation = refl;
+          square = refl;
+          state = arguments-good n fits fault.BadState (command_row c).1 good;
+          repeated = refl;
+          commuting = commuting;
+        };
+        no_end = not_end c;
+      }
+
+  -- the two columns or rows commute
+  commutes-number : (a : Axis) (c : ℕ) → c < n → are_commuting a (grid_in_force s) c ≡ true → fails_to_commute a (grid_in_force s) (decimal c) ≡ false
+  commutes-number a c below t =
+      let small = n-small in
+      ap (λ o. option_map_or (λ d. not (are_commuting a (grid_in_force s) d)) o false)
+      (numeral-decimal 0 (n - 1) c (decimal c) refl (omega arith) (omega arith) (omega arith))
+      ∙ ap not t
+
+  -- whatever follows `chain`, no columns are to commute
+  chain-commuting : (arguments : List Word) → is_not_commuting (body s) ((command_row (command.Chain [])).0 ∷ arguments) ≡ false
+  chain-commuting [] = refl
+  chain-commuting (a ∷ []) = refl
+  chain-commuting (a ∷ b ∷ []) = refl
+  chain-commuting (a ∷ b ∷ c ∷ arguments) = refl
+
+  -- `chain`
+  chain-faultless : (xs : List (List ℕ)) (words : List Word) → words ≡ command_words (command.Chain xs)
+      → ((x : List ℕ) → Contains xs x → IsBijection n x) → has_repeated (map state_word xs) ≡ false → IsFaultless words
+  chain-faultless xs words e states once = record {
+    first = (command_row (command.Chain [])).0;
+    arguments = map state_word xs;
+    form = any_number_of (state_of_size n);
+    is = e ∙ chain_words xs;
+    known = refl;
+    rows = record {
+      count = refl;
+      choice = list_any-never (is_bad_by fault.BadChoice (state_of_size n)) (map state_word xs) (λ w. refl);
+      number = list_any-never (is_bad_by fault.BadNumber (state_of_size n)) (map state_word xs) (λ w. refl);
+      permutation = refl;
+      square = refl;
+      state = states-good n xs states;
+      repeated = once;
+      commuting = chain-commuting (map state_word xs);
+    };
+    no_end = refl;
+  }
+
+  -- a command that may stand there
+  pub faultless : (words : List Word) (c : Command) → IsLineOf words c → IsAllowed (grid_in_force s) c → IsFaultless words
+  faultless words (command.Chain z) e allowed =
+      let all = All-permutation (IsStateOf (grid_in_force s)) z e.0 (IsPermutation-sym e.0 z e.1) allowed.0 in
+      chain-faultless e.0 words e.2 (λ x m. bijection_of (grid_in_force s) x (All-contains (IsStateOf (grid_in_force s)) e.0 x all m))
+      (repeated-none e.0 z e.1 allowed.1)
+  faultless words (command.Commute Cols c v) e allowed =
+      exact-faultless (command.Commute Cols c v) words e refl (arguments-allowed (grid_in_force s) (command.Commute Cols c v) allowed)
+      (ap (λ b. b || false) (commutes-number Cols c allowed.0 allowed.1))
+  faultless words (command.Commute Rows c v) e allowed =
+      exact-faultless (command.Commute Rows c v) words e refl (arguments-allowed (grid_in_force s) (command.Commute Rows c v) allowed)
+      (commutes-number Rows c allowed.0 allowed.1)
+  faultless words c e allowed = exact-faultless c words e refl (arguments-allowed (grid_in_force s) c allowed) refl
+
+-- then the last row decides
+pub fault_at-faultless : (s : GridScript) (h : IsScript s) (words : List Word) → IsFaultless s h words
+    → fault_at (body s) words ≡ cond (nat_le max_commands (length s.commands)) (Some fault.TooMany) None
+fault_at-faultless s h words f =
+    ap (fault_at (body s)) f.is
+    ∙ fault_at-last (body s) f.form f.first f.arguments refl f.known f.rows
+    ∙ ap (λ b. cond (not b && nat_le max_commands (length s.commands)) (Some fault.TooMany) None) f.no_end
+
+-- the line `end`
+pub fault_at-end : (s : GridScript) (words : List Word) → words ≡ end_word ∷ [] → fault_at (body s) words ≡ None
+fault_at-end s words e =
+    ap (fault_at (body s)) e
+    ∙ fault_at-last (body s) (exactly []) end_word [] refl refl
+    (record { count = refl; choice = refl; number = refl; permutation = refl; square = refl; state = refl; repeated = refl; commuting = refl })
+
+-- the line of a command is not `end`
+pub command-not_end : (s : GridScript) → IsScript s → (words : List Word) (c : Command) → IsLineOf words c
+    → IsAllowed (grid_in_force s) c → words ≡ end_word ∷ [] → ⊥
+command-not_end s h words c line allowed e =
+    let f = faultless s h words c line allowed in
+    let whole : f.first ∷ f.arguments ≡ end_word ∷ [] = sym f.is ∙ e in
+    let first : f.first ≡ end_word = cc in
+    true≢false (sym (is_word-same end_word) ∙ ap (is_word end_word) (sym first) ∙ f.no_end)
+
+-- ---- a line is that of one command
+
+-- the words for choices are different
+sign_apart : (v w : Sign) → is_word (sign_word v) (sign_word w) ≡ true → v ≡ w
+sign_apart Plus Plus t = refl
+sign_apart Plus Minus t = cc
+sign_apart Minus Plus t = cc
+sign_apart Minus Minus t = refl
+
+side_apart : (v w : Side) → is_word (side_word v) (side_word w) ≡ true → v ≡ w
+side_apart Left Left t = refl
+side_apart Left w t = cc
+side_apart Right Right t = refl
+side_apart Right w t = cc
+side_apart Up Up t = refl
+side_apart Up w t = cc
+side_apart Down Down t = refl
+side_apart Down w t = cc
+
+corner_apart : (v w : Corner) → is_word (corner_word v) (corner_word w) ≡ true → v ≡ w
+corner_apart Over Over t = refl
+corner_apart Over Under t = cc
+corner_apart Under Over t = cc
+corner_apart Under Under t = refl
+
+axis_apart : (v w : Axis) → is_word (axis_word v) (axis_word w) ≡ true → v ≡ w
+axis_apart Cols Cols t = refl
+axis_apart Cols Rows t = cc
+axis_apart Rows Cols t = cc
+axis_apart Rows Rows t = refl
+
+-- one word is the other
+same_is_word : (v w : Word) → v ≡ w → is_word v w ≡ true
+same_is_word v w e = ap (is_word v) (sym e) ∙ is_word-same v
+
+-- the first words of two lines, and the others
+cons-head : (v w : Word) (x y : List Word) → v ∷ x ≡ w ∷ y → v ≡ w
+cons-head v w x y e = cc
+
+cons-tail : (v w : Word) (x y : List Word) → v ∷ x ≡ w ∷ y → x ≡ y
+cons-tail v w x y e = cc
+
+second_word : {u t v w : Word} {x y : List Word} → u ∷ v ∷ x ≡ t ∷ w ∷ y → v ≡ w
+second_word e = cc
+
+third_word : {u t v w p q : Word} {x y : List Word} → u ∷ v ∷ p ∷ x ≡ t ∷ w ∷ q ∷ y → p ≡ q
+third_word e = cc
+
+-- commands of one first word are one, but for their arguments
+abbrev AreAlike : Command → Command → Type 0
+AreAlike (command.Class v) (command.Class w) = Unit {0}
+AreAlike (command.Border x) (command.Border y) = Unit {0}
+AreAlike (command.Chain z) (command.Chain w) = Unit {0}
+AreAlike (command.Turn v) (command.Turn w) = Unit {0}
+AreAlike (command.Commute i c v) (command.Commute j d w) = Unit {0}
+AreAlike c d = c ≡ d
+
+alike : (c d : Command) → is_word (command_row c).0 (command_row d).0 ≡ true → AreAlike c d
+alike (command.Class v) (command.Class w) t = tt
+alike (command.Border x) (command.Border y) t = tt
+alike (command.Chain z) (command.Chain w) t = tt
+alike (command.Turn v) (command.Turn w) t = tt
+alike (command.Commute i c v) (command.Commute j d w) t = tt
+alike (command.Commute Cols c v) d t = cc
+alike (command.Commute Rows c v) d t = cc
+alike c (command.Commute Cols d w) t = cc
+alike c (command.Commute Rows d w) t = cc
+alike c d t = cc
+
+-- the first word of a line is that of the command
+first_of_line : (words : List Word) (c : Command) → IsLineOf words c → (rest : List Word) × (words ≡ (command_row c).0 ∷ rest)
+first_of_line words (command.Chain z) l = (map argument_word (map state l.0), l.2)
+first_of_line words c l = (map argument_word (command_row c).1, l)
+
+-- commands of one line have one first word
+alike_of_line : (words : List Word) (c d : Command) → IsLineOf words c → IsLineOf words d → AreAlike c d
+alike_of_line words c d l m =
+    let first = first_of_line words c l in
+    let other = first_of_line words d m in
+    let whole : (command_row c).0 ∷ first.0 ≡ (command_row d).0 ∷ other.0 = sym first.1 ∙ other.1 in
+    alike c d (same_is_word (command_row c).0 (command_row d).0 (cons-head (command_row c).0 (command_row d).0 first.0 other.0 whole))
+
+-- the states of one list of words are one list
+same_states : (x y : List (List ℕ)) → map state_word x ≡ map state_word y → x ≡ y
+same_states [] [] e = refl
+same_states [] (b ∷ y) e = cc
+same_states (a ∷ x) [] e = cc
+same_states (a ∷ x) (b ∷ y) e =
+    let heads : state_word a ≡ state_word b = cc in
+    let tails : map state_word x ≡ map state_word y = cc in
+    (λ i. state_word_injective a b heads i ∷ same_states x y tails i)
+
+-- a line is that of one command
+pub one_command : (s : GridScript) → IsScript s → (words : List Word) (c d : Command) → IsLineOf words c
+    → IsAllowed (grid_in_force s) c → IsLineOf words d → IsAllowed (grid_in_force s) d → c ≡ d
+one_command s h words (command.Class v) (command.Class w) l a m b =
+    ap command.Class (sign_apart v w (same_is_word _ _ (second_word (sym l ∙ m))))
+one_command s h words (command.Border x) (command.Border y) l a m b =
+    ap command.Border (state_word_injective x y (second_word (sym l ∙ m)))
+one_command s h words (command.Turn v) (command.Turn w) l a m b =
+    ap command.Turn (side_apart v w (same_is_word _ _ (second_word (sym l ∙ m))))
+one_command s h words (command.Chain z) (command.Chain w) l a m b =
+    let same = same_states l.0 m.0 (cons-tail _ _ _ _ (sym (chain_words l.0) ∙ sym l.2 ∙ m.2 ∙ chain_words m.0)) in
+    ap command.Chain (same_chain m.0 z w (subst (λ x. IsPermutation x z) same l.1) m.1 a.1 b.1)
+one_command s h words (command.Commute i c v) (command.Commute j d w) l a m b =
+    let whole : axis_word i ∷ decimal c ∷ corner_word v ∷ [] ≡ axis_word j ∷ decimal d ∷ corner_word w ∷ [] = sym l ∙ m in
+    let small = n-small s h in
+    let below = a.0 in
+    let below' = b.0 in
+    let axis = axis_apart i j (same_is_word _ _ (cons-head _ _ _ _ whole)) in
+    let number = decimal_injective c d (omega arith) (omega arith) (second_word whole) in
+    let corner = corner_apart v w (same_is_word _ _ (third_word whole)) in
+    (λ k. command.Commute (axis k) (number k) (corner k))
+one_command s h words c d l a m b = alike_of_line words c d l m

@@ -1,0 +1,225 @@
+-- The plain form is read back. Its lines and words are those that were written, and each line is allowed
+-- where it stands.
+use Rattle.std.proofs.Common.{◌≡◌, ◌≢◌, ℕ, ◌+◌, ◌<◌, ◌≤◌, Bool, true, false, ◌&&◌, true≢false, cond, List, [], ◌∷◌, ◌++◌, length, map, codes, refl, ap, subst, ◌∙◌, sym, arith, inl, inr, append_assoc, length-append}
+use Rattle.std.specs.Prelude.{nat_le}
+use Rattle.std.specs.List.{filter, flat_map}
+use Rattle.std.proofs.lemmas.List.Sorted.{IsPermutation-refl}
+use Rattle.std.specs.Fmt.{decimal}
+use Rattle.std.proofs.lemmas.Bool.{ne_eqb}
+use Rattle.std.proofs.lemmas.Fmt.{decimal_digit}
+use Rattle.state_rank.proofs.MemberLemmas.{member_head, member_tail}
+use Rattle.std.specs.List.{Contains}
+use Rattle.torus_geom.specs.Marks.{Marks, size}
+use Rattle.grid_moves.specs.declared.turns.Side.{Side}
+use Rattle.grid_moves.specs.declared.turns.Side.TheVariants.{Left, Right, Up, Down}
+use Rattle.grid_text.specs.Words.{Word, parts, before_parts, is_space, is_filled, lines_of, words_of, state_word}
+use Rattle.grid_text.specs.PlainForm.{after_space, line_of, command_line, plain_form}
+use Rattle.pentagon_map.specs.declared.Corner.{Corner}
+use Rattle.pentagon_map.specs.declared.Corner.TheVariants.{Over, Under}
+use Rattle.grid_moves.specs.declared.commutations.Axis.TheVariants.{Cols, Rows}
+use Rattle.grid_text.specs.declared.commands.Sign.{Sign}
+use Rattle.grid_text.specs.declared.commands.Sign.TheVariants.{Plus, Minus}
+use Rattle.grid_text.specs.declared.commands.Command.TheVariants as command
+use Rattle.grid_text.specs.Limits.{max_commands}
+use Rattle.grid_text.specs.Script.{GridScript, IsScript, AreAllowed, grid_after_all}
+use Rattle.grid_text.specs.Document.{head, o_line, x_line, body, ended, end_word, Path, IsDocument}
+use Rattle.grid_text.proofs.Lines.KindLemmas.{IsGood, AreGood}
+use Rattle.grid_text.proofs.Lines.CommandLemmas.{arguments-allowed}
+use Rattle.grid_text.proofs.Lines.ScriptLemmas.{IsGridOf-grid_in_force, IsScript-with_command, IsScript-no_command, grid_after_all-push}
+use Rattle.grid_text.proofs.States.RepeatedLemmas.{below-IsBijection}
+use Rattle.grid_text.specs.Commands.{sign_word, side_word, corner_word, Argument, sign, side, corner, number, state, argument_word, command_row, command_words, IsLineOf}
+use Rattle.grid_text.specs.declared.commands.Command.{Command}
+use Rattle.std.specs.List.{list_all}
+use Rattle.std.proofs.lemmas.Bool.Decides.{nat_tests}
+use Rattle.std.proofs.lemmas.List.{length-map, append-nil}
+
+-- bytes that end neither a line nor a word
+abbrev pub IsClean : List ℕ → Type 0
+IsClean [] = Unit {0}
+IsClean (b ∷ bytes) = (b ≢ 10) × (b ≢ 32) × IsClean bytes
+
+-- clean bytes, and some
+abbrev pub IsPlainWord : Word → Type 0
+IsPlainWord w = IsClean w × (0 < length w)
+
+abbrev pub ArePlainWords : List Word → Type 0
+ArePlainWords [] = Unit {0}
+ArePlainWords (w ∷ words) = IsPlainWord w × ArePlainWords words
+
+-- no line feed
+abbrev IsOneLine : List ℕ → Type 0
+IsOneLine [] = Unit {0}
+IsOneLine (b ∷ bytes) = (b ≢ 10) × IsOneLine bytes
+
+one_line-clean : (w : List ℕ) → IsClean w → IsOneLine w
+one_line-clean [] h = tt
+one_line-clean (b ∷ w) h = (h.0, one_line-clean w h.2)
+
+one_line-append : (v w : List ℕ) → IsOneLine v → IsOneLine w → IsOneLine (v ++ w)
+one_line-append [] w h k = k
+one_line-append (b ∷ v) w h k = (h.0, one_line-append v w h.1 k)
+
+one_line-after_space : (words : List Word) → ArePlainWords words → IsOneLine (after_space words)
+one_line-after_space [] h = tt
+one_line-after_space (w ∷ words) h = ((λ e. omega (arith, e)), one_line-append w (after_space words) (one_line-clean w h.0.0) (one_line-after_space words h.1))
+
+-- the first line of a text
+lines_of-line : (l rest : List ℕ) → IsOneLine l → lines_of (l ++ 10 ∷ rest) ≡ l ∷ lines_of rest
+lines_of-line [] rest h = refl
+lines_of-line (b ∷ l) rest h =
+    ap (λ t. cond t ([] ∷ lines_of (l ++ 10 ∷ rest)) (before_parts b (lines_of (l ++ 10 ∷ rest)))) (ne_eqb b 10 h.0) ∙ ap (before_parts b) (lines_of-line l rest h.1)
+
+-- the first word of a line
+parts-word : (w rest : List ℕ) → IsClean w → parts is_space (w ++ 32 ∷ rest) ≡ w ∷ parts is_space rest
+parts-word [] rest h = refl
+parts-word (b ∷ w) rest h =
+    ap (λ t. cond t ([] ∷ parts is_space (w ++ 32 ∷ rest)) (before_parts b (parts is_space (w ++ 32 ∷ rest)))) (ne_eqb b 32 h.1) ∙ ap (before_parts b) (parts-word w rest h.2)
+
+-- the last one
+parts-last : (w : List ℕ) → IsClean w → 0 < length w → parts is_space (w ++ []) ≡ w ∷ []
+parts-last [] h some = absurd (omega arith)
+parts-last (b ∷ []) h some = ap (λ t. cond t ([] ∷ []) ((b ∷ []) ∷ [])) (ne_eqb b 32 h.1)
+parts-last (b ∷ c ∷ w) h some =
+    ap (λ t. cond t ([] ∷ parts is_space ((c ∷ w) ++ [])) (before_parts b (parts is_space ((c ∷ w) ++ [])))) (ne_eqb b 32 h.1) ∙ ap (before_parts b) (parts-last (c ∷ w) h.2 (omega arith))
+
+-- all words
+parts-words : (w : Word) (words : List Word) → IsPlainWord w → ArePlainWords words → parts is_space (w ++ after_space words) ≡ w ∷ words
+parts-words w [] h k = parts-last w h.0 h.1
+parts-words w (v ∷ words) h k = parts-word w (v ++ after_space words) h.0 ∙ ap (λ ps. w ∷ ps) (parts-words v words k.0 k.1)
+
+filled : (words : List Word) → ArePlainWords words → filter is_filled words ≡ words
+filled [] h = refl
+filled ([] ∷ words) h = absurd (omega (arith, h.0.1))
+filled ((b ∷ w) ∷ words) h = ap (λ ws. (b ∷ w) ∷ ws) (filled words h.1)
+
+-- the lines of a text that begins with a plain line
+pub lines-plain : (w : Word) (words : List Word) (rest : List ℕ) → IsPlainWord w → ArePlainWords words → map words_of (lines_of (line_of (w ∷ words) ++ rest)) ≡ (w ∷ words) ∷ map words_of (lines_of rest)
+lines-plain w words rest h k =
+    ap (λ t. map words_of (lines_of t)) (append_assoc (w ++ after_space words) (10 ∷ []) rest)
+    ∙ ap (map words_of) (lines_of-line (w ++ after_space words) rest (one_line-append w (after_space words) (one_line-clean w h.0) (one_line-after_space words k)))
+    ∙ ap (λ l. l ∷ map words_of (lines_of rest)) (ap (filter is_filled) (parts-words w words h k) ∙ filled (w ∷ words) (h, k))
+
+-- ---- the words that are written
+
+plain_decimal : (n : ℕ) → n < 10 → IsPlainWord (decimal n)
+plain_decimal n small = subst IsPlainWord (sym (decimal_digit n small)) (((λ e. omega (arith, e)), (λ e. omega (arith, e)), tt), omega arith)
+
+plain_decimals : (rows : List ℕ) → ((r : ℕ) → Contains rows r → r < 10) → ArePlainWords (map decimal rows)
+plain_decimals [] small = tt
+plain_decimals (r ∷ rows) small = (plain_decimal r (small r (member_head r rows)), plain_decimals rows (λ q m. small q (member_tail r rows q m)))
+
+clean_state : (x : List ℕ) → IsClean (state_word x)
+clean_state [] = tt
+clean_state (r ∷ x) = ((λ e. omega (arith, e)), (λ e. omega (arith, e)), clean_state x)
+
+other_byte : (b : ℕ) → 33 ≤ b → (b ≢ 10) × (b ≢ 32)
+other_byte b high = ((λ e. omega (arith, e)), (λ e. omega (arith, e)))
+
+clean_high : (w : List ℕ) → list_all (λ b. nat_le 33 b) w ≡ true → IsClean w
+clean_high [] e = tt
+clean_high (b ∷ w) e =
+    let here : nat_le 33 b ≡ true = (and_parts (nat_le 33 b) (list_all (λ b. nat_le 33 b) w) e).0 in
+    let high : 33 ≤ b = grind (arith, nat_tests) in
+    let other = other_byte b high in
+    (other.0, other.1, clean_high w (and_parts (nat_le 33 b) (list_all (λ b. nat_le 33 b) w) e).1)
+  where
+    and_parts : (a b : Bool) → (a && b) ≡ true → (a ≡ true) × (b ≡ true)
+    and_parts true b e = (refl, e)
+    and_parts false b e = absurd (true≢false (sym e))
+
+closed : (w : Word) → list_all (λ b. nat_le 33 b) w ≡ true → 0 < length w → IsPlainWord w
+closed w e some = (clean_high w e, some)
+
+plain_sign : (v : Sign) → IsPlainWord (sign_word v)
+plain_sign Plus = closed (codes "+") refl (omega arith)
+plain_sign Minus = closed (codes "-") refl (omega arith)
+
+plain_side : (v : Side) → IsPlainWord (side_word v)
+plain_side Left = closed (codes "left") refl (omega arith)
+plain_side Right = closed (codes "right") refl (omega arith)
+plain_side Up = closed (codes "up") refl (omega arith)
+plain_side Down = closed (codes "down") refl (omega arith)
+
+plain_corner : (v : Corner) → IsPlainWord (corner_word v)
+plain_corner Over = closed (codes "over") refl (omega arith)
+plain_corner Under = closed (codes "under") refl (omega arith)
+
+-- the words of good arguments
+plain_arguments : (n : ℕ) (arguments : List Argument) → 0 < n → n < 11 → AreGood n arguments → ArePlainWords (map argument_word arguments)
+plain_arguments n [] some few h = tt
+plain_arguments n (a ∷ arguments) some few h = (plain a h.0, plain_arguments n arguments some few h.1)
+  where
+    plain : (a : Argument) → IsGood n a → IsPlainWord (argument_word a)
+    plain (sign v) k = plain_sign v
+    plain (side v) k = plain_side v
+    plain (corner v) k = plain_corner v
+    plain (number c) k = plain_decimal c (omega (arith, k, few))
+    plain (state x) k = let long = k.long in (clean_state x, omega (arith, some, long, length-map x (λ (q : ℕ). 48 + q)))
+
+-- the first word of a command
+plain_first : (c : Command) → IsPlainWord (command_row c).0
+plain_first (command.Commute Cols c v) = closed (codes "cols") refl (omega arith)
+plain_first (command.Commute Rows c v) = closed (codes "rows") refl (omega arith)
+plain_first c = closed (command_row c).0 refl (omega arith)
+
+-- the words of a line that is written are those of the command
+line-written : (c : Command) → IsLineOf (command_words c) c
+line-written (command.Chain z) = (z, IsPermutation-refl z, refl)
+line-written c = refl
+
+-- the lines of the commands and `end` lead on from the commands before them
+commands-path : (g : Marks) (done later : List Command) → IsScript (record { grid = g; commands = done }) → AreAllowed (grid_after_all g done) later → length done + length later ≤ max_commands
+    → Path (body (record { grid = g; commands = done })) (map words_of (lines_of (flat_map command_line later ++ line_of (end_word ∷ [])))) (ended (record { grid = g; commands = done ++ later }))
+commands-path g done [] h all few = (ended (record { grid = g; commands = done }), inl (refl, refl), ap (λ cs. ended (record { grid = g; commands = cs })) (sym (append-nil done)))
+commands-path g done (c ∷ later) h all few =
+    let s : GridScript = record { grid = g; commands = done } in
+    let in_force = IsGridOf-grid_in_force s h in
+    let most = h.grid.is_size.greatest in
+    let same = in_force.same_size in
+    let words = map argument_word (command_row c).1 in
+    let least = h.grid.is_size.least in
+    let plain = plain_arguments (size (grid_after_all g done)) (command_row c).1 (omega arith) (omega arith) (arguments-allowed (grid_after_all g done) c all.0) in
+    let room : length done < max_commands = omega arith in
+    let rest = commands-path g (done ++ c ∷ []) later (IsScript-with_command s c h room all.0)
+    (subst (λ f. AreAllowed f later) (sym (grid_after_all-push g done c)) all.1) (omega (arith, length-append done (c ∷ []))) in
+    let lines = ap (λ t. map words_of (lines_of t)) (append_assoc (command_line c) (flat_map command_line later) (line_of (end_word ∷ [])))
+    ∙ lines-plain (command_row c).0 words (flat_map command_line later ++ line_of (end_word ∷ [])) (plain_first c) plain in
+    subst (λ ls. Path (body s) ls (ended (record { grid = g; commands = done ++ c ∷ later }))) (sym lines) (
+      body (record { grid = g; commands = done ++ c ∷ [] }),
+      inr (c, line-written c, all.0, room, refl),
+      subst (λ cs. Path (body (record { grid = g; commands = done ++ c ∷ [] })) (map words_of (lines_of (flat_map command_line later ++ line_of (end_word ∷ [])))) (ended (record { grid = g; commands = cs }))) (append_assoc done (c ∷ []) later) rest,
+    )
+
+-- the plain form of a script is a document of it
+pub IsDocument-plain_form : (s : GridScript) → IsScript s → IsDocument (plain_form s) s
+unfolding plain_form
+IsDocument-plain_form s h =
+    let n = size s.grid in
+    let most = h.grid.is_size.greatest in
+    let o = s.grid.o in
+    let x = s.grid.x in
+    let tail = flat_map command_line s.commands ++ line_of (end_word ∷ []) in
+    let l1 = line_of (codes "grid" ∷ decimal n ∷ []) in
+    let l2 = line_of (codes "O" ∷ map decimal o) in
+    let l3 = line_of (codes "X" ∷ map decimal x) in
+    let whole : plain_form s ≡ l1 ++ (l2 ++ (l3 ++ tail)) =
+    append_assoc (l1 ++ l2 ++ l3) (flat_map command_line s.commands) (line_of (end_word ∷ [])) ∙ append_assoc (l1 ++ l2) l3 tail ∙ append_assoc l1 l2 (l3 ++ tail) in
+    let plain_o = plain_decimals o (λ r m. let b = below-IsBijection n o h.grid.o r m in omega arith) in
+    let plain_x = plain_decimals x (λ r m. let b = below-IsBijection n x h.grid.x r m in omega arith) in
+    let lines = ap (λ t. map words_of (lines_of t)) whole
+    ∙ lines-plain (codes "grid") (decimal n ∷ []) (l2 ++ (l3 ++ tail)) (closed (codes "grid") refl (omega arith)) (plain_decimal n (omega arith), tt)
+    ∙ ap (λ ls. (codes "grid" ∷ decimal n ∷ []) ∷ ls) (lines-plain (codes "O") (map decimal o) (l3 ++ tail) (closed (codes "O") refl (omega arith)) plain_o
+    ∙ ap (λ ls. (codes "O" ∷ map decimal o) ∷ ls) (lines-plain (codes "X") (map decimal x) tail (closed (codes "X") refl (omega arith)) plain_x)) in
+    subst (λ ls. Path head ls (ended s)) (sym lines) (
+      o_line n,
+      (n, h.grid.is_size, refl, refl),
+      (
+        x_line n o,
+        (o, h.grid.o, refl, refl),
+        (
+          body (record { grid = s.grid; commands = [] }),
+          (x, h.grid.x, h.grid.apart, refl, refl),
+          commands-path s.grid [] s.commands (IsScript-no_command s.grid h.grid) h.allowed (omega (arith, h.few)),
+        ),
+      ),
+    )

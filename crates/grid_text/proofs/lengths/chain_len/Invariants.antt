@@ -1,8 +1,0 @@
--- the bytes of the states so far
-use Rattle.std.proofs.Common.{◌≡◌, ◌≤◌, ◌+◌, ◌*◌, take, map, length}
-use Rattle.grid_text.specs.Words.{state_word}
-use Rattle.grid_text.specs.PlainForm.{after_space}
-use Rattle.grid_text.proofs.lengths.chain_len.Given as goal
-
-abbrev pub invariant-loop-x : goal.invariant-loop-x
-invariant-loop-x l = (l.count ≡ 6 + length (after_space (map state_word (take l.x-index l.states)))) × (l.count ≤ 6 + 10 * l.x-index)

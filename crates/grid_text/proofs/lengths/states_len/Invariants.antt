@@ -1,0 +1,8 @@
+-- the bytes of the states so far
+use Rattle.std.proofs.Common.{◌≡◌, ◌≤◌, ◌*◌, take, map, length}
+use Rattle.grid_text.specs.Words.{state_word}
+use Rattle.grid_text.specs.PlainForm.{after_space}
+use Rattle.grid_text.proofs.lengths.states_len.Given as goal
+
+abbrev pub invariant-loop-x : goal.invariant-loop-x
+invariant-loop-x l = (l.count ≡ length (after_space (map state_word (take l.x-index l.states)))) × (l.count ≤ 10 * l.x-index)

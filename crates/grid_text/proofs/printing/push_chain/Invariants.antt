@@ -1,8 +1,0 @@
--- the states so far
-use Rattle.std.proofs.Common.{◌≡◌, ◌++◌, take, map}
-use Rattle.grid_text.specs.Words.{state_word}
-use Rattle.grid_text.specs.PlainForm.{after_space}
-use Rattle.grid_text.proofs.printing.push_chain.Given as goal
-
-abbrev pub invariant-loop-x : goal.invariant-loop-x
-invariant-loop-x l = l.text.items ≡ l.initial.text.items ++ after_space (map state_word (take l.x-index l.states))

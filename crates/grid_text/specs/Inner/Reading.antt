@@ -1,0 +1,91 @@
+-- What the parts of the reader of documents say of lines.
+--     example k          a command whose lines begin with the keyword, but for `end`
+--     keywords           all keywords
+--     keyword_word k     the word of a keyword
+--     keyword_form n k   the form of the lines that begin with it, for a grid of size n
+--     stands_alone k     no word may follow the keyword
+--     IsPlace p          what is known of a place that lines lead to
+--     IsRead s words r   what a line of the body of a script is: a command that may stand there, or `end`,
+--                        or a line with a fault before `TooMany`
+--     IsRowPlace letter n p, AreNumerals n rows words   what O and X lines share
+use Rattle.std.specs.Prelude.{◌≡◌, ℕ, ◌<◌, Bool, true, false, List, [], ◌∷◌, map}
+use Rattle.std.specs.List.{All}
+use Rattle.std.specs.Fmt.{decimal}
+use Rattle.std.specs.Option.{option_map_or}
+use Rattle.std.specs.declared.option.Option.{Option}
+use Rattle.std.specs.declared.option.Option.TheVariants.{None, Some}
+use Rattle.std.specs.declared.result.Result.{Result}
+use Rattle.std.specs.declared.result.Result.TheVariants.{Ok, Err}
+use Rattle.state_rank.specs.Bijection.{IsSize, IsBijection}
+use Rattle.grid_text.specs.Words.{Word}
+use Rattle.grid_text.specs.Commands.{command_row, IsLineOf, IsAllowed}
+use Rattle.grid_text.specs.Script.{GridScript, IsScript, grid_in_force}
+use Rattle.grid_text.specs.Document.{Place, head, o_line, x_line, body, ended, end_word}
+use Rattle.grid_text.specs.Faults.{Form, exactly, form_of, is_after_end, form_at, form_among, row_form, is_not_permutation, has_repeated, fault_at}
+use Rattle.grid_text.specs.declared.commands.Command.{Command}
+use Rattle.grid_text.specs.declared.commands.Command.TheVariants as command
+use Rattle.grid_text.specs.declared.commands.Sign.TheVariants.{Plus}
+use Rattle.grid_moves.specs.declared.turns.Side.TheVariants.{Left}
+use Rattle.grid_moves.specs.declared.commutations.Axis.TheVariants.{Cols, Rows}
+use Rattle.pentagon_map.specs.declared.Corner.TheVariants.{Over}
+use Rattle.grid_text.specs.declared.faults.TextFault.{TextFault}
+use Rattle.grid_text.specs.declared.keywords.Keyword.{Keyword}
+use Rattle.grid_text.specs.declared.keywords.Keyword.TheVariants as keyword
+
+abbrev pub example : Keyword → Option Command
+example keyword.Front = Some command.Front
+example keyword.Ranks = Some command.Ranks
+example keyword.Hat = Some command.Hat
+example keyword.Class = Some (command.Class Plus)
+example keyword.Border = Some (command.Border [])
+example keyword.Chain = Some (command.Chain [])
+example keyword.Show = Some command.Show
+example keyword.Bounds = Some command.Bounds
+example keyword.Turn = Some (command.Turn Left)
+example keyword.Cols = Some (command.Commute Cols 0 Over)
+example keyword.Rows = Some (command.Commute Rows 0 Over)
+example keyword.End = None
+
+abbrev pub keywords : List Keyword
+keywords =
+    keyword.Front ∷ keyword.Ranks ∷ keyword.Hat ∷ keyword.Class ∷ keyword.Border ∷ keyword.Chain ∷ keyword.Show
+    ∷ keyword.Bounds ∷ keyword.Turn ∷ keyword.Cols ∷ keyword.Rows ∷ keyword.End ∷ []
+
+abbrev pub keyword_word : Keyword → Word
+keyword_word k = option_map_or (λ c. (command_row c).0) (example k) end_word
+
+abbrev pub keyword_form : ℕ → Keyword → Form
+keyword_form n k = option_map_or (form_of n) (example k) (exactly [])
+
+abbrev pub is_empty_form : Form → Bool
+is_empty_form (exactly []) = true
+is_empty_form form = false
+
+abbrev pub stands_alone : Keyword → Bool
+stands_alone k = is_empty_form (keyword_form 0 k)
+
+abbrev pub IsPlace : Place → Type 0
+IsPlace head = Unit {0}
+IsPlace (o_line n) = IsSize n
+IsPlace (x_line n o) = IsSize n × IsBijection n o
+IsPlace (body s) = IsScript s
+IsPlace (ended s) = IsScript s
+
+abbrev pub IsReadLine : GridScript → List Word → Option Command → Type 0
+IsReadLine s words None = words ≡ end_word ∷ []
+IsReadLine s words (Some c) = IsLineOf words c × IsAllowed (grid_in_force s) c
+
+abbrev pub IsRead : GridScript → List Word → Result (Option Command) TextFault → Type 0
+IsRead s words (Ok line) = IsReadLine s words line
+IsRead s words (Err f) = fault_at (body s) words ≡ Some f
+
+-- a line of n rows that begins with the letter stands at the place
+pub record IsRowPlace (letter : Word) (n : ℕ) (p : Place) : Type 0 where
+  pub not_ended : is_after_end p ≡ false
+  pub form : (word : Word) → form_at p word ≡ form_among ((letter, row_form n) ∷ []) word
+  pub permutation : (arguments : List Word) → is_not_permutation p arguments ≡ has_repeated arguments
+
+-- the words are the decimal forms of rows below n
+pub record AreNumerals (n : ℕ) (rows : List ℕ) (words : List Word) : Type 0 where
+  pub forms : words ≡ map decimal rows
+  pub below : All (λ r. r < n) rows
