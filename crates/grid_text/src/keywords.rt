@@ -3,7 +3,7 @@ ghost use Rattle.std.specs.Prelude.{◌≡◌, true};
 ghost use Rattle.std.specs.List.{find};
 ghost use Rattle.grid_text.specs.Words.{is_word as is_word_of};
 ghost use Rattle.grid_text.specs.Commands.{command_row};
-ghost use Rattle.grid_text.specs.Inner.Reading.{keyword_word, keywords, example, stands_alone};
+ghost use Rattle.grid_text.specs.Inner.Reading.{keyword_word, example, stands_alone};
 
 use crate::commands::Command;
 use crate::words::is_word;
@@ -44,7 +44,7 @@ const KEYWORDS: [Keyword; 12] = [
 
 /// The keyword that the word is.
 pub(crate) fn read_keyword(word: &[u8]) -> Option<Keyword>
-    ensures { result ≡ find (λ k. is_word_of (keyword_word k) word.now) keywords }
+    ensures { result ≡ find (λ k. is_word_of (keyword_word k) word.now) KEYWORDS }
 {
     KEYWORDS
         .iter()

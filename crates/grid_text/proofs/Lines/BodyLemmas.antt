@@ -23,11 +23,12 @@ use Rattle.grid_text.specs.Commands.{sign_word, signs, side_word, sides, corner_
 use Rattle.grid_text.specs.Script.{GridScript, IsScript, grid_in_force}
 use Rattle.grid_text.specs.Document.{body}
 use Rattle.grid_text.specs.Faults.{Form, exactly, any_number_of, choice_of, number_between, state_of_size, is_bad, is_bad_by, is_bad_count, has_bad, form_at, has_repeated, fails_to_commute, is_not_commuting, fault_at}
-use Rattle.grid_text.specs.Inner.Reading.{example, keywords, keyword_word, keyword_form, stands_alone, IsReadLine, IsRead}
+use Rattle.grid_text.specs.Inner.Reading.{example, keyword_word, keyword_form, stands_alone, IsReadLine, IsRead}
 use Rattle.grid_text.specs.declared.commands.Sign.{Sign}
 use Rattle.grid_moves.specs.declared.turns.Side.{Side}
 use Rattle.grid_text.specs.declared.commands.Command.{Command}
 use Rattle.grid_text.specs.declared.commands.Command.TheVariants as command
+use Rattle.grid_text.specs.declared.keywords.TheConstants.{KEYWORDS}
 use Rattle.grid_text.specs.declared.keywords.Keyword.{Keyword}
 use Rattle.grid_text.specs.declared.keywords.Keyword.TheVariants as keyword
 use Rattle.grid_text.specs.declared.faults.TextFault.{TextFault}
@@ -50,7 +51,7 @@ fault_at-empty s words none = ap (fault_at (body s)) none ∙ fault_at-no_word (
 
 -- a word that is no keyword
 pub unknown-read : (s : GridScript) (words : List (Bor (List ℕ))) (d : Bor (List ℕ)) (r : Option Keyword) → 1 ≤ length words
-    → r ≡ find (λ k. is_word (keyword_word k) (get_or words 0 d).now) keywords → r ≡ None → fault_at (body s) (seen words) ≡ Some fault.BadWord
+    → r ≡ find (λ k. is_word (keyword_word k) (get_or words 0 d).now) KEYWORDS → r ≡ None → fault_at (body s) (seen words) ≡ Some fault.BadWord
 unknown-read s words d r some is none =
     ap (fault_at (body s)) (seen-parts words d some)
     ∙ fault_at-bad_word (body s) (get_or words 0 d).now (seen (take (length words - 1) (drop 1 words))) refl
@@ -58,11 +59,11 @@ unknown-read s words d r some is none =
 
 -- a keyword
 pub keyword-first : (words : List (Bor (List ℕ))) (d : Bor (List ℕ)) (r : Option Keyword) (k : Keyword) → 1 ≤ length words
-    → r ≡ find (λ j. is_word (keyword_word j) (get_or words 0 d).now) keywords → r ≡ Some k
+    → r ≡ find (λ j. is_word (keyword_word j) (get_or words 0 d).now) KEYWORDS → r ≡ Some k
     → seen words ≡ keyword_word k ∷ seen (take (length words - 1) (drop 1 words))
 keyword-first words d r k some is found =
     seen-parts words d some
-    ∙ ap (λ w. w ∷ seen (take (length words - 1) (drop 1 words))) (word-find keyword_word keywords (get_or words 0 d).now k (sym is ∙ found))
+    ∙ ap (λ w. w ∷ seen (take (length words - 1) (drop 1 words))) (word-find keyword_word KEYWORDS (get_or words 0 d).now k (sym is ∙ found))
 
 -- what is read at a keyword
 pub key-read : (s : GridScript) (k key : Keyword) (words : List Word) (r : Result (Option Command) TextFault) → k ≡ key

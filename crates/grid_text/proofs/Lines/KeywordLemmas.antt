@@ -12,9 +12,10 @@ use Rattle.grid_text.specs.Commands.{command_row, axis_word}
 use Rattle.grid_text.specs.Script.{GridScript, grid_in_force}
 use Rattle.grid_text.specs.Document.{body, end_word}
 use Rattle.grid_text.specs.Faults.{Form, exactly, form_of, form_among, form_at, body_forms}
-use Rattle.grid_text.specs.Inner.Reading.{keywords, keyword_word, keyword_form, stands_alone}
+use Rattle.grid_text.specs.Inner.Reading.{keyword_word, keyword_form, stands_alone}
 use Rattle.grid_text.specs.declared.commands.Command.{Command}
 use Rattle.grid_text.specs.declared.commands.Command.TheVariants as command
+use Rattle.grid_text.specs.declared.keywords.TheConstants.{KEYWORDS}
 use Rattle.grid_text.specs.declared.keywords.Keyword.{Keyword}
 use Rattle.grid_text.specs.declared.keywords.Keyword.TheVariants as keyword
 use Rattle.grid_text.proofs.Lines.KindLemmas.{word-find}
@@ -35,17 +36,17 @@ form_among-none n (k ∷ ks) word e = elim (cases_Bool (is_word (keyword_word k)
 ]
 
 -- a word that is no keyword is unknown to the table
-pub unknown_word : (n : ℕ) (word : Word) → find (λ k. is_word (keyword_word k) word) keywords ≡ None → form_among (body_forms n) word ≡ None
-unknown_word n word none = form_among-none n keywords word none
+pub unknown_word : (n : ℕ) (word : Word) → find (λ k. is_word (keyword_word k) word) KEYWORDS ≡ None → form_among (body_forms n) word ≡ None
+unknown_word n word none = form_among-none n KEYWORDS word none
 
 -- a word is a keyword, or the table does not know it
 pub keyword_cases : (n : ℕ) (word : Word) → ((k : Keyword) × (word ≡ keyword_word k)) ⊎ (form_among (body_forms n) word ≡ None)
-keyword_cases n word = by (find (λ k. is_word (keyword_word k) word) keywords) refl
+keyword_cases n word = by (find (λ k. is_word (keyword_word k) word) KEYWORDS) refl
   where
-    by : (o : Option Keyword) → find (λ k. is_word (keyword_word k) word) keywords ≡ o
+    by : (o : Option Keyword) → find (λ k. is_word (keyword_word k) word) KEYWORDS ≡ o
         → ((k : Keyword) × (word ≡ keyword_word k)) ⊎ (form_among (body_forms n) word ≡ None)
     by None e = inr (unknown_word n word e)
-    by (Some k) e = inl (k, word-find keyword_word keywords word k e)
+    by (Some k) e = inl (k, word-find keyword_word KEYWORDS word k e)
 
 -- the form of a keyword is that of the table
 pub form_at-keyword : (s : GridScript) (k : Keyword) → form_at (body s) (keyword_word k) ≡ Some (keyword_form (size (grid_in_force s)) k)

@@ -41,19 +41,12 @@ IsGridOf-swapped Rows n g c h below =
 
 -- the grid after a command is one of the same size
 pub IsGridOf-grid_after : (n : ℕ) (g : Marks) (c : Command) → IsGridOf n g → IsAllowed g c → IsGridOf n (grid_after g c)
-IsGridOf-grid_after n g command.Front h a = h
-IsGridOf-grid_after n g command.Ranks h a = h
-IsGridOf-grid_after n g command.Hat h a = h
-IsGridOf-grid_after n g (command.Class sign) h a = h
-IsGridOf-grid_after n g (command.Border x) h a = h
-IsGridOf-grid_after n g (command.Chain z) h a = h
-IsGridOf-grid_after n g command.Show h a = h
-IsGridOf-grid_after n g command.Bounds h a = h
 IsGridOf-grid_after n g (command.Turn side) h a = record {
   grid = IsGrid-turned side g h.grid;
   same_size = length-turned_rows side (size g) g.o ∙ h.same_size;
 }
 IsGridOf-grid_after n g (command.Commute axis c corner) h a = IsGridOf-swapped axis n g c h a.0
+IsGridOf-grid_after n g c h a = h
 
 -- the grid in force after one more command
 pub grid_after_all-push : (g : Marks) (commands : List Command) (c : Command) → grid_after_all g (commands ++ c ∷ []) ≡ grid_after (grid_after_all g commands) c

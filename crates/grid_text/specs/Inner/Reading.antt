@@ -1,6 +1,5 @@
 -- What the parts of the reader of documents say of lines.
 --     example k          a command whose lines begin with the keyword, but for `end`
---     keywords           all keywords
 --     keyword_word k     the word of a keyword
 --     keyword_form n k   the form of the lines that begin with it, for a grid of size n
 --     stands_alone k     no word may follow the keyword
@@ -45,11 +44,6 @@ example keyword.Turn = Some (command.Turn Left)
 example keyword.Cols = Some (command.Commute Cols 0 Over)
 example keyword.Rows = Some (command.Commute Rows 0 Over)
 example keyword.End = None
-
-abbrev pub keywords : List Keyword
-keywords =
-    keyword.Front ∷ keyword.Ranks ∷ keyword.Hat ∷ keyword.Class ∷ keyword.Border ∷ keyword.Chain ∷ keyword.Show
-    ∷ keyword.Bounds ∷ keyword.Turn ∷ keyword.Cols ∷ keyword.Rows ∷ keyword.End ∷ []
 
 abbrev pub keyword_word : Keyword → Word
 keyword_word k = option_map_or (λ c. (command_row c).0) (example k) end_word
