@@ -14,7 +14,7 @@ use Rattle.std.specs.Prelude.{◌≡◌, ℕ, ◌<◌, true, List, [], ◌∷◌
 use Rattle.std.specs.List.{All}
 use Rattle.std.specs.List.Sorted.{IsPermutation}
 use Rattle.std.specs.Fmt.{decimal}
-use Rattle.state_rank.specs.States.{IsState}
+use Rattle.state_rank.specs.States.{IsState, state_word}
 use Rattle.torus_geom.specs.Marks.{Marks, size}
 use Rattle.grid_moves.specs.Moves.{turned, are_commuting, swapped}
 use Rattle.grid_moves.specs.declared.turns.Side.{Side}
@@ -23,7 +23,7 @@ use Rattle.grid_moves.specs.declared.commutations.Axis.{Axis}
 use Rattle.grid_moves.specs.declared.commutations.Axis.TheVariants.{Cols, Rows}
 use Rattle.pentagon_map.specs.declared.Corner.{Corner}
 use Rattle.pentagon_map.specs.declared.Corner.TheVariants.{Over, Under}
-use Rattle.grid_text.specs.Words.{Word, state_word}
+use Rattle.grid_text.specs.Words.{Word}
 use Rattle.grid_text.specs.States.{AreAscending}
 use Rattle.grid_text.specs.declared.commands.Sign.{Sign}
 use Rattle.grid_text.specs.declared.commands.Sign.TheVariants.{Plus, Minus}

@@ -17,7 +17,6 @@ use Rattle.std.specs.declared.option.Option.TheVariants.{None, Some}
 use Rattle.std.specs.List.{list_any, zip}
 use Rattle.std.specs.Option.{option_map_or}
 use Rattle.std.specs.Fmt.{decimal}
-use Rattle.state_rank.specs.declared.TheConstants.{MAX_SIZE}
 use Rattle.torus_geom.specs.Marks.{Marks, size}
 use Rattle.grid_moves.specs.Moves.{are_commuting}
 use Rattle.grid_moves.specs.declared.turns.Side.TheVariants.{Left}
@@ -92,7 +91,7 @@ form_among [] word = None
 form_among (row ∷ rows) word = if is_word row.0 word then Some row.1 else form_among rows word
 
 abbrev pub form_at : Place → Word → Option Form
-form_at head word = form_among ((codes "grid", exactly (number_between 2 MAX_SIZE ∷ [])) ∷ []) word
+form_at head word = form_among ((codes "grid", exactly (number_between 2 9 ∷ [])) ∷ []) word
 form_at (o_line n) word = form_among ((codes "O", row_form n) ∷ []) word
 form_at (x_line n o) word = form_among ((codes "X", row_form n) ∷ []) word
 form_at (body s) word = form_among (body_forms (size (grid_in_force s))) word

@@ -1,4 +1,4 @@
--- The lines and words of a text, which is a list of bytes, and the words for numbers and states.
+-- The lines and words of a text, which is a list of bytes, and which number or state a word is.
 --     Word                   a list of bytes
 --     parts is_end bytes     the bytes up to each byte that ends a part, and where bytes follow the last such
 --                            byte, these as one more part
@@ -7,14 +7,13 @@
 --     words_of_lines text    the words of each line, in order
 --     is_word v w            the two words are the same
 --     numeral low high word  the number from low to high whose decimal form the word is, if there is one
---     state_word x           the rows of a state as digits, with nothing between them
 --     state_of n word        the state of size n whose word it is, if there is one
-use Rattle.std.specs.Prelude.{ℕ, ◌+◌, ◌-◌, Bool, true, false, ◌&&◌, List, [], ◌∷◌, map, ◌==◌, if◌then◌else◌}
+use Rattle.std.specs.Prelude.{ℕ, ◌+◌, Bool, true, false, ◌&&◌, List, [], ◌∷◌, map, ◌==◌, if◌then◌else◌}
 use Rattle.std.specs.declared.option.Option.{Option}
 use Rattle.std.specs.List.{filter, find}
 use Rattle.std.specs.Fmt.{decimal}
-use Rattle.state_rank.specs.Bijection.{tabulate}
-use Rattle.state_rank.specs.States.{states}
+use Rattle.state_rank.specs.Bijection.{numbers}
+use Rattle.state_rank.specs.States.{states, state_word}
 
 abbrev pub Word : Type 0
 Word = List ℕ
@@ -52,14 +51,8 @@ is_word [] (c ∷ w) = false
 is_word (b ∷ v) [] = false
 is_word (b ∷ v) (c ∷ w) = (b == c) && is_word v w
 
-abbrev pub numbers_between : ℕ → ℕ → List ℕ
-numbers_between low high = tabulate (high + 1 - low) (λ i. low + i)
-
 unfoldable pub numeral : ℕ → ℕ → Word → Option ℕ
-numeral low high word = find (λ v. is_word (decimal v) word) (numbers_between low high)
-
-abbrev pub state_word : List ℕ → Word
-state_word x = map (λ r. 48 + r) x
+numeral low high word = find (λ v. is_word (decimal v) word) (numbers low (high + 1))
 
 unfoldable pub state_of : ℕ → Word → Option (List ℕ)
 state_of n word = find (λ x. is_word (state_word x) word) (states n)

@@ -1,8 +1,8 @@
 //! The lines of a body.
 ghost use Rattle.std.specs.Prelude.{◌≡◌, ℕ, true, ◌∷◌, map, IfOk, IfSome, IfNone};
 ghost use Rattle.std.specs.List.{list_any, All};
+ghost use Rattle.state_rank.specs.States.{state_word};
 ghost use Rattle.state_rank.specs.Bijection.{IsSize, IsBijection};
-ghost use Rattle.grid_text.specs.Words.{state_word};
 ghost use Rattle.grid_text.specs.Commands.{axis_word};
 ghost use Rattle.grid_text.specs.Script.{GridScript};
 ghost use Rattle.grid_text.specs.Faults.{state_of_size, is_bad};

@@ -1,6 +1,6 @@
 //! The numbers of bytes of plain forms.
 ghost use Rattle.std.specs.Prelude.{◌≡◌, ◌≤◌, ◌<◌, ◌^◌, ◌*◌, length, map, All};
-ghost use Rattle.grid_text.specs.Words.{state_word};
+ghost use Rattle.state_rank.specs.States.{state_word};
 ghost use Rattle.grid_text.specs.Commands.{argument_word, command_row};
 ghost use Rattle.grid_text.specs.PlainForm.{after_space, command_line, head_lines, plain_form};
 ghost use Rattle.grid_text.specs.Inner.Printing.{IsPrintable};

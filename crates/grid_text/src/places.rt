@@ -15,7 +15,7 @@ use crate::faults::TextFault;
 use crate::scripts::Script;
 use crate::words::{is_word, numeral};
 use grid_ports::NoMemory;
-use state_rank::{MAX_SIZE, State};
+use state_rank::{MAX_SIZE, ROOM, State};
 use std::alloc::Global;
 use torus_geom::Grid;
 
@@ -33,9 +33,6 @@ pub(crate) enum Place {
     /// After the end.
     Ended(Script),
 }
-
-/// The room for the rows of a grid of any size.
-const ROOM: usize = MAX_SIZE as usize;
 
 /// The place to which a line with these words leads, or its fault.
 pub(crate) fn next_place(

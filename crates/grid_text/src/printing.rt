@@ -2,8 +2,8 @@
 ghost use Rattle.std.specs.Prelude.{◌≡◌, ℕ, ◌<◌, ◌∷◌, ◌++◌, [], map, codes, All, IfOk, OnOk};
 ghost use Rattle.std.specs.List.{flat_map};
 ghost use Rattle.std.specs.Fmt.{decimal};
+ghost use Rattle.state_rank.specs.States.{state_word};
 ghost use Rattle.torus_geom.specs.Marks.{Marks};
-ghost use Rattle.grid_text.specs.Words.{state_word};
 ghost use Rattle.grid_text.specs.Commands.{corner_word, argument_word, command_row};
 ghost use Rattle.grid_text.specs.PlainForm.{after_space, command_line, head_lines, plain_form};
 ghost use Rattle.grid_text.specs.Script.{GridScript, IsScript};

@@ -1,12 +1,10 @@
 //! The words of states.
 ghost use Rattle.std.specs.Prelude.{◌≡◌, ◌≢◌, ℕ, ◌≤◌, List, length, take, IfSome, IfNone};
+ghost use Rattle.state_rank.specs.States.{state_word};
 ghost use Rattle.state_rank.specs.Bijection.{IsSize};
-ghost use Rattle.grid_text.specs.Words.{state_word, state_of};
+ghost use Rattle.grid_text.specs.Words.{state_of};
 
-use state_rank::{MAX_SIZE, State};
-
-/// The room for the rows of a state of any size.
-const ROOM: usize = MAX_SIZE as usize;
+use state_rank::{ROOM, State};
 
 /// The state of size `n` whose word it is.
 pub(crate) fn read_state(word: &[u8], n: u8) -> Option<State>

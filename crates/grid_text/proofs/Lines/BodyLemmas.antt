@@ -10,14 +10,14 @@ use Rattle.std.proofs.lemmas.List.{map-append}
 use Rattle.std.proofs.lemmas.List.Elements.{All-contains, All-push, All-weaker}
 use Rattle.std.proofs.lemmas.List.Sorted.{All-permutation, IsPermutation-sym, Contains-permutation}
 use Rattle.state_rank.specs.Bijection.{IsSize, IsBijection}
-use Rattle.state_rank.specs.States.{rank}
+use Rattle.state_rank.specs.States.{rank, state_word}
 use Rattle.torus_geom.specs.Marks.{Marks, size}
 use Rattle.grid_moves.specs.Moves.{are_commuting}
 use Rattle.grid_moves.specs.declared.commutations.Axis.{Axis}
 use Rattle.grid_moves.specs.declared.commutations.Axis.TheVariants.{Cols, Rows}
 use Rattle.pentagon_map.specs.declared.Corner.{Corner}
 use Rattle.grid_text.specs.Limits.{max_commands}
-use Rattle.grid_text.specs.Words.{Word, is_word, numeral, state_word, state_of}
+use Rattle.grid_text.specs.Words.{Word, is_word, numeral, state_of}
 use Rattle.grid_text.specs.States.{AreStates, AreAscending}
 use Rattle.grid_text.specs.Commands.{sign_word, signs, side_word, sides, corner_word, corners, axis_word, IsLineOf, IsAllowed, IsStateOf}
 use Rattle.grid_text.specs.Script.{GridScript, IsScript, grid_in_force}

@@ -7,12 +7,13 @@ use Rattle.std.specs.List.{list_any, find, zip}
 use Rattle.std.specs.Fmt.{decimal}
 use Rattle.std.proofs.lemmas.Bool.{cases_Bool, eq-eqb, cases_eq, ne_eqb}
 use Rattle.std.proofs.lemmas.List.{length-map}
+use Rattle.state_rank.specs.States.{state_word}
 use Rattle.state_rank.specs.Bijection.{IsBijection}
 use Rattle.grid_moves.specs.declared.turns.Side.{Side}
 use Rattle.grid_moves.specs.declared.turns.Side.TheVariants.{Left, Right, Up, Down}
 use Rattle.pentagon_map.specs.declared.Corner.{Corner}
 use Rattle.pentagon_map.specs.declared.Corner.TheVariants.{Over, Under}
-use Rattle.grid_text.specs.Words.{Word, is_word, numeral, state_of, state_word}
+use Rattle.grid_text.specs.Words.{Word, is_word, numeral, state_of}
 use Rattle.grid_text.specs.FaultWords.{fault_word}
 use Rattle.grid_text.specs.Commands.{sign_word, signs, side_word, sides, corner_word, corners, Argument, sign, side, corner, number, state, argument_word}
 use Rattle.grid_text.specs.Faults.{Kind, choice_of, number_between, state_of_size, kind_fault, is_bad, kind_of, is_bad_by, has_bad, exactly, is_bad_count}

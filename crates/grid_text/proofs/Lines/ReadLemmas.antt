@@ -8,6 +8,7 @@ use Rattle.std.specs.List.{list_any, Contains}
 use Rattle.std.proofs.lemmas.List.Sorted.{IsPermutation-refl, All-permutation}
 use Rattle.std.proofs.lemmas.List.Elements.{Contains-get_or}
 use Rattle.std.proofs.lemmas.Bool.{cases_lt, le-leb}
+use Rattle.state_rank.specs.States.{state_word}
 use Rattle.state_rank.specs.Bijection.{IsSize, IsBijection}
 use Rattle.state_rank.proofs.MemberLemmas.{member_cases, no_member}
 use Rattle.torus_geom.specs.Marks.{size}
@@ -15,7 +16,7 @@ use Rattle.grid_moves.specs.Moves.{are_commuting}
 use Rattle.grid_moves.specs.declared.commutations.Axis.{Axis}
 use Rattle.grid_moves.specs.declared.commutations.Axis.TheVariants.{Cols, Rows}
 use Rattle.grid_text.specs.Limits.{max_commands}
-use Rattle.grid_text.specs.Words.{Word, numeral, state_word}
+use Rattle.grid_text.specs.Words.{Word, numeral}
 use Rattle.grid_text.specs.Commands.{sign_word, signs, side_word, sides, corner_word, corners, axis_word, IsLineOf, IsAllowed, IsStateOf}
 use Rattle.grid_text.specs.Script.{GridScript, IsScript, grid_in_force}
 use Rattle.grid_text.specs.Document.{body, end_word}

@@ -9,12 +9,12 @@ use Rattle.std.specs.Str.Parse.{ParsesUnsigned, AllDigits}
 use Rattle.std.specs.Result.{result_ok}
 use Rattle.std.proofs.lemmas.Fmt.{decimal_injective, decimal_digit, decimal_nonempty, first_decimal, decimal-digits_value, parse-decimal}
 use Rattle.std.proofs.lemmas.Str.Parse.{numerals_by_value, tells_digits, parse_plain}
-use Rattle.state_rank.specs.Bijection.{tabulate, IsBijection, IsSize}
-use Rattle.state_rank.specs.States.{states, IsState}
+use Rattle.state_rank.specs.Bijection.{tabulate, numbers, IsBijection, IsSize}
+use Rattle.state_rank.specs.States.{states, IsState, state_word}
 use Rattle.std.proofs.lemmas.List.{take_more, take_more_set, map-append, length-map}
 use Rattle.state_rank.proofs.MemberLemmas.{member_cases, member_head, member_tail, no_member}
 use Rattle.state_rank.proofs.OrderLemmas.{length-tabulate, get_or-tabulate, member_of_states, Contains-states}
-use Rattle.grid_text.specs.Words.{Word, is_word, numbers_between, numeral, state_word, state_of}
+use Rattle.grid_text.specs.Words.{Word, is_word, numeral, state_of}
 
 -- ---- the same word
 
@@ -84,17 +84,17 @@ pub member_of_tabulate : {A : Type 0} (n : ℕ) (f : ℕ → A) (x : A) → Cont
 member_of_tabulate n f x (k, within, e) =
     let below : k < n = omega (arith, length-tabulate n f) in (k, below, sym (get_or-tabulate n f k x below) ∙ e)
 
--- a number between the two is in their list
-Contains-numbers_between : (low high v : ℕ) → low ≤ v → v ≤ high → Contains (numbers_between low high) v
-Contains-numbers_between low high v above below =
+-- a number between two is in their list
+Contains-numbers : (low high v : ℕ) → low ≤ v → v ≤ high → Contains (numbers low (high + 1)) v
+Contains-numbers low high v above below =
     let e : low + (v - low) ≡ v = omega arith in
-    subst (λ x. Contains (numbers_between low high) x) e (Contains-tabulate (high + 1 - low) (λ i. low + i) (v - low) (omega arith))
+    subst (λ x. Contains (numbers low (high + 1)) x) e (Contains-tabulate (high + 1 - low) (λ i. low + i) (v - low) (omega arith))
 
 -- the word of a number in its bounds
 pub numeral-decimal : (low high v : ℕ) (word : Word) → word ≡ decimal v → low ≤ v → v ≤ high → high < 2 ^ 64 → numeral low high word ≡ Some v
 unfolding numeral
 numeral-decimal low high v word e above below fits =
-    find_below v word (numbers_between low high) e (Contains-numbers_between low high v above below) (λ u m.
+    find_below v word (numbers low (high + 1)) e (Contains-numbers low high v above below) (λ u m.
     let r = member_of_tabulate (high + 1 - low) (λ i. low + i) u m in
     let bound = r.1 in
     let value = r.2 in
@@ -110,7 +110,7 @@ numeral-decimal low high v word e above below fits =
 pub numeral-none : (low high : ℕ) (word : Word) → ((v : ℕ) → low ≤ v → v ≤ high → word ≢ decimal v) → numeral low high word ≡ None
 unfolding numeral
 numeral-none low high word none =
-    find-none (λ v. is_word (decimal v) word) (numbers_between low high) (λ v m.
+    find-none (λ v. is_word (decimal v) word) (numbers low (high + 1)) (λ v m.
     let r = member_of_tabulate (high + 1 - low) (λ i. low + i) v m in
     let bound = r.1 in
     let value = r.2 in
@@ -130,7 +130,7 @@ decimal-out_of_bounds low high u word e fits high_fits out v above below e' =
 pub numeral-found : (low high v : ℕ) (word : Word) → numeral low high word ≡ Some v → (word ≡ decimal v) × (low ≤ v) × (v ≤ high)
 unfolding numeral
 numeral-found low high v word e =
-    let r = found (λ u. is_word (decimal u) word) (numbers_between low high) v e in
+    let r = found (λ u. is_word (decimal u) word) (numbers low (high + 1)) v e in
     let m = member_of_tabulate (high + 1 - low) (λ i. low + i) v r.0 in
     let bound = m.1 in
     let value = m.2 in

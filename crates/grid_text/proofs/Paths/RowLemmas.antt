@@ -8,7 +8,6 @@ use Rattle.std.proofs.lemmas.List.{length-map, length-replicate, map-append, tak
 use Rattle.std.proofs.lemmas.List.Elements.{All-push, All-contains, Contains-get_or}
 use Rattle.state_rank.specs.Bijection.{IsSize, IsBijection}
 use Rattle.state_rank.specs.States.{IsState}
-use Rattle.state_rank.specs.declared.TheConstants.{MAX_SIZE}
 use Rattle.state_rank.proofs.MemberLemmas.{member_cases, member_head, member_tail, no_member}
 use Rattle.grid_text.specs.Words.{Word, is_word, numeral}
 use Rattle.torus_geom.specs.Marks.{AreBijections, SharesSquare}
@@ -41,29 +40,29 @@ form_at-expected p expected form forms = forms expected ∙ ap (λ b. cond b (So
 -- ---- the line `grid`
 
 pub grid-word : (words : List Word) → ((rest : List Word) → words ≢ codes "grid" ∷ rest) → fault_at head words ≡ Some fault.BadWord
-grid-word words other = fault_at-other_word head (codes "grid") (exactly (number_between 2 MAX_SIZE ∷ [])) refl (λ w. refl) words other
+grid-word words other = fault_at-other_word head (codes "grid") (exactly (number_between 2 9 ∷ [])) refl (λ w. refl) words other
 
 pub grid-count : (words arguments : List Word) → words ≡ codes "grid" ∷ arguments → length arguments ≢ 1 → fault_at head words ≡ Some fault.BadCount
 grid-count words arguments e other =
-    ap (fault_at head) e ∙ fault_at-count head (exactly (number_between 2 MAX_SIZE ∷ [])) (codes "grid") arguments refl refl (count-other 1 arguments other)
+    ap (fault_at head) e ∙ fault_at-count head (exactly (number_between 2 9 ∷ [])) (codes "grid") arguments refl refl (count-other 1 arguments other)
 
-pub grid-number : (words arguments : List Word) (w : Word) → words ≡ codes "grid" ∷ arguments → arguments ≡ w ∷ [] → numeral 2 MAX_SIZE w ≡ None → fault_at head words ≡ Some fault.BadNumber
+pub grid-number : (words arguments : List Word) (w : Word) → words ≡ codes "grid" ∷ arguments → arguments ≡ w ∷ [] → numeral 2 9 w ≡ None → fault_at head words ≡ Some fault.BadNumber
 grid-number words arguments w e one bad =
     ap (fault_at head) (e ∙ ap (λ a. codes "grid" ∷ a) one)
-    ∙ fault_at-number head (exactly (number_between 2 MAX_SIZE ∷ [])) (codes "grid") (w ∷ []) refl refl refl refl (ap (λ o. is_none o || false) bad)
+    ∙ fault_at-number head (exactly (number_between 2 9 ∷ [])) (codes "grid") (w ∷ []) refl refl refl refl (ap (λ o. is_none o || false) bad)
 
 -- what the reader has read of it
-pub grid-numeral : (m : ℕ) (w : Word) (r o : Option ℕ) → m ≡ MAX_SIZE → r ≡ numeral 2 m w → r ≡ o → numeral 2 MAX_SIZE w ≡ o
+pub grid-numeral : (m : ℕ) (w : Word) (r o : Option ℕ) → m ≡ 9 → r ≡ numeral 2 m w → r ≡ o → numeral 2 9 w ≡ o
 grid-numeral m w r o same value is = ap (λ k. numeral 2 k w) (sym same) ∙ sym value ∙ is
 
 -- a right one has no fault
 pub grid-right : (words : List Word) (n : ℕ) → words ≡ codes "grid" ∷ decimal n ∷ [] → IsSize n → fault_at head words ≡ None
 grid-right words n e small =
     ap (fault_at head) e
-    ∙ fault_at-last head (exactly (number_between 2 MAX_SIZE ∷ [])) (codes "grid") (decimal n ∷ []) refl refl (record {
+    ∙ fault_at-last head (exactly (number_between 2 9 ∷ [])) (codes "grid") (decimal n ∷ []) refl refl (record {
       count = refl;
       choice = refl;
-      number = ap (λ b. b || false) (number-good 2 MAX_SIZE n small.least small.greatest (omega arith));
+      number = ap (λ b. b || false) (number-good 2 9 n small.least small.greatest (omega arith));
       permutation = refl;
       square = refl;
       state = refl;
@@ -77,13 +76,13 @@ grid-read [] e = let none : Some fault.BadWord ≡ None = sym (fault_at-no_word 
 grid-read (w ∷ arguments) e = elim (cases_Bool (is_word (codes "grid") w)) [
   | inl t ↦
       let same = same_word (codes "grid") w t in
-      let rows = NoRowHolds-from_none head (exactly (number_between 2 MAX_SIZE ∷ [])) (codes "grid") arguments refl refl (ap (λ v. fault_at head (v ∷ arguments)) same ∙ e) in
+      let rows = NoRowHolds-from_none head (exactly (number_between 2 9 ∷ [])) (codes "grid") arguments refl refl (ap (λ v. fault_at head (v ∷ arguments)) same ∙ e) in
       let one = one_word arguments (count-same 1 arguments rows.0.count) in
-      let good = subst (λ a. has_bad fault.BadNumber (exactly (number_between 2 MAX_SIZE ∷ [])) a ≡ false) one.1 rows.0.number in
-      let n = number_of_word 2 MAX_SIZE one.0 (sym (or_false (is_bad (number_between 2 MAX_SIZE) one.0)) ∙ good) in
+      let good = subst (λ a. has_bad fault.BadNumber (exactly (number_between 2 9 ∷ [])) a ≡ false) one.1 rows.0.number in
+      let n = number_of_word 2 9 one.0 (sym (or_false (is_bad (number_between 2 9) one.0)) ∙ good) in
       (n.0, (record { least = n.1.1; greatest = n.1.2 }, (λ i. sym same i ∷ one.1 i) ∙ ap (λ v. codes "grid" ∷ v ∷ []) n.1.0))
   | inr f ↦
-      let none : Some fault.BadWord ≡ None = sym (fault_at-bad_word head w arguments refl (ap (λ b. cond b (Some (exactly (number_between 2 MAX_SIZE ∷ []))) None) f)) ∙ e in cc
+      let none : Some fault.BadWord ≡ None = sym (fault_at-bad_word head w arguments refl (ap (λ b. cond b (Some (exactly (number_between 2 9 ∷ []))) None) f)) ∙ e in cc
 ]
 
 -- ---- O and X lines

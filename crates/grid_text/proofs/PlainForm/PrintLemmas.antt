@@ -5,7 +5,8 @@ use Rattle.std.specs.Fmt.{decimal}
 use Rattle.std.proofs.lemmas.Fmt.{decimal_digit, decimal_step}
 use Rattle.std.proofs.lemmas.List.{take_more, take_all, map-append, append-nil}
 use Rattle.std.proofs.lemmas.Grind.{flat_map-append}
-use Rattle.grid_text.specs.Words.{Word, state_word}
+use Rattle.state_rank.specs.States.{state_word}
+use Rattle.grid_text.specs.Words.{Word}
 use Rattle.grid_text.specs.PlainForm.{after_space, command_line, head_lines, plain_form}
 use Rattle.torus_geom.specs.Marks.{Marks, size}
 use Rattle.grid_text.specs.Commands.{argument_word, command_row, IsAllowed, grid_after}

@@ -7,12 +7,13 @@ use Rattle.std.proofs.lemmas.List.Sorted.{IsPermutation-refl}
 use Rattle.std.specs.Fmt.{decimal}
 use Rattle.std.proofs.lemmas.Bool.{ne_eqb}
 use Rattle.std.proofs.lemmas.Fmt.{decimal_digit}
+use Rattle.state_rank.specs.States.{state_word}
 use Rattle.state_rank.proofs.MemberLemmas.{member_head, member_tail}
 use Rattle.std.specs.List.{Contains}
 use Rattle.torus_geom.specs.Marks.{Marks, size}
 use Rattle.grid_moves.specs.declared.turns.Side.{Side}
 use Rattle.grid_moves.specs.declared.turns.Side.TheVariants.{Left, Right, Up, Down}
-use Rattle.grid_text.specs.Words.{Word, parts, before_parts, is_space, is_filled, lines_of, words_of, state_word}
+use Rattle.grid_text.specs.Words.{Word, parts, before_parts, is_space, is_filled, lines_of, words_of}
 use Rattle.grid_text.specs.PlainForm.{after_space, line_of, command_line, plain_form}
 use Rattle.pentagon_map.specs.declared.Corner.{Corner}
 use Rattle.pentagon_map.specs.declared.Corner.TheVariants.{Over, Under}

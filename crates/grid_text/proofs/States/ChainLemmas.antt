@@ -6,11 +6,10 @@ use Rattle.std.proofs.lemmas.Bool.{cases_order, cases_lt}
 use Rattle.std.proofs.lemmas.List.Elements.{Contains-get_or}
 use Rattle.std.proofs.lemmas.List.Sorted.{IsPermutation-refl, IsPermutation-sym, IsPermutation-cons, IsPermutation-trans, IsPermutation-middle, IsPermutation-map, Contains-permutation}
 use Rattle.state_rank.specs.Bijection.{IsSize, IsBijection}
-use Rattle.state_rank.specs.States.{is_before, rank}
+use Rattle.state_rank.specs.States.{is_before, rank, state_word}
 use Rattle.state_rank.proofs.MemberLemmas.{member_cases, member_head, member_tail, no_member, pairs_cons, pairs_head, pairs_tail, pairs_weaker}
 use Rattle.state_rank.proofs.OrderLemmas.{is_before-same, is_before-back}
 use Rattle.state_rank.proofs.RankLemmas.{rank_order, rank_one_to_one}
-use Rattle.grid_text.specs.Words.{state_word}
 use Rattle.grid_text.specs.States.{AreAscending, AreStates}
 use Rattle.grid_text.specs.Faults.{has_repeated}
 use Rattle.grid_text.proofs.Lines.WordLemmas.{state_word_injective}

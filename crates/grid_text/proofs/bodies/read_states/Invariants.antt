@@ -1,8 +1,8 @@
 -- the words so far are those of the states so far
 use Rattle.std.proofs.Common.{◌≡◌, take, map}
 use Rattle.std.specs.List.{All}
+use Rattle.state_rank.specs.States.{state_word}
 use Rattle.state_rank.specs.Bijection.{IsBijection}
-use Rattle.grid_text.specs.Words.{state_word}
 use Rattle.grid_text.proofs.Lines.SeenLemmas.{seen}
 use Rattle.grid_text.proofs.bodies.read_states.Given as goal
 

@@ -1,6 +1,6 @@
 -- the bytes of the states so far
 use Rattle.std.proofs.Common.{◌≡◌, ◌≤◌, ◌*◌, take, map, length}
-use Rattle.grid_text.specs.Words.{state_word}
+use Rattle.state_rank.specs.States.{state_word}
 use Rattle.grid_text.specs.PlainForm.{after_space}
 use Rattle.grid_text.proofs.lengths.states_len.Given as goal
 

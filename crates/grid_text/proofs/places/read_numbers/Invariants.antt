@@ -1,7 +1,7 @@
 -- the words so far are the decimal forms of the numbers so far
 use Rattle.std.proofs.Common.{◌≡◌, length, take}
 use Rattle.grid_text.specs.Inner.Reading.{AreNumerals}
-use Rattle.grid_text.specs.declared.places.TheConstants.{ROOM}
+use Rattle.state_rank.specs.declared.TheConstants.{ROOM}
 use Rattle.grid_text.proofs.Lines.SeenLemmas.{seen}
 use Rattle.grid_text.proofs.places.read_numbers.Given as goal
 

@@ -1,6 +1,6 @@
 -- the digits so far
 use Rattle.std.proofs.Common.{◌≡◌, ◌++◌, take}
-use Rattle.grid_text.specs.Words.{state_word}
+use Rattle.state_rank.specs.States.{state_word}
 use Rattle.grid_text.proofs.printing.push_state.Given as goal
 
 abbrev pub invariant-loop-c : goal.invariant-loop-c

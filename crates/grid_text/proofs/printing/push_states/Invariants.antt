@@ -1,6 +1,6 @@
 -- the states so far
 use Rattle.std.proofs.Common.{◌≡◌, ◌++◌, take, map}
-use Rattle.grid_text.specs.Words.{state_word}
+use Rattle.state_rank.specs.States.{state_word}
 use Rattle.grid_text.specs.PlainForm.{after_space}
 use Rattle.grid_text.proofs.printing.push_states.Given as goal
 

@@ -1,7 +1,7 @@
 -- the bytes so far are the word of the numbers so far
 use Rattle.std.proofs.Common.{◌≡◌, take, length}
-use Rattle.grid_text.specs.Words.{state_word}
-use Rattle.grid_text.specs.declared.state_words.TheConstants.{ROOM}
+use Rattle.state_rank.specs.States.{state_word}
+use Rattle.state_rank.specs.declared.TheConstants.{ROOM}
 use Rattle.grid_text.proofs.state_words.read_digits.Given as goal
 
 abbrev pub invariant-loop-c : goal.invariant-loop-c
