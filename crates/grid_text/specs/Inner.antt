@@ -1,4 +1,4 @@
-pub mod Kept
+pub mod Stored
 pub mod Reading
 pub mod Next
 pub mod Printing

@@ -29,18 +29,18 @@ impl Model for Script {
 
     ghost Value = { GridScript };
 
-    ghost use Rattle.grid_text.specs.Inner.Kept.{script, IsKept};
+    ghost use Rattle.grid_text.specs.Inner.Stored.{script, IsStored};
 
     ghost view = { script };
 
-    ghost invariant = { IsKept };
+    ghost invariant = { IsStored };
 }
 
 impl Script {
     /// The script of this grid with no command. It asks for no memory.
     pub fn new(alloc: Global, g: &Grid) -> Script
         ensures script { result ≡ record { grid = g.now; commands = [] } }
-        ensures kept { IsScript result }
+        ensures is_script { IsScript result }
     {
         let _size = g.size();
         Script {

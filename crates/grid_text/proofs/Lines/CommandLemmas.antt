@@ -47,7 +47,8 @@ state_words [] = refl
 state_words (x ∷ xs) = ap (λ words. state_word x ∷ words) (state_words xs)
 
 -- the words of a line `chain`
-pub chain_words : (xs : List (List ℕ)) → command_words (command.Chain xs) ≡ (command_row (command.Chain [])).0 ∷ map state_word xs
+pub chain_words : (xs : List (List ℕ))
+    → command_words (command.Chain xs) ≡ (command_row (command.Chain [])).0 ∷ map state_word xs
 chain_words xs = ap (λ words. (command_row (command.Chain [])).0 ∷ words) (state_words xs)
 
 -- no word of states is bad
@@ -67,7 +68,8 @@ bijection_of g x is = subst (λ m. IsBijection m x) is.same_size is.state.biject
 -- the states of a chain
 states-allowed : (g : Marks) (z : List (List ℕ)) → All (IsStateOf g) z → AreGood (size g) (map state z)
 states-allowed g [] all = tt
-states-allowed g (x ∷ z) all = (bijection_of g x (All-head (IsStateOf g) x z all), states-allowed g z (All-tail (IsStateOf g) x z all))
+states-allowed g (x ∷ z) all =
+    (bijection_of g x (All-head (IsStateOf g) x z all), states-allowed g z (All-tail (IsStateOf g) x z all))
 
 -- they are good
 pub arguments-allowed : (g : Marks) (c : Command) → IsAllowed g c → AreGood (size g) (command_row c).1
@@ -126,7 +128,8 @@ module _ (s : GridScript) (h : IsScript s) where
       }
 
   -- the two columns or rows commute
-  commutes-number : (a : Axis) (c : ℕ) → c < n → are_commuting a (grid_in_force s) c ≡ true → fails_to_commute a (grid_in_force s) (decimal c) ≡ false
+  commutes-number : (a : Axis) (c : ℕ) → c < n → are_commuting a (grid_in_force s) c ≡ true
+      → fails_to_commute a (grid_in_force s) (decimal c) ≡ false
   commutes-number a c below t =
       let small = n-small in
       ap (λ o. option_map_or (λ d. not (are_commuting a (grid_in_force s) d)) o false)
@@ -134,7 +137,8 @@ module _ (s : GridScript) (h : IsScript s) where
       ∙ ap not t
 
   -- whatever follows `chain`, no columns are to commute
-  chain-commuting : (arguments : List Word) → is_not_commuting (body s) ((command_row (command.Chain [])).0 ∷ arguments) ≡ false
+  chain-commuting : (arguments : List Word)
+      → is_not_commuting (body s) ((command_row (command.Chain [])).0 ∷ arguments) ≡ false
   chain-commuting [] = refl
   chain-commuting (a ∷ []) = refl
   chain-commuting (a ∷ b ∷ []) = refl
@@ -163,16 +167,20 @@ module _ (s : GridScript) (h : IsScript s) where
   }
 
   -- a command that may stand there
-  pub faultless : (words : List Word) (c : Command) → IsLineOf words c → IsAllowed (grid_in_force s) c → IsFaultless words
+  pub faultless : (words : List Word) (c : Command) → IsLineOf words c → IsAllowed (grid_in_force s) c
+      → IsFaultless words
   faultless words (command.Chain z) e allowed =
       let all = All-permutation (IsStateOf (grid_in_force s)) z e.0 (IsPermutation-sym e.0 z e.1) allowed.0 in
-      chain-faultless e.0 words e.2 (λ x m. bijection_of (grid_in_force s) x (All-contains (IsStateOf (grid_in_force s)) e.0 x all m))
+      chain-faultless e.0 words e.2 (λ x m. bijection_of (grid_in_force s) x
+      (All-contains (IsStateOf (grid_in_force s)) e.0 x all m))
       (repeated-none e.0 z e.1 allowed.1)
   faultless words (command.Commute Cols c v) e allowed =
-      exact-faultless (command.Commute Cols c v) words e refl (arguments-allowed (grid_in_force s) (command.Commute Cols c v) allowed)
+      exact-faultless (command.Commute Cols c v) words e refl
+      (arguments-allowed (grid_in_force s) (command.Commute Cols c v) allowed)
       (ap (λ b. b || false) (commutes-number Cols c allowed.0 allowed.1))
   faultless words (command.Commute Rows c v) e allowed =
-      exact-faultless (command.Commute Rows c v) words e refl (arguments-allowed (grid_in_force s) (command.Commute Rows c v) allowed)
+      exact-faultless (command.Commute Rows c v) words e refl
+      (arguments-allowed (grid_in_force s) (command.Commute Rows c v) allowed)
       (commutes-number Rows c allowed.0 allowed.1)
   faultless words c e allowed = exact-faultless c words e refl (arguments-allowed (grid_in_force s) c allowed) refl
 
@@ -189,7 +197,16 @@ pub fault_at-end : (s : GridScript) (words : List Word) → words ≡ end_word �
 fault_at-end s words e =
     ap (fault_at (body s)) e
     ∙ fault_at-last (body s) (exactly []) end_word [] refl refl
-    (record { count = refl; choice = refl; number = refl; permutation = refl; square = refl; state = refl; repeated = refl; commuting = refl })
+    (record {
+      count = refl;
+      choice = refl;
+      number = refl;
+      permutation = refl;
+      square = refl;
+      state = refl;
+      repeated = refl;
+      commuting = refl;
+    })
 
 -- the line of a command is not `end`
 pub command-not_end : (s : GridScript) → IsScript s → (words : List Word) (c : Command) → IsLineOf words c
@@ -270,7 +287,8 @@ alike c (command.Commute Rows d w) t = cc
 alike c d t = cc
 
 -- the first word of a line is that of the command
-first_of_line : (words : List Word) (c : Command) → IsLineOf words c → (rest : List Word) × (words ≡ (command_row c).0 ∷ rest)
+first_of_line : (words : List Word) (c : Command) → IsLineOf words c
+    → (rest : List Word) × (words ≡ (command_row c).0 ∷ rest)
 first_of_line words (command.Chain z) l = (map argument_word (map state l.0), l.2)
 first_of_line words c l = (map argument_word (command_row c).1, l)
 
@@ -280,7 +298,8 @@ alike_of_line words c d l m =
     let first = first_of_line words c l in
     let other = first_of_line words d m in
     let whole : (command_row c).0 ∷ first.0 ≡ (command_row d).0 ∷ other.0 = sym first.1 ∙ other.1 in
-    alike c d (same_is_word (command_row c).0 (command_row d).0 (cons-head (command_row c).0 (command_row d).0 first.0 other.0 whole))
+    alike c d (same_is_word (command_row c).0 (command_row d).0
+    (cons-head (command_row c).0 (command_row d).0 first.0 other.0 whole))
 
 -- the states of one list of words are one list
 same_states : (x y : List (List ℕ)) → map state_word x ≡ map state_word y → x ≡ y
@@ -305,7 +324,8 @@ one_command s h words (command.Chain z) (command.Chain w) l a m b =
     let same = same_states l.0 m.0 (cons-tail _ _ _ _ (sym (chain_words l.0) ∙ sym l.2 ∙ m.2 ∙ chain_words m.0)) in
     ap command.Chain (same_chain m.0 z w (subst (λ x. IsPermutation x z) same l.1) m.1 a.1 b.1)
 one_command s h words (command.Commute i c v) (command.Commute j d w) l a m b =
-    let whole : axis_word i ∷ decimal c ∷ corner_word v ∷ [] ≡ axis_word j ∷ decimal d ∷ corner_word w ∷ [] = sym l ∙ m in
+    let whole : axis_word i ∷ decimal c ∷ corner_word v ∷ [] ≡ axis_word j ∷ decimal d ∷ corner_word w ∷ [] =
+    sym l ∙ m in
     let small = n-small s h in
     let below = a.0 in
     let below' = b.0 in

@@ -1,5 +1,6 @@
--- The table of faults, row by row: the fault is that of the first row that holds, and there is none exactly
--- where no row does.
+-- The table of faults, row by row. The fault of a line is that of the first row that holds: a row that does not hold
+-- is passed (`pass`), one that holds decides (`hit`). So each row has a lemma that asks that the rows before it do not
+-- hold, and a line has no fault exactly where no row holds (`NoRowHolds`, but for the last row).
 use Rattle.std.proofs.Common.{◌≡◌, Bool, true, false, cond, List, [], ◌∷◌, Option, None, Some, refl, ap, ◌∙◌, sym}
 use Rattle.grid_text.specs.Words.{Word}
 use Rattle.grid_text.specs.Document.{Place}
@@ -41,25 +42,31 @@ unfolding fault_at
 fault_at-no_word p here = pass _ _ _ _ here refl
 
 -- a first word that is none of those that may stand there
-pub fault_at-bad_word : (p : Place) (word : Word) (arguments : List Word) → is_after_end p ≡ false → form_at p word ≡ None → fault_at p (word ∷ arguments) ≡ Some fault.BadWord
+pub fault_at-bad_word : (p : Place) (word : Word) (arguments : List Word) → is_after_end p ≡ false
+    → form_at p word ≡ None → fault_at p (word ∷ arguments) ≡ Some fault.BadWord
 unfolding fault_at
 fault_at-bad_word p word arguments here unknown =
     pass _ _ _ _ here (ap (λ form. first_passed (rows_of_form p form (word ∷ arguments))) unknown)
 
-module _ (p : Place) (form : Form) (word : Word) (arguments : List Word) (here : is_after_end p ≡ false) (known : form_at p word ≡ Some form) where
+module _ (p : Place) (form : Form) (word : Word) (arguments : List Word) (here : is_after_end p ≡ false)
+    (known : form_at p word ≡ Some form) where
   -- the rows of the form
   fault_at-rows : fault_at p (word ∷ arguments) ≡ first_passed (form_table p form (word ∷ arguments))
   unfolding fault_at
   fault_at-rows = pass _ _ _ _ here (ap (λ f. first_passed (rows_of_form p f (word ∷ arguments))) known)
 
   -- the last row decides where no other holds
-  pub fault_at-last : NoRowHolds p form word arguments → fault_at p (word ∷ arguments) ≡ cond (is_one_too_many p (word ∷ arguments)) (Some fault.TooMany) None
+  pub fault_at-last : NoRowHolds p form word arguments
+      → fault_at p (word ∷ arguments) ≡ cond (is_one_too_many p (word ∷ arguments)) (Some fault.TooMany) None
   fault_at-last r =
       fault_at-rows
-      ∙ pass _ _ _ _ r.count (pass _ _ _ _ r.choice (pass _ _ _ _ r.number (pass _ _ _ _ r.permutation (pass _ _ _ _ r.square (pass _ _ _ _ r.state (pass _ _ _ _ r.repeated (pass _ _ _ _ r.commuting refl)))))))
+      ∙ pass _ _ _ _ r.count (pass _ _ _ _ r.choice (pass _ _ _ _ r.number
+      (pass _ _ _ _ r.permutation (pass _ _ _ _ r.square (pass _ _ _ _ r.state
+      (pass _ _ _ _ r.repeated (pass _ _ _ _ r.commuting refl)))))))
 
   -- and the other way round
-  pub NoRowHolds-from_none : fault_at p (word ∷ arguments) ≡ None → NoRowHolds p form word arguments × (is_one_too_many p (word ∷ arguments) ≡ false)
+  pub NoRowHolds-from_none : fault_at p (word ∷ arguments) ≡ None
+      → NoRowHolds p form word arguments × (is_one_too_many p (word ∷ arguments) ≡ false)
   NoRowHolds-from_none e =
       let count = no_hit _ _ _ (sym fault_at-rows ∙ e) in
       let choice = no_hit _ _ _ count.1 in
@@ -89,40 +96,54 @@ module _ (p : Place) (form : Form) (word : Word) (arguments : List Word) (here :
 
   module _ (count : is_bad_count form arguments ≡ false) where
     -- a choice is none
-    pub fault_at-choice : has_bad fault.BadChoice form arguments ≡ true → fault_at p (word ∷ arguments) ≡ Some fault.BadChoice
+    pub fault_at-choice : has_bad fault.BadChoice form arguments ≡ true
+        → fault_at p (word ∷ arguments) ≡ Some fault.BadChoice
     fault_at-choice holds = fault_at-rows ∙ pass _ _ _ _ count (hit _ _ _ holds)
 
     module _ (choice : has_bad fault.BadChoice form arguments ≡ false) where
       -- a number is none
-      pub fault_at-number : has_bad fault.BadNumber form arguments ≡ true → fault_at p (word ∷ arguments) ≡ Some fault.BadNumber
+      pub fault_at-number : has_bad fault.BadNumber form arguments ≡ true
+          → fault_at p (word ∷ arguments) ≡ Some fault.BadNumber
       fault_at-number holds = fault_at-rows ∙ pass _ _ _ _ count (pass _ _ _ _ choice (hit _ _ _ holds))
 
       module _ (number : has_bad fault.BadNumber form arguments ≡ false) where
         -- two numbers are the same
-        pub fault_at-permutation : is_not_permutation p arguments ≡ true → fault_at p (word ∷ arguments) ≡ Some fault.NotPermutation
-        fault_at-permutation holds = fault_at-rows ∙ pass _ _ _ _ count (pass _ _ _ _ choice (pass _ _ _ _ number (hit _ _ _ holds)))
+        pub fault_at-permutation : is_not_permutation p arguments ≡ true
+            → fault_at p (word ∷ arguments) ≡ Some fault.NotPermutation
+        fault_at-permutation holds =
+            fault_at-rows ∙ pass _ _ _ _ count (pass _ _ _ _ choice (pass _ _ _ _ number (hit _ _ _ holds)))
 
         module _ (permutation : is_not_permutation p arguments ≡ false) where
           -- an O and an X are in one square
-          pub fault_at-square : has_same_square p arguments ≡ true → fault_at p (word ∷ arguments) ≡ Some fault.SameSquare
-          fault_at-square holds = fault_at-rows ∙ pass _ _ _ _ count (pass _ _ _ _ choice (pass _ _ _ _ number (pass _ _ _ _ permutation (hit _ _ _ holds))))
+          pub fault_at-square : has_same_square p arguments ≡ true
+              → fault_at p (word ∷ arguments) ≡ Some fault.SameSquare
+          fault_at-square holds =
+              fault_at-rows ∙ pass _ _ _ _ count (pass _ _ _ _ choice
+              (pass _ _ _ _ number (pass _ _ _ _ permutation (hit _ _ _ holds))))
 
           module _ (square : has_same_square p arguments ≡ false) where
             -- a state is none
-            pub fault_at-state : has_bad fault.BadState form arguments ≡ true → fault_at p (word ∷ arguments) ≡ Some fault.BadState
+            pub fault_at-state : has_bad fault.BadState form arguments ≡ true
+                → fault_at p (word ∷ arguments) ≡ Some fault.BadState
             fault_at-state holds =
-                fault_at-rows ∙ pass _ _ _ _ count (pass _ _ _ _ choice (pass _ _ _ _ number (pass _ _ _ _ permutation (pass _ _ _ _ square (hit _ _ _ holds)))))
+                fault_at-rows ∙ pass _ _ _ _ count (pass _ _ _ _ choice
+                (pass _ _ _ _ number (pass _ _ _ _ permutation (pass _ _ _ _ square (hit _ _ _ holds)))))
 
             module _ (state : has_bad fault.BadState form arguments ≡ false) where
               -- two states are the same
-              pub fault_at-repeated : has_repeated_state form arguments ≡ true → fault_at p (word ∷ arguments) ≡ Some fault.RepeatedState
+              pub fault_at-repeated : has_repeated_state form arguments ≡ true
+                  → fault_at p (word ∷ arguments) ≡ Some fault.RepeatedState
               fault_at-repeated holds =
                   fault_at-rows
-                  ∙ pass _ _ _ _ count (pass _ _ _ _ choice (pass _ _ _ _ number (pass _ _ _ _ permutation (pass _ _ _ _ square (pass _ _ _ _ state (hit _ _ _ holds))))))
+                  ∙ pass _ _ _ _ count (pass _ _ _ _ choice (pass _ _ _ _ number
+                  (pass _ _ _ _ permutation (pass _ _ _ _ square (pass _ _ _ _ state (hit _ _ _ holds))))))
 
               module _ (repeated : has_repeated_state form arguments ≡ false) where
                 -- the two columns or rows do not commute
-                pub fault_at-commuting : is_not_commuting p (word ∷ arguments) ≡ true → fault_at p (word ∷ arguments) ≡ Some fault.NotCommuting
+                pub fault_at-commuting : is_not_commuting p (word ∷ arguments) ≡ true
+                    → fault_at p (word ∷ arguments) ≡ Some fault.NotCommuting
                 fault_at-commuting holds =
                     fault_at-rows
-                    ∙ pass _ _ _ _ count (pass _ _ _ _ choice (pass _ _ _ _ number (pass _ _ _ _ permutation (pass _ _ _ _ square (pass _ _ _ _ state (pass _ _ _ _ repeated (hit _ _ _ holds)))))))
+                    ∙ pass _ _ _ _ count (pass _ _ _ _ choice (pass _ _ _ _ number
+                    (pass _ _ _ _ permutation (pass _ _ _ _ square (pass _ _ _ _ state
+                    (pass _ _ _ _ repeated (hit _ _ _ holds)))))))

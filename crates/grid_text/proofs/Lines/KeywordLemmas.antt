@@ -8,7 +8,7 @@ use Rattle.torus_geom.specs.Marks.{size}
 use Rattle.grid_moves.specs.declared.commutations.Axis.{Axis}
 use Rattle.grid_moves.specs.declared.commutations.Axis.TheVariants.{Cols, Rows}
 use Rattle.grid_text.specs.Words.{Word, is_word}
-use Rattle.grid_text.specs.Commands.{command_row, axis_word}
+use Rattle.grid_text.specs.Commands.{command_row}
 use Rattle.grid_text.specs.Script.{GridScript, grid_in_force}
 use Rattle.grid_text.specs.Document.{body, end_word}
 use Rattle.grid_text.specs.Faults.{Form, exactly, form_of, form_among, form_at, body_forms}
@@ -29,18 +29,21 @@ form_among-none : (n : ℕ) (ks : List Keyword) (word : Word) → find (λ k. is
     → form_among (keyword_rows n ks) word ≡ None
 form_among-none n [] word e = refl
 form_among-none n (k ∷ ks) word e = elim (cases_Bool (is_word (keyword_word k) word)) [
-  | inl t ↦ let clash : Some k ≡ None = sym (ap (λ b. cond b (Some k) (find (λ j. is_word (keyword_word j) word) ks)) t) ∙ e in cc
+  | inl t ↦ let clash : Some k ≡ None =
+      sym (ap (λ b. cond b (Some k) (find (λ j. is_word (keyword_word j) word) ks)) t) ∙ e in cc
   | inr f ↦
       ap (λ b. cond b (Some (keyword_form n k)) (form_among (keyword_rows n ks) word)) f
       ∙ form_among-none n ks word (sym (ap (λ b. cond b (Some k) (find (λ j. is_word (keyword_word j) word) ks)) f) ∙ e)
 ]
 
 -- a word that is no keyword is unknown to the table
-pub unknown_word : (n : ℕ) (word : Word) → find (λ k. is_word (keyword_word k) word) KEYWORDS ≡ None → form_among (body_forms n) word ≡ None
+pub unknown_word : (n : ℕ) (word : Word) → find (λ k. is_word (keyword_word k) word) KEYWORDS ≡ None
+    → form_among (body_forms n) word ≡ None
 unknown_word n word none = form_among-none n KEYWORDS word none
 
 -- a word is a keyword, or the table does not know it
-pub keyword_cases : (n : ℕ) (word : Word) → ((k : Keyword) × (word ≡ keyword_word k)) ⊎ (form_among (body_forms n) word ≡ None)
+pub keyword_cases : (n : ℕ) (word : Word)
+    → ((k : Keyword) × (word ≡ keyword_word k)) ⊎ (form_among (body_forms n) word ≡ None)
 keyword_cases n word = by (find (λ k. is_word (keyword_word k) word) KEYWORDS) refl
   where
     by : (o : Option Keyword) → find (λ k. is_word (keyword_word k) word) KEYWORDS ≡ o
@@ -49,12 +52,14 @@ keyword_cases n word = by (find (λ k. is_word (keyword_word k) word) KEYWORDS) 
     by (Some k) e = inl (k, word-find keyword_word KEYWORDS word k e)
 
 -- the form of a keyword is that of the table
-pub form_at-keyword : (s : GridScript) (k : Keyword) → form_at (body s) (keyword_word k) ≡ Some (keyword_form (size (grid_in_force s)) k)
+pub form_at-keyword : (s : GridScript) (k : Keyword)
+    → form_at (body s) (keyword_word k) ≡ Some (keyword_form (size (grid_in_force s)) k)
 form_at-keyword s keyword.End = refl
 form_at-keyword s k = refl
 
 -- so is the form of a command
-pub form_at-command : (s : GridScript) (c : Command) → form_at (body s) (command_row c).0 ≡ Some (form_of (size (grid_in_force s)) c)
+pub form_at-command : (s : GridScript) (c : Command)
+    → form_at (body s) (command_row c).0 ≡ Some (form_of (size (grid_in_force s)) c)
 form_at-command s (command.Commute Cols c v) = refl
 form_at-command s (command.Commute Rows c v) = refl
 form_at-command s c = refl
@@ -79,7 +84,3 @@ form-stands_alone n k e = refl
 abbrev pub keyword_of_axis : Axis → Keyword
 keyword_of_axis Cols = keyword.Cols
 keyword_of_axis Rows = keyword.Rows
-
-pub axis_keyword : (a : Axis) → axis_word a ≡ keyword_word (keyword_of_axis a)
-axis_keyword Cols = refl
-axis_keyword Rows = refl

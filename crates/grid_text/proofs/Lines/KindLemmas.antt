@@ -5,6 +5,7 @@ use Rattle.std.proofs.Common.{◌≡◌, ◌≢◌, ℕ, ◌-◌, ◌<◌, ◌�
 use Rattle.std.specs.Prelude.{is_none, ◌==◌}
 use Rattle.std.specs.List.{list_any, find, zip}
 use Rattle.std.specs.Fmt.{decimal}
+use Rattle.std.proofs.Math.Bool.{and-false}
 use Rattle.std.proofs.lemmas.Bool.{cases_Bool, eq-eqb, cases_eq, ne_eqb}
 use Rattle.std.proofs.lemmas.List.{length-map}
 use Rattle.state_rank.specs.States.{state_word}
@@ -39,11 +40,7 @@ count-same k words e = elim (cases_eq k (length words)) [
 pub count-right : (k : ℕ) (words : List Word) → length words ≡ k → not (k == length words) ≡ false
 count-right k words e = ap not (eq-eqb k (length words) (sym e))
 
--- lists of no, one and two words
-pub no_words : (words : List Word) → length words ≡ 0 → words ≡ []
-no_words [] e = refl
-no_words (w ∷ words) e = absurd (omega arith)
-
+-- lists of one and two words
 pub one_word : (words : List Word) → length words ≡ 1 → (w : Word) × (words ≡ w ∷ [])
 one_word [] e = absurd (omega arith)
 one_word (w ∷ []) e = (w, refl)
@@ -57,11 +54,6 @@ two_words (v ∷ w ∷ u ∷ words) e = absurd (omega arith)
 
 -- ---- tests
 
--- a test that is the only one
-pub or_false : (b : Bool) → (b || false) ≡ b
-or_false true = refl
-or_false false = refl
-
 -- of two tests that both fail each fails
 pub or_parts : (a b : Bool) → (a || b) ≡ false → (a ≡ false) × (b ≡ false)
 or_parts true b e = absurd (true≢false e)
@@ -71,11 +63,6 @@ or_parts false b e = (refl, e)
 pub not_false : (b : Bool) → not b ≡ false → b ≡ true
 not_false true e = refl
 not_false false e = absurd (true≢false e)
-
--- two tests of which the second fails
-and_false : (b : Bool) → (b && false) ≡ false
-and_false true = refl
-and_false false = refl
 
 -- a list has no element that passes a test that never does
 pub list_any-never : {A : Type 0} (p : A → Bool) (xs : List A) → ((x : A) → p x ≡ false) → list_any p xs ≡ false
@@ -95,17 +82,20 @@ module _ {A : Type 0} (word : A → Word) where
       → is_bad (choice_of (map word values)) w ≡ true
   bad-find values w none = ap not (none_among values none)
     where
-      none_among : (vs : List A) → find (λ u. is_word (word u) w) vs ≡ None → list_any (λ u. is_word u w) (map word vs) ≡ false
+      none_among : (vs : List A) → find (λ u. is_word (word u) w) vs ≡ None
+          → list_any (λ u. is_word u w) (map word vs) ≡ false
       none_among [] e = refl
       none_among (v ∷ vs) e = elim (cases_Bool (is_word (word v) w)) [
-        | inl t ↦ let clash : Some v ≡ None = sym (ap (λ b. cond b (Some v) (find (λ u. is_word (word u) w) vs)) t) ∙ e in cc
+        | inl t ↦ let clash : Some v ≡ None =
+            sym (ap (λ b. cond b (Some v) (find (λ u. is_word (word u) w) vs)) t) ∙ e in cc
         | inr f ↦
             ap (λ b. b || list_any (λ u. is_word u w) (map word vs)) f
             ∙ none_among vs (sym (ap (λ b. cond b (Some v) (find (λ u. is_word (word u) w) vs)) f) ∙ e)
       ]
 
   -- a good word is that of a value
-  pub value_of_word : (values : List A) (w : Word) → is_bad (choice_of (map word values)) w ≡ false → (v : A) × (w ≡ word v)
+  pub value_of_word : (values : List A) (w : Word) → is_bad (choice_of (map word values)) w ≡ false
+      → (v : A) × (w ≡ word v)
   value_of_word values w good = among values (not_false (list_any (λ u. is_word u w) (map word values)) good)
     where
       among : (vs : List A) → list_any (λ u. is_word u w) (map word vs) ≡ true → (v : A) × (w ≡ word v)
@@ -144,11 +134,13 @@ number_of_word low high w good =
     let r = some_value (numeral low high w) good in (r.0, numeral-found low high r.0 w r.1)
 
 -- the decimal form of a number in the bounds is not bad
-pub number-good : (low high v : ℕ) → low ≤ v → v ≤ high → high < 2 ^ 64 → is_bad (number_between low high) (decimal v) ≡ false
+pub number-good : (low high v : ℕ) → low ≤ v → v ≤ high → high < 2 ^ 64
+    → is_bad (number_between low high) (decimal v) ≡ false
 number-good low high v above below fits = ap is_none (numeral-decimal low high v (decimal v) refl above below fits)
 
 -- the state that a word is
-pub state_of_word : (n : ℕ) (w : Word) → is_bad (state_of_size n) w ≡ false → (x : List ℕ) × ((w ≡ state_word x) × IsBijection n x)
+pub state_of_word : (n : ℕ) (w : Word) → is_bad (state_of_size n) w ≡ false
+    → (x : List ℕ) × ((w ≡ state_word x) × IsBijection n x)
 state_of_word n w good =
     let r = some_value (state_of n w) good in (r.0, state_of-found n r.0 w r.1)
 
@@ -184,12 +176,14 @@ module _ (n : ℕ) (fits : n < 2 ^ 64) where
   arguments-good f (a ∷ arguments) h =
       let here : is_bad_by f (kind_of n a) (argument_word a) ≡ false =
       ap (λ b. is_word (fault_word f) (fault_word (kind_fault (kind_of n a))) && b) (argument-good a h.0)
-      ∙ and_false (is_word (fault_word f) (fault_word (kind_fault (kind_of n a)))) in
-      ap (λ b. b || list_any (λ (p : Kind × Word). is_bad_by f p.0 p.1) (zip (map (kind_of n) arguments) (map argument_word arguments))) here
+      ∙ and-false (is_word (fault_word f) (fault_word (kind_fault (kind_of n a)))) in
+      ap (λ b. b || list_any (λ (p : Kind × Word). is_bad_by f p.0 p.1)
+      (zip (map (kind_of n) arguments) (map argument_word arguments))) here
       ∙ arguments-good f arguments h.1
 
 -- there are as many words as kinds
-pub arguments-count : (n : ℕ) (arguments : List Argument) → is_bad_count (exactly (map (kind_of n) arguments)) (map argument_word arguments) ≡ false
+pub arguments-count : (n : ℕ) (arguments : List Argument)
+    → is_bad_count (exactly (map (kind_of n) arguments)) (map argument_word arguments) ≡ false
 arguments-count n arguments =
     count-right (length (map (kind_of n) arguments)) (map argument_word arguments)
     (length-map arguments argument_word ∙ sym (length-map arguments (kind_of n)))

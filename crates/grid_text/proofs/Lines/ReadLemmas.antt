@@ -8,6 +8,8 @@ use Rattle.std.specs.List.{list_any, Contains}
 use Rattle.std.proofs.lemmas.List.Sorted.{IsPermutation-refl, All-permutation}
 use Rattle.std.proofs.lemmas.List.Elements.{Contains-get_or}
 use Rattle.std.proofs.lemmas.Bool.{cases_lt, le-leb}
+use Rattle.std.proofs.Math.Bool.{or-false}
+use Rattle.std.proofs.lemmas.List.{nil_from_length}
 use Rattle.state_rank.specs.States.{state_word}
 use Rattle.state_rank.specs.Bijection.{IsSize, IsBijection}
 use Rattle.state_rank.proofs.MemberLemmas.{member_cases, no_member}
@@ -28,7 +30,7 @@ use Rattle.grid_text.specs.declared.commands.Command.{Command}
 use Rattle.grid_text.specs.declared.commands.Command.TheVariants as command
 use Rattle.grid_text.specs.declared.faults.TextFault.TheVariants as fault
 use Rattle.grid_text.proofs.Lines.WordLemmas.{numeral-decimal}
-use Rattle.grid_text.proofs.Lines.KindLemmas.{or_false, or_parts, not_false, count-same, no_words, one_word, two_words, value_of_word, number_of_word, state_of_word}
+use Rattle.grid_text.proofs.Lines.KindLemmas.{or_parts, not_false, count-same, one_word, two_words, value_of_word, number_of_word, state_of_word}
 use Rattle.grid_text.proofs.Lines.KeywordLemmas.{keyword_cases, form_at-keyword, keyword_of_axis}
 use Rattle.grid_text.proofs.Lines.ScriptLemmas.{IsGridOf-grid_in_force}
 use Rattle.grid_text.proofs.Lines.FaultLemmas.{NoRowHolds, NoRowHolds-from_none, fault_at-no_word, fault_at-bad_word}
@@ -52,7 +54,8 @@ states_of_words n (w ∷ words) good =
     )
 
 -- a bijection of the size is a state of the grid in force
-pub IsStateOf-from_bijection : (s : GridScript) → IsScript s → (x : List ℕ) → IsBijection (size (grid_in_force s)) x → IsStateOf (grid_in_force s) x
+pub IsStateOf-from_bijection : (s : GridScript) → IsScript s → (x : List ℕ) → IsBijection (size (grid_in_force s)) x
+    → IsStateOf (grid_in_force s) x
 IsStateOf-from_bijection s h x bijection = record {
   state = record {
     size = subst IsSize (sym bijection.long) (IsGridOf-grid_in_force s h).grid.is_size;
@@ -85,40 +88,50 @@ module _ (s : GridScript) (h : IsScript s) where
       NoRowHolds (body s) (keyword_form n k) (keyword_word k) arguments
       × (is_one_too_many (body s) (keyword_word k ∷ arguments) ≡ false)
 
-  rest_of : (k : Keyword) (arguments : List Word) → fault_at (body s) (keyword_word k ∷ arguments) ≡ None → Rest k arguments
-  rest_of k arguments none = NoRowHolds-from_none (body s) (keyword_form n k) (keyword_word k) arguments refl (form_at-keyword s k) none
+  rest_of : (k : Keyword) (arguments : List Word) → fault_at (body s) (keyword_word k ∷ arguments) ≡ None
+      → Rest k arguments
+  rest_of k arguments none =
+      NoRowHolds-from_none (body s) (keyword_form n k) (keyword_word k) arguments refl (form_at-keyword s k) none
 
   -- a keyword that stands alone
-  alone-good : (k : Keyword) (c : Command) (arguments : List Word) → keyword_form n k ≡ exactly [] → IsLineOf (keyword_word k ∷ []) c
-      → IsAllowed (grid_in_force s) c → is_one_too_many (body s) (keyword_word k ∷ arguments) ≡ nat_le max_commands (length s.commands)
+  alone-good : (k : Keyword) (c : Command) (arguments : List Word) → keyword_form n k ≡ exactly []
+      → IsLineOf (keyword_word k ∷ []) c
+      → IsAllowed (grid_in_force s) c
+      → is_one_too_many (body s) (keyword_word k ∷ arguments) ≡ nat_le max_commands (length s.commands)
       → Rest k arguments → IsGood (keyword_word k ∷ arguments)
   alone-good k c arguments form line allowed last r =
-      let none = no_words arguments (count-same 0 arguments (subst (λ f. is_bad_count f arguments ≡ false) form r.0.count)) in
+      let none = nil_from_length arguments (count-same 0 arguments (subst
+      (λ f. is_bad_count f arguments ≡ false) form r.0.count)) in
       inr (c, (subst (λ a. IsLineOf (keyword_word k ∷ a) c) (sym none) line, allowed, few (sym last ∙ r.1)))
 
   -- `cols` and `rows`
   commute-good : (axis : Axis) (arguments : List Word) → Rest (keyword_of_axis axis) arguments
       → ((v w : Word) → arguments ≡ v ∷ w ∷ [] → fails_to_commute axis (grid_in_force s) v ≡ false)
       → axis_word axis ≡ keyword_word (keyword_of_axis axis)
-      → keyword_form n (keyword_of_axis axis) ≡ exactly (number_between 0 (n - 1) ∷ choice_of (map corner_word corners) ∷ [])
+      → keyword_form n (keyword_of_axis axis) ≡ exactly
+      (number_between 0 (n - 1) ∷ choice_of (map corner_word corners) ∷ [])
       → length s.commands < max_commands → IsGood (axis_word axis ∷ arguments)
   commute-good axis arguments r commuting is form room =
       let count = subst (λ f. is_bad_count f arguments ≡ false) form r.0.count in
       let words = two_words arguments (count-same 2 arguments count) in
       let choice : is_bad (choice_of (map corner_word corners)) words.1 ≡ false =
-      sym (or_false _) ∙ subst (λ a. has_bad fault.BadChoice (exactly (number_between 0 (n - 1) ∷ choice_of (map corner_word corners) ∷ [])) a ≡ false) words.2
+      sym (or-false _) ∙ subst (λ a. has_bad fault.BadChoice (exactly
+      (number_between 0 (n - 1) ∷ choice_of (map corner_word corners) ∷ [])) a ≡ false) words.2
       (subst (λ f. has_bad fault.BadChoice f arguments ≡ false) form r.0.choice) in
       let numbered : is_bad (number_between 0 (n - 1)) words.0 ≡ false =
-      sym (or_false _) ∙ subst (λ a. has_bad fault.BadNumber (exactly (number_between 0 (n - 1) ∷ choice_of (map corner_word corners) ∷ [])) a ≡ false) words.2
+      sym (or-false _) ∙ subst (λ a. has_bad fault.BadNumber (exactly
+      (number_between 0 (n - 1) ∷ choice_of (map corner_word corners) ∷ [])) a ≡ false) words.2
       (subst (λ f. has_bad fault.BadNumber f arguments ≡ false) form r.0.number) in
       let v = value_of_word corner_word corners words.1 choice in
       let c = number_of_word 0 (n - 1) words.0 numbered in
       let least = (IsGridOf-grid_in_force s h).grid.is_size.least in
       let most = (IsGridOf-grid_in_force s h).grid.is_size.greatest in
       let high = c.1.2 in
-      let is_c : numeral 0 (n - 1) words.0 ≡ Some c.0 = numeral-decimal 0 (n - 1) c.0 words.0 c.1.0 (omega arith) (omega arith) (omega arith) in
+      let is_c : numeral 0 (n - 1) words.0 ≡ Some c.0 =
+      numeral-decimal 0 (n - 1) c.0 words.0 c.1.0 (omega arith) (omega arith) (omega arith) in
       let fails : not (are_commuting axis (grid_in_force s) c.0) ≡ false =
-      sym (ap (λ o. option_map_or (λ d. not (are_commuting axis (grid_in_force s) d)) o false) is_c) ∙ commuting words.0 words.1 words.2 in
+      sym (ap (λ o. option_map_or (λ d. not (are_commuting axis (grid_in_force s) d)) o false) is_c)
+      ∙ commuting words.0 words.1 words.2 in
       inr (
         command.Commute axis c.0 v.0,
         (
@@ -133,15 +146,20 @@ module _ (s : GridScript) (h : IsScript s) where
   key-good keyword.Class arguments r =
       let one = one_word arguments (count-same 1 arguments r.0.count) in
       let good = subst (λ a. has_bad fault.BadChoice (keyword_form n keyword.Class) a ≡ false) one.1 r.0.choice in
-      let v = value_of_word sign_word signs one.0 (sym (or_false _) ∙ good) in
+      let v = value_of_word sign_word signs one.0 (sym (or-false _) ∙ good) in
       inr (command.Class v.0, (ap (λ a. keyword_word keyword.Class ∷ a) (one.1 ∙ ap (λ w. w ∷ []) v.1), tt, few r.1))
   key-good keyword.Border arguments r =
       let one = one_word arguments (count-same 1 arguments r.0.count) in
       let good = subst (λ a. has_bad fault.BadState (keyword_form n keyword.Border) a ≡ false) one.1 r.0.state in
-      let x = state_of_word n one.0 (sym (or_false _) ∙ good) in
+      let x = state_of_word n one.0 (sym (or-false _) ∙ good) in
       inr (
         command.Border x.0,
-        (ap (λ a. keyword_word keyword.Border ∷ a) (one.1 ∙ ap (λ w. w ∷ []) x.1.0), IsStateOf-from_bijection s h x.0 x.1.1, few r.1),
+        (
+          ap (λ a. keyword_word keyword.Border ∷ a) (one.1 ∙ ap (λ w. w ∷ []) x.1.0),
+          IsStateOf-from_bijection s h x.0
+              x.1.1,
+          few r.1,
+        ),
       )
   key-good keyword.Chain arguments r =
       let xs = states_of_words n arguments r.0.state in
@@ -153,7 +171,8 @@ module _ (s : GridScript) (h : IsScript s) where
           (xs.0, z.1, ap (λ a. keyword_word keyword.Chain ∷ a) xs.1 ∙ sym (chain_words xs.0)),
           (
             All-permutation (IsStateOf (grid_in_force s)) xs.0 z.0 z.1
-                (λ k d l. IsStateOf-from_bijection s h (get_or xs.0 k d) (xs.2 (get_or xs.0 k d) (Contains-get_or xs.0 k d l))),
+                (λ k d l. IsStateOf-from_bijection s h (get_or xs.0 k d)
+                (xs.2 (get_or xs.0 k d) (Contains-get_or xs.0 k d l))),
             z.2,
           ),
           few r.1,
@@ -162,22 +181,28 @@ module _ (s : GridScript) (h : IsScript s) where
   key-good keyword.Turn arguments r =
       let one = one_word arguments (count-same 1 arguments r.0.count) in
       let good = subst (λ a. has_bad fault.BadChoice (keyword_form n keyword.Turn) a ≡ false) one.1 r.0.choice in
-      let v = value_of_word side_word sides one.0 (sym (or_false _) ∙ good) in
+      let v = value_of_word side_word sides one.0 (sym (or-false _) ∙ good) in
       inr (command.Turn v.0, (ap (λ a. keyword_word keyword.Turn ∷ a) (one.1 ∙ ap (λ w. w ∷ []) v.1), tt, few r.1))
   key-good keyword.Cols arguments r =
       commute-good Cols arguments r
-      (λ v w e. sym (or_false (fails_to_commute Cols (grid_in_force s) v)) ∙ subst (λ a. is_not_commuting (body s) (axis_word Cols ∷ a) ≡ false) e r.0.commuting)
+      (λ v w e. sym (or-false (fails_to_commute Cols (grid_in_force s) v))
+      ∙ subst (λ a. is_not_commuting (body s) (axis_word Cols ∷ a) ≡ false) e r.0.commuting)
       refl refl (few r.1)
   key-good keyword.Rows arguments r =
-      commute-good Rows arguments r (λ v w e. subst (λ a. is_not_commuting (body s) (axis_word Rows ∷ a) ≡ false) e r.0.commuting) refl refl (few r.1)
-  key-good keyword.End arguments r = inl (ap (λ a. end_word ∷ a) (no_words arguments (count-same 0 arguments r.0.count)))
+      commute-good Rows arguments r (λ v w e. subst (λ a. is_not_commuting (body s) (axis_word Rows ∷ a) ≡ false) e
+      r.0.commuting) refl refl (few r.1)
+  key-good keyword.End arguments r =
+      inl (ap (λ a. end_word ∷ a) (nil_from_length arguments (count-same 0 arguments r.0.count)))
   key-good k arguments r = alone-good k (option_map_or (λ c. c) (example k) command.Front) arguments refl refl tt refl r
 
   -- a line without a fault is `end`, or that of a command that may stand there
   pub body-read : (words : List Word) → fault_at (body s) words ≡ None
-      → (words ≡ end_word ∷ []) ⊎ ((c : Command) × (IsLineOf words c × IsAllowed (grid_in_force s) c × (length s.commands < max_commands)))
+      → (words ≡ end_word ∷ []) ⊎ ((c : Command) × (IsLineOf words c × IsAllowed (grid_in_force s) c
+      × (length s.commands < max_commands)))
   body-read [] none = let clash : Some fault.BadWord ≡ None = sym (fault_at-no_word (body s) refl) ∙ none in cc
   body-read (w ∷ arguments) none = elim (keyword_cases n w) [
-    | inl k ↦ subst (λ v. IsGood (v ∷ arguments)) (sym k.1) (key-good k.0 arguments (rest_of k.0 arguments (ap (λ v. fault_at (body s) (v ∷ arguments)) (sym k.1) ∙ none)))
-    | inr unknown ↦ let clash : Some fault.BadWord ≡ None = sym (fault_at-bad_word (body s) w arguments refl unknown) ∙ none in cc
+    | inl k ↦ subst (λ v. IsGood (v ∷ arguments)) (sym k.1)
+        (key-good k.0 arguments (rest_of k.0 arguments (ap (λ v. fault_at (body s) (v ∷ arguments)) (sym k.1) ∙ none)))
+    | inr unknown ↦ let clash : Some fault.BadWord ≡ None =
+        sym (fault_at-bad_word (body s) w arguments refl unknown) ∙ none in cc
   ]

@@ -1,4 +1,5 @@
--- Scripts with one more command, and the grids in force.
+-- Scripts with one more command, and the grids in force. Turns and exchanges make grids of grids, of the same size; so
+-- the grid in force after commands that may stand there is a grid, and a script with one more command is a script.
 use Rattle.std.proofs.Common.{◌≡◌, ℕ, ◌<◌, List, [], ◌∷◌, ◌++◌, length, refl, ap, subst, ◌∙◌, sym, arith, length-append}
 use Rattle.torus_geom.specs.Marks.{Marks, IsGrid, size}
 use Rattle.torus_geom.specs.Transposed.{transposed}
@@ -49,27 +50,32 @@ IsGridOf-grid_after n g (command.Commute axis c corner) h a = IsGridOf-swapped a
 IsGridOf-grid_after n g c h a = h
 
 -- the grid in force after one more command
-pub grid_after_all-push : (g : Marks) (commands : List Command) (c : Command) → grid_after_all g (commands ++ c ∷ []) ≡ grid_after (grid_after_all g commands) c
+pub grid_after_all-push : (g : Marks) (commands : List Command) (c : Command)
+    → grid_after_all g (commands ++ c ∷ []) ≡ grid_after (grid_after_all g commands) c
 grid_after_all-push g [] c = refl
 grid_after_all-push g (b ∷ commands) c = grid_after_all-push (grid_after g b) commands c
 
 -- one more command that is allowed
-pub AreAllowed-push : (g : Marks) (commands : List Command) (c : Command) → AreAllowed g commands → IsAllowed (grid_after_all g commands) c → AreAllowed g (commands ++ c ∷ [])
+pub AreAllowed-push : (g : Marks) (commands : List Command) (c : Command) → AreAllowed g commands
+    → IsAllowed (grid_after_all g commands) c → AreAllowed g (commands ++ c ∷ [])
 AreAllowed-push g [] c all one = (one, tt)
 AreAllowed-push g (b ∷ commands) c all one = (all.0, AreAllowed-push (grid_after g b) commands c all.1 one)
 
 -- the grid in force is a grid of the size of the first
-pub IsGridOf-grid_after_all : (n : ℕ) (g : Marks) (commands : List Command) → IsGridOf n g → AreAllowed g commands → IsGridOf n (grid_after_all g commands)
+pub IsGridOf-grid_after_all : (n : ℕ) (g : Marks) (commands : List Command) → IsGridOf n g → AreAllowed g commands
+    → IsGridOf n (grid_after_all g commands)
 IsGridOf-grid_after_all n g [] h all = h
 IsGridOf-grid_after_all n g (c ∷ commands) h all =
     IsGridOf-grid_after_all n (grid_after g c) commands (IsGridOf-grid_after n g c h all.0) all.1
 
 -- the same of a script
 pub IsGridOf-grid_in_force : (s : GridScript) → IsScript s → IsGridOf (size s.grid) (grid_in_force s)
-IsGridOf-grid_in_force s h = IsGridOf-grid_after_all (size s.grid) s.grid s.commands (record { grid = h.grid; same_size = refl }) h.allowed
+IsGridOf-grid_in_force s h =
+    IsGridOf-grid_after_all (size s.grid) s.grid s.commands (record { grid = h.grid; same_size = refl }) h.allowed
 
 -- a script with one more command
-pub IsScript-with_command : (s : GridScript) (c : Command) → IsScript s → length s.commands < max_commands → IsAllowed (grid_in_force s) c → IsScript (with_command s c)
+pub IsScript-with_command : (s : GridScript) (c : Command) → IsScript s → length s.commands < max_commands
+    → IsAllowed (grid_in_force s) c → IsScript (with_command s c)
 IsScript-with_command s c h few allowed = record {
   grid = h.grid;
   few = omega (arith, length-append s.commands (c ∷ []));
@@ -81,11 +87,14 @@ pub IsScript-no_command : (g : Marks) → IsGrid g → IsScript (record { grid =
 IsScript-no_command g h = record { grid = h; few = omega arith; allowed = tt }
 
 -- what is kept of a script is kept of it with one more command
-pub with_command-kept : (g : Marks) (commands more : List Command) (now next : Marks) (c : Command)
-    → IsScript (record { grid = g; commands = commands }) → now ≡ grid_after_all g commands → more ≡ commands ++ c ∷ [] → next ≡ grid_after now c
+pub with_command-stored : (g : Marks) (commands more : List Command) (now next : Marks) (c : Command)
+    → IsScript (record { grid = g; commands = commands }) → now ≡ grid_after_all g commands
+    → more ≡ commands ++ c ∷ [] → next ≡ grid_after now c
     → length commands < max_commands → IsAllowed (grid_after_all g commands) c
     → IsScript (record { grid = g; commands = more }) × (next ≡ grid_after_all g more)
-with_command-kept g commands more now next c h in_force appended after few allowed = (
-  subst (λ cs. IsScript (record { grid = g; commands = cs })) (sym appended) (IsScript-with_command (record { grid = g; commands = commands }) c h few allowed),
-  after ∙ ap (λ f. grid_after f c) in_force ∙ sym (grid_after_all-push g commands c) ∙ ap (grid_after_all g) (sym appended),
+with_command-stored g commands more now next c h in_force appended after few allowed = (
+  subst (λ cs. IsScript (record { grid = g; commands = cs })) (sym appended)
+      (IsScript-with_command (record { grid = g; commands = commands }) c h few allowed),
+  after ∙ ap (λ f. grid_after f c) in_force ∙ sym (grid_after_all-push g commands c)
+      ∙ ap (grid_after_all g) (sym appended),
 )

@@ -1,4 +1,5 @@
--- The words of a line as the reader holds them, each behind a reference.
+-- The words of a line as the reader holds them, each behind a reference: `seen` is the list of the words, and its
+-- length, its first words, its fronts and tests of its words are those of the list of references.
 use Rattle.std.proofs.Common.{◌≡◌, ◌≢◌, ℕ, zero, suc, ◌+◌, ◌-◌, ◌<◌, ◌≤◌, Bool, true, false, ◌||◌, List, [], ◌∷◌, ◌++◌, length, map, take, drop, get_or, Bor, refl, ap, ◌∙◌, sym, arith, true≢false}
 use Rattle.std.proofs.lemmas.List.{take_all, take_more, map-append, length-map}
 use Rattle.std.specs.List.{list_any}
@@ -10,13 +11,15 @@ abbrev pub seen : List (Bor (List ℕ)) → List Word
 seen words = map (λ w. w.now) words
 
 -- one word
-pub seen-one : (words : List (Bor (List ℕ))) (d : Bor (List ℕ)) → length words ≡ 1 → seen words ≡ (get_or words 0 d).now ∷ []
+pub seen-one : (words : List (Bor (List ℕ))) (d : Bor (List ℕ)) → length words ≡ 1
+    → seen words ≡ (get_or words 0 d).now ∷ []
 seen-one [] d one = absurd (omega arith)
 seen-one (v ∷ []) d one = refl
 seen-one (v ∷ u ∷ words) d one = absurd (omega arith)
 
 -- two words
-pub seen-two : (words : List (Bor (List ℕ))) (d e : Bor (List ℕ)) → length words ≡ 2 → seen words ≡ (get_or words 0 d).now ∷ (get_or words 1 e).now ∷ []
+pub seen-two : (words : List (Bor (List ℕ))) (d e : Bor (List ℕ)) → length words ≡ 2
+    → seen words ≡ (get_or words 0 d).now ∷ (get_or words 1 e).now ∷ []
 seen-two [] d e two = absurd (omega arith)
 seen-two (t ∷ []) d e two = absurd (omega arith)
 seen-two (t ∷ u ∷ []) d e two = refl
@@ -32,45 +35,53 @@ seen-none [] none = refl
 seen-none (w ∷ words) none = absurd (omega arith)
 
 -- the first word and the others
-pub seen-parts : (words : List (Bor (List ℕ))) (d : Bor (List ℕ)) → 1 ≤ length words → seen words ≡ (get_or words 0 d).now ∷ seen (take (length words - 1) (drop 1 words))
+pub seen-parts : (words : List (Bor (List ℕ))) (d : Bor (List ℕ)) → 1 ≤ length words
+    → seen words ≡ (get_or words 0 d).now ∷ seen (take (length words - 1) (drop 1 words))
 seen-parts [] d some = absurd (omega arith)
-seen-parts (w ∷ words) d some = ap (λ (r : List (Bor (List ℕ))). w.now ∷ seen r) (sym (take_all (length (w ∷ words) - 1) words (omega arith)))
+seen-parts (w ∷ words) d some =
+    ap (λ (r : List (Bor (List ℕ))). w.now ∷ seen r) (sym (take_all (length (w ∷ words) - 1) words (omega arith)))
 
 -- where the first is the one expected
-pub seen-first : (words : List (Bor (List ℕ))) (expected : Word) (d : Bor (List ℕ)) → 1 ≤ length words → is_word expected (get_or words 0 d).now ≡ true
+pub seen-first : (words : List (Bor (List ℕ))) (expected : Word) (d : Bor (List ℕ)) → 1 ≤ length words
+    → is_word expected (get_or words 0 d).now ≡ true
     → seen words ≡ expected ∷ seen (take (length words - 1) (drop 1 words))
 seen-first words expected d some same =
-    seen-parts words d some ∙ ap (λ w. w ∷ seen (take (length words - 1) (drop 1 words))) (sym (same_word expected (get_or words 0 d).now same))
+    seen-parts words d some ∙ ap (λ w. w ∷ seen (take (length words - 1) (drop 1 words)))
+    (sym (same_word expected (get_or words 0 d).now same))
 
 -- and where it is not
-pub seen-other : (words : List (Bor (List ℕ))) (expected : Word) (d : Bor (List ℕ)) → 1 ≤ length words → is_word expected (get_or words 0 d).now ≡ false
+pub seen-other : (words : List (Bor (List ℕ))) (expected : Word) (d : Bor (List ℕ)) → 1 ≤ length words
+    → is_word expected (get_or words 0 d).now ≡ false
     → (rest : List Word) → seen words ≢ expected ∷ rest
 seen-other words expected d some other rest e =
-    let whole : (get_or words 0 d).now ∷ seen (take (length words - 1) (drop 1 words)) ≡ expected ∷ rest = sym (seen-parts words d some) ∙ e in
+    let whole : (get_or words 0 d).now ∷ seen (take (length words - 1) (drop 1 words)) ≡ expected ∷ rest =
+    sym (seen-parts words d some) ∙ e in
     let head : (get_or words 0 d).now ≡ expected = cc in
     true≢false (sym (is_word-same expected) ∙ ap (is_word expected) (sym head) ∙ other)
 
--- two words of which the second is known
-pub seen-two_is : (words : List (Bor (List ℕ))) (d e : Bor (List ℕ)) (u : Word) → length words ≡ 2 → (get_or words 1 e).now ≡ u → seen words ≡ (get_or words 0 d).now ∷ u ∷ []
-seen-two_is words d e u two is = seen-two words d e two ∙ ap (λ v. (get_or words 0 d).now ∷ v ∷ []) is
-
 -- the second of two words
-pub seen-second : (words : List (Bor (List ℕ))) (e : Bor (List ℕ)) → length words ≡ 2 → (v : Word) × (seen words ≡ v ∷ (get_or words 1 e).now ∷ [])
+pub seen-second : (words : List (Bor (List ℕ))) (e : Bor (List ℕ)) → length words ≡ 2
+    → (v : Word) × (seen words ≡ v ∷ (get_or words 1 e).now ∷ [])
 seen-second words e two = ((get_or words 0 e).now, seen-two words e e two)
 
 -- one more word
-pub seen-more : (words : List (Bor (List ℕ))) (i : ℕ) (d : Bor (List ℕ)) → i < length words → seen (take (i + 1) words) ≡ seen (take i words) ++ (get_or words i d).now ∷ []
-seen-more words i d within = ap seen (take_more words i d within) ∙ map-append (λ (w : Bor (List ℕ)). w.now) (take i words) (get_or words i d ∷ [])
+pub seen-more : (words : List (Bor (List ℕ))) (i : ℕ) (d : Bor (List ℕ)) → i < length words
+    → seen (take (i + 1) words) ≡ seen (take i words) ++ (get_or words i d).now ∷ []
+seen-more words i d within =
+    ap seen (take_more words i d within) ∙ map-append (λ (w : Bor (List ℕ)). w.now) (take i words)
+    (get_or words i d ∷ [])
 
 -- all words
 pub seen-all : (words : List (Bor (List ℕ))) (i : ℕ) → length words ≤ i → seen (take i words) ≡ seen words
 seen-all words i all = ap seen (take_all i words all)
 
 -- one word that passes a test
-pub seen-any : (p : Word → Bool) (words : List (Bor (List ℕ))) (i : ℕ) (d : Bor (List ℕ)) → i < length words → p (get_or words i d).now ≡ true → list_any p (seen words) ≡ true
+pub seen-any : (p : Word → Bool) (words : List (Bor (List ℕ))) (i : ℕ) (d : Bor (List ℕ)) → i < length words
+    → p (get_or words i d).now ≡ true → list_any p (seen words) ≡ true
 seen-any p [] i d within passes = absurd (omega (arith, within))
 seen-any p (w ∷ words) zero d within passes = ap (λ b. b || list_any p (seen words)) passes
-seen-any p (w ∷ words) (suc i) d within passes = ap (λ b. p w.now || b) (seen-any p words i d (omega (arith, within)) passes) ∙ or_true (p w.now)
+seen-any p (w ∷ words) (suc i) d within passes =
+    ap (λ b. p w.now || b) (seen-any p words i d (omega (arith, within)) passes) ∙ or_true (p w.now)
   where
     or_true : (b : Bool) → (b || true) ≡ true
     or_true true = refl

@@ -1,5 +1,6 @@
--- Words: which number or state a word is. What is looked for in a list is found there exactly where one
--- element passes the test.
+-- Words: which number or state a word is. What is looked for in a list is found there exactly where one element
+-- passes the test (`find-one`, `find-none`, `found`). Numbers of at most 64 bits and states have words of their own,
+-- so that each word is that of one number between two bounds, or of one state of a size, or of none.
 use Rattle.std.proofs.Common.{◌≡◌, ◌≢◌, ◌⊎◌, ℕ, zero, suc, ◌+◌, ◌-◌, ◌<◌, ◌≤◌, ◌^◌, Bool, true, false, ◌&&◌, cond, List, [], ◌∷◌, length, get_or, None, Some, Result, Ok, Err, IfSome, IfNone, refl, ap, subst, ◌∙◌, sym, arith, inl, inr, true≢false, set, take, ◌++◌, IsNone, OnSome, Option}
 use Rattle.std.proofs.lemmas.Bool.{cases_Bool, eq-eqb, cases_eq, ne_eqb}
 use Rattle.std.proofs.lemmas.List.Elements.{Contains-get_or}
@@ -46,16 +47,19 @@ is_word-other v w other = elim (cases_Bool (is_word v w)) [
 pub find-none : {A : Type 0} (p : A → Bool) (xs : List A) → ((x : A) → Contains xs x → p x ≡ false) → find p xs ≡ None
 find-none p [] none = refl
 find-none p (x ∷ xs) none =
-    ap (λ b. cond b (Some x) (find p xs)) (none x (member_head x xs)) ∙ find-none p xs (λ y m. none y (member_tail x xs y m))
+    ap (λ b. cond b (Some x) (find p xs)) (none x (member_head x xs))
+    ∙ find-none p xs (λ y m. none y (member_tail x xs y m))
 
 -- one does, and no other
-pub find-one : {A : Type 0} (p : A → Bool) (xs : List A) (x : A) → Contains xs x → p x ≡ true → ((y : A) → Contains xs y → p y ≡ true → y ≡ x) → find p xs ≡ Some x
+pub find-one : {A : Type 0} (p : A → Bool) (xs : List A) (x : A) → Contains xs x → p x ≡ true
+    → ((y : A) → Contains xs y → p y ≡ true → y ≡ x) → find p xs ≡ Some x
 find-one p [] x m passes only = absurd (no_member x m)
 find-one p (y ∷ xs) x m passes only = elim (cases_Bool (p y)) [
   | inl t ↦ ap (λ b. cond b (Some y) (find p xs)) t ∙ ap Some (only y (member_head y xs) t)
   | inr f ↦ elim (member_cases y xs x m) [
     | inl e ↦ absurd (true≢false (sym passes ∙ ap p (sym e) ∙ f))
-    | inr later ↦ ap (λ b. cond b (Some y) (find p xs)) f ∙ find-one p xs x later passes (λ z n. only z (member_tail y xs z n))
+    | inr later ↦ ap (λ b. cond b (Some y) (find p xs)) f
+        ∙ find-one p xs x later passes (λ z n. only z (member_tail y xs z n))
   ]
 ]
 
@@ -68,7 +72,8 @@ found p (y ∷ xs) x e = elim (cases_Bool (p y)) [
       let is : y ≡ x = cc in
       (subst (λ z. Contains (y ∷ xs) z) is (member_head y xs), ap p (sym is) ∙ t)
   | inr f ↦
-      let later = found p xs x (sym (ap (λ b. cond b (Some y) (find p xs)) f) ∙ e) in (member_tail y xs x later.0, later.1)
+      let later = found p xs x (sym (ap (λ b. cond b (Some y) (find p xs)) f) ∙ e) in
+      (member_tail y xs x later.0, later.1)
 ]
 
 -- ---- numbers
@@ -80,7 +85,8 @@ Contains-tabulate n f i below =
     (Contains-get_or (tabulate n f) i (f i) (omega (arith, length-tabulate n f)))
 
 -- and nothing else
-pub member_of_tabulate : {A : Type 0} (n : ℕ) (f : ℕ → A) (x : A) → Contains (tabulate n f) x → (i : ℕ) × (i < n) × (f i ≡ x)
+pub member_of_tabulate : {A : Type 0} (n : ℕ) (f : ℕ → A) (x : A) → Contains (tabulate n f) x
+    → (i : ℕ) × (i < n) × (f i ≡ x)
 member_of_tabulate n f x (k, within, e) =
     let below : k < n = omega (arith, length-tabulate n f) in (k, below, sym (get_or-tabulate n f k x below) ∙ e)
 
@@ -88,10 +94,12 @@ member_of_tabulate n f x (k, within, e) =
 Contains-numbers : (low high v : ℕ) → low ≤ v → v ≤ high → Contains (numbers low (high + 1)) v
 Contains-numbers low high v above below =
     let e : low + (v - low) ≡ v = omega arith in
-    subst (λ x. Contains (numbers low (high + 1)) x) e (Contains-tabulate (high + 1 - low) (λ i. low + i) (v - low) (omega arith))
+    subst (λ x. Contains (numbers low (high + 1)) x) e
+    (Contains-tabulate (high + 1 - low) (λ i. low + i) (v - low) (omega arith))
 
 -- the word of a number in its bounds
-pub numeral-decimal : (low high v : ℕ) (word : Word) → word ≡ decimal v → low ≤ v → v ≤ high → high < 2 ^ 64 → numeral low high word ≡ Some v
+pub numeral-decimal : (low high v : ℕ) (word : Word) → word ≡ decimal v → low ≤ v → v ≤ high → high < 2 ^ 64
+    → numeral low high word ≡ Some v
 unfolding numeral
 numeral-decimal low high v word e above below fits =
     find_below v word (numbers low (high + 1)) e (Contains-numbers low high v above below) (λ u m.
@@ -101,13 +109,15 @@ numeral-decimal low high v word e above below fits =
     omega arith) (omega arith)
   where
     -- of numbers that are not too long, one alone has the word
-    find_below : (v : ℕ) (word : Word) (xs : List ℕ) → word ≡ decimal v → Contains xs v → ((u : ℕ) → Contains xs u → u < 2 ^ 64) → v < 2 ^ 64 → find (λ u. is_word (decimal u) word) xs ≡ Some v
+    find_below : (v : ℕ) (word : Word) (xs : List ℕ) → word ≡ decimal v → Contains xs v
+        → ((u : ℕ) → Contains xs u → u < 2 ^ 64) → v < 2 ^ 64 → find (λ u. is_word (decimal u) word) xs ≡ Some v
     find_below v word xs e m fit v_fits =
         find-one (λ u. is_word (decimal u) word) xs v m (ap (is_word (decimal v)) e ∙ is_word-same (decimal v))
         (λ u n t. decimal_injective u v (fit u n) v_fits (same_word (decimal u) word t ∙ e))
 
 -- a word of no number in the bounds
-pub numeral-none : (low high : ℕ) (word : Word) → ((v : ℕ) → low ≤ v → v ≤ high → word ≢ decimal v) → numeral low high word ≡ None
+pub numeral-none : (low high : ℕ) (word : Word) → ((v : ℕ) → low ≤ v → v ≤ high → word ≢ decimal v)
+    → numeral low high word ≡ None
 unfolding numeral
 numeral-none low high word none =
     find-none (λ v. is_word (decimal v) word) (numbers low (high + 1)) (λ v m.
@@ -117,7 +127,8 @@ numeral-none low high word none =
     is_word-other (decimal v) word (λ e. none v (omega arith) (omega arith) (sym e)))
 
 -- a number out of the bounds is none in them
-pub decimal-out_of_bounds : (low high u : ℕ) (word : Word) → word ≡ decimal u → u < 2 ^ 64 → high < 2 ^ 64 → (u < low) ⊎ ((low ≤ u) × (high < u))
+pub decimal-out_of_bounds : (low high u : ℕ) (word : Word) → word ≡ decimal u → u < 2 ^ 64 → high < 2 ^ 64
+    → (u < low) ⊎ ((low ≤ u) × (high < u))
     → (v : ℕ) → low ≤ v → v ≤ high → word ≢ decimal v
 decimal-out_of_bounds low high u word e fits high_fits out v above below e' =
     let same = decimal_injective u v fits (omega arith) (sym e ∙ e') in
@@ -127,7 +138,8 @@ decimal-out_of_bounds low high u word e fits high_fits out v above below e' =
     ]
 
 -- what a numeral says of its word
-pub numeral-found : (low high v : ℕ) (word : Word) → numeral low high word ≡ Some v → (word ≡ decimal v) × (low ≤ v) × (v ≤ high)
+pub numeral-found : (low high v : ℕ) (word : Word) → numeral low high word ≡ Some v
+    → (word ≡ decimal v) × (low ≤ v) × (v ≤ high)
 unfolding numeral
 numeral-found low high v word e =
     let r = found (λ u. is_word (decimal u) word) (numbers low (high + 1)) v e in
@@ -142,7 +154,8 @@ HasPlainStart word = (0 < length word) × (get_or word 0 0 ≢ 43) × (get_or wo
 
 -- the decimal form of a number has a plain start
 pub decimal-plain_start : (v : ℕ) → v < 2 ^ 64 → HasPlainStart (decimal v)
-decimal-plain_start zero fits = rw (decimal_digit zero (omega arith)) (omega arith, (λ e. omega (arith, e)), (λ e. omega arith))
+decimal-plain_start zero fits =
+    rw (decimal_digit zero (omega arith)) (omega arith, (λ e. omega (arith, e)), (λ e. omega arith))
 decimal-plain_start (suc v) fits =
     let first = first_decimal (suc v) (omega arith) fits in
     (decimal_nonempty (suc v) fits, (λ e. omega (arith, e, first)), (λ e. absurd (omega (arith, e, first))))
@@ -156,16 +169,19 @@ module _ {E : Type 0} (word : Word) (r : Result ℕ E) (parses : ParsesUnsigned 
       read (Ok x) parses =
           let own = numerals_by_value (AllDigits 10) tells_digits in
           let value = parse_plain own {E = E} 32 word (Ok x) parses start.1 in
-          sym (ap decimal value.1 ∙ decimal-digits_value own word value.0.0 value.0.1 start.2 (omega (arith, value.0.2)))
+          sym (ap decimal value.1 ∙ decimal-digits_value own word value.0.0 value.0.1 start.2
+          (omega (arith, value.0.2)))
       read (Err e) parses = tt
 
   -- where `parse` fails, there is none
   pub parsed-none : IfNone (result_ok r) ((v : ℕ) → v < 2 ^ 32 → word ≢ decimal v)
   parsed-none = read r parses
     where
-      read : (r : Result ℕ E) → ParsesUnsigned 32 10 word r → IfNone (result_ok r) ((v : ℕ) → v < 2 ^ 32 → word ≢ decimal v)
+      read : (r : Result ℕ E) → ParsesUnsigned 32 10 word r
+          → IfNone (result_ok r) ((v : ℕ) → v < 2 ^ 32 → word ≢ decimal v)
       read (Ok x) parses = tt
-      read (Err d) parses = λ v small e. let same = parse-decimal {E = E} 32 v word (Err d) small (omega arith) e parses in cc
+      read (Err d) parses =
+          λ v small e. let same = parse-decimal {E = E} 32 v word (Err d) small (omega arith) e parses in cc
 
 -- ---- states
 
@@ -181,7 +197,8 @@ state_word_injective (r ∷ x) (s ∷ y) e =
     ap (λ q. q ∷ x) same ∙ ap (λ q. s ∷ q) (state_word_injective x y tails)
 
 -- the word of a state
-pub state_of-state_word : (n : ℕ) (x : List ℕ) (word : Word) → word ≡ state_word x → IsBijection n x → state_of n word ≡ Some x
+pub state_of-state_word : (n : ℕ) (x : List ℕ) (word : Word) → word ≡ state_word x → IsBijection n x
+    → state_of n word ≡ Some x
 unfolding state_of
 state_of-state_word n x word e bijection =
     find-one (λ y. is_word (state_word y) word) (states n) x (Contains-states n x bijection)
@@ -189,14 +206,16 @@ state_of-state_word n x word e bijection =
     (λ y m t. state_word_injective y x (same_word (state_word y) word t ∙ e))
 
 -- a word of no state of the size
-pub state_of-none : (n : ℕ) (word : Word) → ((x : List ℕ) → IsBijection n x → word ≢ state_word x) → state_of n word ≡ None
+pub state_of-none : (n : ℕ) (word : Word) → ((x : List ℕ) → IsBijection n x → word ≢ state_word x)
+    → state_of n word ≡ None
 unfolding state_of
 state_of-none n word none =
     find-none (λ y. is_word (state_word y) word) (states n)
     (λ y m. is_word-other (state_word y) word (λ e. none y (member_of_states n y m) (sym e)))
 
 -- what a state says of its word
-pub state_of-found : (n : ℕ) (x : List ℕ) (word : Word) → state_of n word ≡ Some x → (word ≡ state_word x) × IsBijection n x
+pub state_of-found : (n : ℕ) (x : List ℕ) (word : Word) → state_of n word ≡ Some x
+    → (word ≡ state_word x) × IsBijection n x
 unfolding state_of
 state_of-found n x word e =
     let r = found (λ y. is_word (state_word y) word) (states n) x e in
@@ -209,7 +228,8 @@ get_or-state_word (r ∷ x) zero within = omega arith
 get_or-state_word (r ∷ x) (suc k) within = get_or-state_word x k (omega (arith, within))
 
 -- a word with a byte below the digits is that of no state
-pub state_word-none : (word : Word) (k : ℕ) → k < length word → get_or word k 0 < 48 → (x : List ℕ) → word ≢ state_word x
+pub state_word-none : (word : Word) (k : ℕ) → k < length word → get_or word k 0 < 48 → (x : List ℕ)
+    → word ≢ state_word x
 state_word-none word k within below x e =
     let high = get_or-state_word x k (subst (λ w. k < length w) e within) in
     absurd (omega (arith, high, subst (λ w. get_or w k 0 < 48) e below))
@@ -218,19 +238,25 @@ state_word-none word k within below x e =
 pub state_word-more : (word rows : List ℕ) (k r : ℕ) → k < length word → k < length rows → get_or word k 0 ≡ 48 + r
     → take k word ≡ state_word (take k rows) → take (k + 1) word ≡ state_word (take (k + 1) (set rows k r))
 state_word-more word rows k r within room digit e =
-    take_more word k 0 within ∙ ap (λ w. w ++ get_or word k 0 ∷ []) e ∙ ap (λ b. state_word (take k rows) ++ b ∷ []) digit
+    take_more word k 0 within ∙ ap (λ w. w ++ get_or word k 0 ∷ []) e
+    ∙ ap (λ b. state_word (take k rows) ++ b ∷ []) digit
     ∙ sym (map-append (λ (q : ℕ). 48 + q) (take k rows) (r ∷ [])) ∙ ap state_word (sym (take_more_set rows k r room))
 
 -- what is read of the word of a state is the state
-pub state_of-read : (n : ℕ) (word : Word) (rows : List ℕ) (r : Option (List ℕ)) → IsSize n → length word ≡ n → word ≡ state_word rows
+pub state_of-read : (n : ℕ) (word : Word) (rows : List ℕ) (r : Option (List ℕ)) → IsSize n → length word ≡ n
+    → word ≡ state_word rows
     → IfSome r (λ x. x ≡ rows) → OnSome r (IsState rows) → (IsNone r → IsState rows → ⊥) → r ≡ state_of n word
 state_of-read n word rows (Some x) small long e same state none =
     let size : length rows ≡ n = sym (length-map rows (λ (q : ℕ). 48 + q)) ∙ sym (ap length e) ∙ long in
-    sym (state_of-state_word n x word (e ∙ ap state_word (sym same)) (subst (λ y. IsBijection n y) (sym same) (subst (λ m. IsBijection m rows) size state.bijection)))
+    sym (state_of-state_word n x word (e ∙ ap state_word (sym same))
+    (subst (λ y. IsBijection n y) (sym same) (subst (λ m. IsBijection m rows) size state.bijection)))
 state_of-read n word rows None small long e same state none =
     sym (state_of-none n word (λ x bijection is.
     let rows_is : rows ≡ x = state_word_injective rows x (sym e ∙ is) in
-    none refl (subst IsState (sym rows_is) (record { size = subst IsSize (sym bijection.long) small; bijection = subst (λ m. IsBijection m x) (sym bijection.long) bijection }))))
+    none refl (subst IsState (sym rows_is) (record {
+      size = subst IsSize (sym bijection.long) small;
+      bijection = subst (λ m. IsBijection m x) (sym bijection.long) bijection;
+    }))))
 
 -- a word of another length is that of no state of the size
 pub state_of-other_length : (n : ℕ) (word : Word) → length word ≢ n → state_of n word ≡ None
@@ -238,5 +264,6 @@ state_of-other_length n word other =
     state_of-none n word (λ x bijection e. other (ap length e ∙ length-map x (λ (q : ℕ). 48 + q) ∙ bijection.long))
 
 -- a number below n, where the reader knows n by another name
-pub numeral-at : (m n : ℕ) (w : Word) (r o : Option ℕ) → m ≡ n → r ≡ numeral 0 (m - 1) w → r ≡ o → numeral 0 (n - 1) w ≡ o
+pub numeral-at : (m n : ℕ) (w : Word) (r o : Option ℕ) → m ≡ n → r ≡ numeral 0 (m - 1) w → r ≡ o
+    → numeral 0 (n - 1) w ≡ o
 numeral-at m n w r o same value is = ap (λ k. numeral 0 (k - 1) w) (sym same) ∙ sym value ∙ is

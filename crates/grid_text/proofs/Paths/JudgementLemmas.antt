@@ -25,12 +25,14 @@ pub HasRead-none : (text : List ℕ) → HasRead text 1 text head
 HasRead-none text = record { before = []; lines = refl; path = refl; number = refl; room = omega arith; place = tt }
 
 -- one more line at the end of a path
-pub Path-more : (p q r : Place) (lines : List (List Word)) (words : List Word) → Path p lines q → Leads q words r → Path p (lines ++ words ∷ []) r
+pub Path-more : (p q r : Place) (lines : List (List Word)) (words : List Word) → Path p lines q → Leads q words r
+    → Path p (lines ++ words ∷ []) r
 Path-more p q r [] words e l = (r, subst (λ x. Leads x words r) (sym e) l, refl)
 Path-more p q r (first ∷ lines) words path l = (path.0, path.1, Path-more path.0 q r lines words path.2 l)
 
 -- one more line
-pub HasRead-more : (text : List ℕ) (line : ℕ) (rest bytes after : List ℕ) (p q : Place) → HasRead text line rest p → lines_of rest ≡ bytes ∷ lines_of after → length after < length rest
+pub HasRead-more : (text : List ℕ) (line : ℕ) (rest bytes after : List ℕ) (p q : Place) → HasRead text line rest p
+    → lines_of rest ≡ bytes ∷ lines_of after → length after < length rest
     → Leads p (words_of bytes) q × IsPlace q → HasRead text (line + 1) after q
 HasRead-more text line rest bytes after p q h e shorter next =
     let room = h.room in
@@ -38,7 +40,9 @@ HasRead-more text line rest bytes after p q h e shorter next =
     let more = length-append h.before (words_of bytes ∷ []) in
     record {
       before = h.before ++ words_of bytes ∷ [];
-      lines = h.lines ∙ ap (λ ls. h.before ++ map words_of ls) e ∙ sym (append_assoc h.before (words_of bytes ∷ []) (words_of_lines after));
+      lines =
+          h.lines ∙ ap (λ ls. h.before ++ map words_of ls) e
+          ∙ sym (append_assoc h.before (words_of bytes ∷ []) (words_of_lines after));
       path = Path-more head p q h.before (words_of bytes) h.path next.0;
       number = omega arith;
       room = omega arith;
@@ -46,7 +50,8 @@ HasRead-more text line rest bytes after p q h e shorter next =
     }
 
 -- a line with a fault is the first
-pub HasRead-fault : (text : List ℕ) (line : ℕ) (rest bytes after : List ℕ) (p : Place) (f : TextFault) → HasRead text line rest p → lines_of rest ≡ bytes ∷ lines_of after
+pub HasRead-fault : (text : List ℕ) (line : ℕ) (rest bytes after : List ℕ) (p : Place) (f : TextFault)
+    → HasRead text line rest p → lines_of rest ≡ bytes ∷ lines_of after
     → fault_at p (words_of bytes) ≡ Some f → IsFirstFault text f line
 HasRead-fault text line rest bytes after p f h e faulty = inl (record {
   before = h.before;
@@ -60,15 +65,19 @@ HasRead-fault text line rest bytes after p f h e faulty = inl (record {
 })
 
 -- all lines were read
-pub HasRead-all : (text : List ℕ) (line : ℕ) (rest : List ℕ) (p : Place) → HasRead text line rest p → rest ≡ [] → Path head (words_of_lines text) p × (line ≡ length (words_of_lines text) + 1)
+pub HasRead-all : (text : List ℕ) (line : ℕ) (rest : List ℕ) (p : Place) → HasRead text line rest p → rest ≡ []
+    → Path head (words_of_lines text) p × (line ≡ length (words_of_lines text) + 1)
 HasRead-all text line rest p h none =
-    let whole : words_of_lines text ≡ h.before = h.lines ∙ ap (λ r. h.before ++ words_of_lines r) none ∙ append-nil h.before in
+    let whole : words_of_lines text ≡ h.before =
+    h.lines ∙ ap (λ r. h.before ++ words_of_lines r) none ∙ append-nil h.before in
     (subst (λ ls. Path head ls p) (sym whole) h.path, h.number ∙ ap (λ n. n + 1) (ap length (sym whole)))
 
 -- `end` was not met
-pub HasNoEnd-from_place : (text : List ℕ) (line : ℕ) (rest : List ℕ) (p : Place) → HasRead text line rest p → rest ≡ [] → is_after_end p ≡ false → IsFirstFault text fault.NoEnd line
+pub HasNoEnd-from_place : (text : List ℕ) (line : ℕ) (rest : List ℕ) (p : Place) → HasRead text line rest p
+    → rest ≡ [] → is_after_end p ≡ false → IsFirstFault text fault.NoEnd line
 HasNoEnd-from_place text line rest p h none not_ended =
-    let all = HasRead-all text line rest p h none in inr (record { place = p; path = all.0; not_ended = not_ended; number = all.1 }, refl)
+    let all = HasRead-all text line rest p h none in
+    inr (record { place = p; path = all.0; not_ended = not_ended; number = all.1 }, refl)
 
 -- ---- laws
 
@@ -77,7 +86,8 @@ pub one_end : (p q r : Place) (lines : List (List Word)) → IsPlace p → Path 
 one_end p q r [] h e f = sym e ∙ f
 one_end p q r (words ∷ lines) h path other =
     let same = one_place p path.0 other.0 words h path.1 other.1 in
-    one_end path.0 q r lines (IsPlace-next p path.0 words h path.1) path.2 (subst (λ x. Path x lines r) (sym same) other.2)
+    one_end path.0 q r lines (IsPlace-next p path.0 words h path.1) path.2
+    (subst (λ x. Path x lines r) (sym same) other.2)
 
 -- the script of a place after the end
 ended_script : GridScript → Place → GridScript
@@ -88,7 +98,8 @@ ended_script s (x_line n o) = s
 ended_script s (body t) = s
 
 -- no lines are those of two scripts
-pub one_script_of_lines : (lines : List (List Word)) (s t : GridScript) → AreLinesOf lines s → AreLinesOf lines t → s ≡ t
+pub one_script_of_lines : (lines : List (List Word)) (s t : GridScript) → AreLinesOf lines s → AreLinesOf lines t
+    → s ≡ t
 unfolding ended_script
 one_script_of_lines lines s t d e = ap (ended_script s) (one_end head (ended s) (ended t) lines tt d e)
 
@@ -97,17 +108,22 @@ pub one_script : (text : List ℕ) (s t : GridScript) → IsDocument text s → 
 one_script text s t d e = one_script_of_lines (words_of_lines text) s t d e
 
 -- what follows some lines of a path
-pub Path-rest : (p q r : Place) (before after : List (List Word)) → IsPlace p → Path p before q → Path p (before ++ after) r → Path q after r
+pub Path-rest : (p q r : Place) (before after : List (List Word)) → IsPlace p → Path p before q
+    → Path p (before ++ after) r → Path q after r
 Path-rest p q r [] after h e path = subst (λ x. Path x after r) e path
 Path-rest p q r (words ∷ before) after h path whole =
     let same = one_place p whole.0 path.0 words h whole.1 path.1 in
-    Path-rest path.0 q r before after (IsPlace-next p path.0 words h path.1) path.2 (subst (λ x. Path x (before ++ after) r) same whole.2)
+    Path-rest path.0 q r before after (IsPlace-next p path.0 words h path.1) path.2
+    (subst (λ x. Path x (before ++ after) r) same whole.2)
 
 -- lines with a first fault are no document
-pub no_document_of_lines : (lines : List (List Word)) (f : TextFault) (line : ℕ) (s : GridScript) → HaveFirstFault lines f line → AreLinesOf lines s → ⊥
+pub no_document_of_lines : (lines : List (List Word)) (f : TextFault) (line : ℕ) (s : GridScript)
+    → HaveFirstFault lines f line → AreLinesOf lines s → ⊥
 no_document_of_lines lines f line s (inl first) d =
-    let path = Path-rest head first.place (ended s) first.before (first.words ∷ first.after) tt first.path (subst (λ ls. Path head ls (ended s)) first.split d) in
-    let none = fault_at-leads first.place path.0 first.words (IsPlace-path head first.place first.before tt first.path) path.1 in
+    let path = Path-rest head first.place (ended s) first.before (first.words ∷ first.after) tt first.path
+    (subst (λ ls. Path head ls (ended s)) first.split d) in
+    let none = fault_at-leads first.place path.0 first.words
+    (IsPlace-path head first.place first.before tt first.path) path.1 in
     let clash : Some f ≡ None = sym first.faulty ∙ none in
     cc
 no_document_of_lines lines f line s (inr (open_end, e)) d =
@@ -115,15 +131,18 @@ no_document_of_lines lines f line s (inr (open_end, e)) d =
     true≢false (sym (ap is_after_end same) ∙ open_end.not_ended)
 
 -- a text with a first fault is no document
-pub no_document : (text : List ℕ) (f : TextFault) (line : ℕ) (s : GridScript) → IsFirstFault text f line → IsDocument text s → ⊥
+pub no_document : (text : List ℕ) (f : TextFault) (line : ℕ) (s : GridScript) → IsFirstFault text f line
+    → IsDocument text s → ⊥
 no_document text f line s first d = no_document_of_lines (words_of_lines text) f line s first d
 
 -- a line is allowed at a place that lines lead to exactly where it has no fault
-pub allowed : (lines : List (List Word)) (p : Place) (words : List Word) → Path head lines p → (fault_at p words ≡ None) ↔ ((q : Place) × Leads p words q)
+pub allowed : (lines : List (List Word)) (p : Place) (words : List Word) → Path head lines p
+    → (fault_at p words ≡ None) ↔ ((q : Place) × Leads p words q)
 allowed lines p words path =
     let h = IsPlace-path head p lines tt path in
     ((λ none. leads-no_fault p words h none), (λ l. fault_at-leads p l.0 words h l.1))
 
 -- and then leads to one place
-pub one_place_of_path : (lines : List (List Word)) (p q r : Place) (words : List Word) → Path head lines p → Leads p words q → Leads p words r → q ≡ r
+pub one_place_of_path : (lines : List (List Word)) (p q r : Place) (words : List Word) → Path head lines p
+    → Leads p words q → Leads p words r → q ≡ r
 one_place_of_path lines p q r words path l m = one_place p q r words (IsPlace-path head p lines tt path) l m

@@ -22,7 +22,14 @@ Outcome lines =
 -- all lines are allowed, and `end` was not met
 no_end : (lines : List (List Word)) (p : Place) → Path head lines p → is_after_end p ≡ false → Outcome lines
 no_end lines p path open_end =
-    inr (fault.NoEnd, length lines + 1, inr (record { place = p; path = path; not_ended = open_end; number = refl }, refl))
+    inr (
+      fault.NoEnd,
+      length lines + 1,
+      inr (
+        record { place = p; path = path; not_ended = open_end; number = refl },
+        refl,
+      ),
+    )
 
 -- all lines are allowed
 at_the_end : (lines : List (List Word)) (p : Place) → Path head lines p → Outcome lines
@@ -34,7 +41,8 @@ at_the_end lines (body s) path = no_end lines (body s) path refl
 
 -- one line has a fault or leads on
 one_line : (lines before after : List (List Word)) (words : List Word) (p : Place) → lines ≡ before ++ words ∷ after
-    → Path head before p → ((q : Place) → Leads p words q → Outcome lines) → (o : Option TextFault) → fault_at p words ≡ o
+    → Path head before p → ((q : Place) → Leads p words q → Outcome lines) → (o : Option TextFault)
+    → fault_at p words ≡ o
     → Outcome lines
 one_line lines before after words p e path next None none =
     let led = leads-no_fault p words (IsPlace-path head p before tt path) none in next led.0 led.1
@@ -55,11 +63,14 @@ one_line lines before after words p e path next (Some f) faulty =
     )
 
 -- the lines that are left, from the place that those before lead to
-from_place : (lines before after : List (List Word)) (p : Place) → lines ≡ before ++ after → Path head before p → Outcome lines
-from_place lines before [] p e path = at_the_end lines p (subst (λ ls. Path head ls p) (sym (e ∙ append-nil before)) path)
+from_place : (lines before after : List (List Word)) (p : Place) → lines ≡ before ++ after → Path head before p
+    → Outcome lines
+from_place lines before [] p e path =
+    at_the_end lines p (subst (λ ls. Path head ls p) (sym (e ∙ append-nil before)) path)
 from_place lines before (words ∷ after) p e path =
     one_line lines before after words p e path
-    (λ q l. from_place lines (before ++ words ∷ []) after q (e ∙ sym (append_assoc before (words ∷ []) after)) (Path-more head p q before words path l))
+    (λ q l. from_place lines (before ++ words ∷ []) after q (e ∙ sym (append_assoc before (words ∷ []) after))
+    (Path-more head p q before words path l))
     (fault_at p words) refl
 
 -- any lines
@@ -67,7 +78,8 @@ pub every_outcome : (lines : List (List Word)) → Outcome lines
 every_outcome lines = from_place lines [] lines head refl refl
 
 -- every text
-pub every_text : (text : List ℕ) → ((s : GridScript) × IsDocument text s) ⊎ ((f : TextFault) × (line : ℕ) × IsFirstFault text f line)
+pub every_text : (text : List ℕ)
+    → ((s : GridScript) × IsDocument text s) ⊎ ((f : TextFault) × (line : ℕ) × IsFirstFault text f line)
 every_text text = every_outcome (words_of_lines text)
 
 -- ---- one first fault
@@ -82,7 +94,8 @@ tail_of [] = []
 tail_of (w ∷ ws) = ws
 
 -- the first faults of the same lines are one
-same_fault : (p q r : Place) (a b after later : List (List Word)) (v w : List Word) (f g : TextFault) → IsPlace p → Path p a q → Path p b r
+same_fault : (p q r : Place) (a b after later : List (List Word)) (v w : List Word) (f g : TextFault) → IsPlace p
+    → Path p a q → Path p b r
     → a ++ v ∷ after ≡ b ++ w ∷ later → fault_at q v ≡ Some f → fault_at r w ≡ Some g → (f ≡ g) × (length a ≡ length b)
 unfolding head_of tail_of
 same_fault p q r [] [] after later v w f g h s t e x y =
@@ -103,15 +116,18 @@ same_fault p q r (u ∷ a) [] after later v w f g h s t e x y =
 same_fault p q r (u ∷ a) (z ∷ b) after later v w f g h s t e x y =
     let words : u ≡ z = ap (head_of u) e in
     let next : s.0 ≡ t.0 = one_place p s.0 t.0 u h s.1 (subst (λ k. Leads p k t.0) (sym words) t.1) in
-    let more = same_fault s.0 q r a b after later v w f g (IsPlace-next p s.0 u h s.1) s.2 (subst (λ k. Path k b r) (sym next) t.2) (ap tail_of e) x y in
+    let more = same_fault s.0 q r a b after later v w f g (IsPlace-next p s.0 u h s.1) s.2
+    (subst (λ k. Path k b r) (sym next) t.2) (ap tail_of e) x y in
     (more.0, ap suc more.1)
 
 -- where some line has a fault, not every line is allowed
-not_open : (lines : List (List Word)) (f : TextFault) (line number : ℕ) → HaveFault lines f line → HaveNoEnd lines number → ⊥
+not_open : (lines : List (List Word)) (f : TextFault) (line number : ℕ) → HaveFault lines f line
+    → HaveNoEnd lines number → ⊥
 not_open lines f line number first open_end =
     let path = Path-rest head first.place open_end.place first.before (first.words ∷ first.after) tt first.path
     (subst (λ ls. Path head ls open_end.place) first.split open_end.path) in
-    let none = fault_at-leads first.place path.0 first.words (IsPlace-path head first.place first.before tt first.path) path.1 in
+    let none = fault_at-leads first.place path.0 first.words
+    (IsPlace-path head first.place first.before tt first.path) path.1 in
     let clash : Some f ≡ None = sym first.faulty ∙ none in
     cc
 
@@ -127,6 +143,7 @@ one_fault_of_lines lines f g line number (inr x) (inl y) = absurd (not_open line
 one_fault_of_lines lines f g line number (inr x) (inr y) = (x.1 ∙ sym y.1, x.0.number ∙ sym y.0.number)
 
 -- so has a text
-pub one_fault : (text : List ℕ) (f g : TextFault) (line number : ℕ) → IsFirstFault text f line → IsFirstFault text g number
+pub one_fault : (text : List ℕ) (f g : TextFault) (line number : ℕ) → IsFirstFault text f line
+    → IsFirstFault text g number
     → (f ≡ g) × (line ≡ number)
 one_fault text f g line number x y = one_fault_of_lines (words_of_lines text) f g line number x y

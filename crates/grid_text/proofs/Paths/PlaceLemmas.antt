@@ -1,5 +1,6 @@
--- At a place that lines lead to, a line is allowed exactly where no row of the table holds, and then it leads
--- to one place.
+-- At a place that lines lead to, a line is allowed exactly where no row of the table holds, and then it leads to one
+-- place. Both are shown place by place: the head and the O and X lines by their words, the body by its commands. What
+-- is known of the place (`IsPlace`) is handed on along the path.
 use Rattle.std.proofs.Common.{◌≡◌, ◌≢◌, ℕ, ◌<◌, ◌^◌, false, cond, List, [], ◌∷◌, length, slice_index, map, None, Some, refl, ap, subst, ◌∙◌, sym, arith, inl, inr, codes}
 use Rattle.std.specs.Prelude.{nat_le}
 use Rattle.std.specs.List.{Contains}
@@ -24,7 +25,8 @@ use Rattle.grid_text.proofs.Lines.FaultLemmas.{fault_at-ended}
 use Rattle.grid_text.proofs.Paths.RowLemmas.{grid-right, grid-read, o_line-right, o_line-read, x_line-right, x_line-read}
 
 -- the marks of an O and an X line are those of a grid
-IsGrid-from_lines : (n : ℕ) (o x : List ℕ) → IsSize n → IsBijection n o → IsBijection n x → ((c : ℕ) → c < n → slice_index o c ≢ slice_index x c) → IsGrid (record { o = o; x = x })
+IsGrid-from_lines : (n : ℕ) (o x : List ℕ) → IsSize n → IsBijection n o → IsBijection n x
+    → ((c : ℕ) → c < n → slice_index o c ≢ slice_index x c) → IsGrid (record { o = o; x = x })
 IsGrid-from_lines n o x small bijection_o bijection_x apart =
     let long = bijection_o.long in
     record {
@@ -38,7 +40,9 @@ IsGrid-from_lines n o x small bijection_o bijection_x apart =
 pub IsPlace-next : (p q : Place) (words : List Word) → IsPlace p → Leads p words q → IsPlace q
 IsPlace-next head q words h l = subst IsPlace (sym l.3) l.1
 IsPlace-next (o_line n) q words h l = subst IsPlace (sym l.3) (h, l.1)
-IsPlace-next (x_line n o) q words h l = subst IsPlace (sym l.4) (IsScript-no_command (record { o = o; x = l.0 }) (IsGrid-from_lines n o l.0 h.0 h.1 l.1 l.2))
+IsPlace-next (x_line n o) q words h l =
+    subst IsPlace (sym l.4) (IsScript-no_command (record { o = o; x = l.0 })
+    (IsGrid-from_lines n o l.0 h.0 h.1 l.1 l.2))
 IsPlace-next (body s) q words h (inl l) = subst IsPlace (sym l.1) h
 IsPlace-next (body s) q words h (inr l) = subst IsPlace (sym l.4) (IsScript-with_command s l.0 h l.3 l.2)
 IsPlace-next (ended s) q words h l = absurd l
@@ -59,23 +63,28 @@ fault_at-leads (o_line n) q words h l = o_line-right n l.0 words h l.1 l.2
 fault_at-leads (x_line n o) q words h l = x_line-right n o l.0 words h.0 h.1 l.1 l.2 l.3
 fault_at-leads (body s) q words h (inl l) = fault_at-end s words l.0
 fault_at-leads (body s) q words h (inr l) =
-    fault_at-faultless s h words (faultless s h words l.0 l.1 l.2) ∙ ap (λ b. cond b (Some fault.TooMany) None) (few-last (length s.commands) l.3)
+    fault_at-faultless s h words (faultless s h words l.0 l.1 l.2)
+    ∙ ap (λ b. cond b (Some fault.TooMany) None) (few-last (length s.commands) l.3)
 fault_at-leads (ended s) q words h l = absurd l
 
 -- a line without a fault is allowed
-pub leads-no_fault : (p : Place) (words : List Word) → IsPlace p → fault_at p words ≡ None → (q : Place) × Leads p words q
+pub leads-no_fault : (p : Place) (words : List Word) → IsPlace p → fault_at p words ≡ None
+    → (q : Place) × Leads p words q
 leads-no_fault head words h none = let r = grid-read words none in (o_line r.0, (r.0, r.1.0, r.1.1, refl))
 leads-no_fault (o_line n) words h none = let r = o_line-read n words h none in (x_line n r.0, (r.0, r.1.0, r.1.1, refl))
 leads-no_fault (x_line n o) words h none =
-    let r = x_line-read n o words h.0 h.1 none in (body (record { grid = record { o = o; x = r.0 }; commands = [] }), (r.0, r.1.0, r.1.1, r.1.2, refl))
+    let r = x_line-read n o words h.0 h.1 none in
+    (body (record { grid = record { o = o; x = r.0 }; commands = [] }), (r.0, r.1.0, r.1.1, r.1.2, refl))
 leads-no_fault (body s) words h none = elim (body-read s h words none) [
   | inl last ↦ (ended s, inl (last, refl))
   | inr c ↦ (body (with_command s c.0), inr (c.0, c.1.0, c.1.1, c.1.2, refl))
 ]
-leads-no_fault (ended s) words h none = let clash : Some fault.AfterEnd ≡ None = sym (fault_at-ended (ended s) words refl) ∙ none in cc
+leads-no_fault (ended s) words h none =
+    let clash : Some fault.AfterEnd ≡ None = sym (fault_at-ended (ended s) words refl) ∙ none in cc
 
 -- rows below n with the same decimal forms are the same
-same_rows : (n : ℕ) (x y : List ℕ) → n < 2 ^ 64 → ((r : ℕ) → Contains x r → r < n) → ((r : ℕ) → Contains y r → r < n) → map decimal x ≡ map decimal y → x ≡ y
+same_rows : (n : ℕ) (x y : List ℕ) → n < 2 ^ 64 → ((r : ℕ) → Contains x r → r < n) → ((r : ℕ) → Contains y r → r < n)
+    → map decimal x ≡ map decimal y → x ≡ y
 same_rows n [] [] fits small small_y e = refl
 same_rows n [] (r ∷ y) fits small small_y e = cc
 same_rows n (r ∷ x) [] fits small small_y e = cc
@@ -85,7 +94,8 @@ same_rows n (q ∷ x) (r ∷ y) fits small small_y e =
     let below = small q (member_head q x) in
     let below_y = small_y r (member_head r y) in
     let first = decimal_injective q r (omega arith) (omega arith) heads in
-    let rest = same_rows n x y fits (λ a m. small a (member_tail q x a m)) (λ a m. small_y a (member_tail r y a m)) tails in
+    let rest = same_rows n x y fits (λ a m. small a (member_tail q x a m))
+    (λ a m. small_y a (member_tail r y a m)) tails in
     (λ i. first i ∷ rest i)
 
 -- the words of a line, without the first
@@ -102,14 +112,17 @@ one_place head q r words h l m =
     l.3 ∙ ap o_line (decimal_injective l.0 m.0 (omega arith) (omega arith) forms) ∙ sym m.3
 one_place (o_line n) q r words h l m =
     let small = h.greatest in
-    let same = same_rows n l.0 m.0 (omega arith) (below-IsBijection n l.0 l.1) (below-IsBijection n m.0 m.1) (tails_of (codes "O") (map decimal l.0) (map decimal m.0) (sym l.2 ∙ m.2)) in
+    let same = same_rows n l.0 m.0 (omega arith) (below-IsBijection n l.0 l.1) (below-IsBijection n m.0 m.1)
+    (tails_of (codes "O") (map decimal l.0) (map decimal m.0) (sym l.2 ∙ m.2)) in
     l.3 ∙ ap (x_line n) same ∙ sym m.3
 one_place (x_line n o) q r words h l m =
     let small = h.0.greatest in
-    let same = same_rows n l.0 m.0 (omega arith) (below-IsBijection n l.0 l.1) (below-IsBijection n m.0 m.1) (tails_of (codes "X") (map decimal l.0) (map decimal m.0) (sym l.3 ∙ m.3)) in
+    let same = same_rows n l.0 m.0 (omega arith) (below-IsBijection n l.0 l.1) (below-IsBijection n m.0 m.1)
+    (tails_of (codes "X") (map decimal l.0) (map decimal m.0) (sym l.3 ∙ m.3)) in
     l.4 ∙ ap (λ x. body (record { grid = record { o = o; x = x }; commands = [] })) same ∙ sym m.4
 one_place (body s) q r words h (inl l) (inl m) = l.1 ∙ sym m.1
 one_place (body s) q r words h (inl l) (inr m) = absurd (command-not_end s h words m.0 m.1 m.2 l.0)
 one_place (body s) q r words h (inr l) (inl m) = absurd (command-not_end s h words l.0 l.1 l.2 m.0)
-one_place (body s) q r words h (inr l) (inr m) = l.4 ∙ ap (λ c. body (with_command s c)) (one_command s h words l.0 m.0 l.1 l.2 m.1 m.2) ∙ sym m.4
+one_place (body s) q r words h (inr l) (inr m) =
+    l.4 ∙ ap (λ c. body (with_command s c)) (one_command s h words l.0 m.0 l.1 l.2 m.1 m.2) ∙ sym m.4
 one_place (ended s) q r words h l m = absurd l

@@ -1,4 +1,4 @@
--- The number of bytes of the plain form.
+-- The number of bytes of the plain form: those of the head, of the commands so far, and of the last line.
 use Rattle.std.proofs.Common.{◌≡◌, ℕ, ◌+◌, ◌≤◌, List, ◌++◌, length, take, codes, ap, ◌∙◌, arith, length-append}
 use Rattle.std.specs.List.{flat_map}
 use Rattle.std.proofs.lemmas.List.{take_all}
@@ -8,8 +8,10 @@ use Rattle.grid_text.specs.PlainForm.{command_line, head_lines, plain_form}
 use Rattle.grid_text.specs.declared.commands.Command.{Command}
 
 -- of the head, of all commands and of the last line
-pub length-plain_form : (s : GridScript) (g : Marks) (commands : List Command) (k head count : ℕ) → g ≡ s.grid → commands ≡ s.commands → length commands ≤ k
-    → head ≡ length (head_lines g) → count ≡ head + length (flat_map command_line (take k commands)) → count + 4 ≡ length (plain_form s)
+pub length-plain_form : (s : GridScript) (g : Marks) (commands : List Command) (k head count : ℕ) → g ≡ s.grid
+    → commands ≡ s.commands → length commands ≤ k
+    → head ≡ length (head_lines g) → count ≡ head + length (flat_map command_line (take k commands))
+    → count + 4 ≡ length (plain_form s)
 unfolding plain_form
 length-plain_form s g commands k head count same_g same done counted_head counted =
     let whole = length-append (head_lines s.grid ++ flat_map command_line s.commands) (codes "end\n") in

@@ -1,4 +1,5 @@
--- The plain form, piece by piece.
+-- The plain form, piece by piece: numbers of two digits, one more word after a space, one more line, and the whole.
+-- A command that may stand there has no number of more than two digits, since it is below the size of the grid.
 use Rattle.std.proofs.Common.{◌≡◌, ℕ, zero, suc, ◌+◌, ◌<◌, ◌≤◌, ◌/◌, ◌%◌, List, [], ◌∷◌, ◌++◌, length, map, take, get_or, codes, refl, ap, ◌∙◌, sym, arith}
 use Rattle.std.specs.List.{flat_map}
 use Rattle.std.specs.Fmt.{decimal}
@@ -19,18 +20,24 @@ use Rattle.grid_text.proofs.Lines.ScriptLemmas.{IsGridOf, IsGridOf-grid_after}
 
 -- a number of two digits
 pub decimal_two : (n : ℕ) → 10 ≤ n → n < 100 → decimal n ≡ (48 + n / 10) ∷ (48 + n % 10) ∷ []
-decimal_two n low high = decimal_step n low (omega arith) ∙ ap (λ d. d ++ (48 + n % 10) ∷ []) (decimal_digit (n / 10) (omega arith))
+decimal_two n low high =
+    decimal_step n low (omega arith) ∙ ap (λ d. d ++ (48 + n % 10) ∷ []) (decimal_digit (n / 10) (omega arith))
 
 -- one more piece
-pub flat_map-more : {A : Type 0} (f : A → List ℕ) (xs : List A) (i : ℕ) (d : A) → i < length xs → flat_map f (take (i + 1) xs) ≡ flat_map f (take i xs) ++ f (get_or xs i d)
+pub flat_map-more : {A : Type 0} (f : A → List ℕ) (xs : List A) (i : ℕ) (d : A) → i < length xs
+    → flat_map f (take (i + 1) xs) ≡ flat_map f (take i xs) ++ f (get_or xs i d)
 flat_map-more f xs i d within =
-    ap (flat_map f) (take_more xs i d within) ∙ flat_map-append f (take i xs) (get_or xs i d ∷ []) ∙ ap (λ r. flat_map f (take i xs) ++ r) (append-nil (f (get_or xs i d)))
+    ap (flat_map f) (take_more xs i d within) ∙ flat_map-append f (take i xs) (get_or xs i d ∷ [])
+    ∙ ap (λ r. flat_map f (take i xs) ++ r) (append-nil (f (get_or xs i d)))
 
 -- one more word after a space
-pub after_space-more : {A : Type 0} (f : A → Word) (xs : List A) (i : ℕ) (d : A) → i < length xs → after_space (map f (take (i + 1) xs)) ≡ after_space (map f (take i xs)) ++ 32 ∷ f (get_or xs i d)
+pub after_space-more : {A : Type 0} (f : A → Word) (xs : List A) (i : ℕ) (d : A) → i < length xs
+    → after_space (map f (take (i + 1) xs)) ≡ after_space (map f (take i xs)) ++ 32 ∷ f (get_or xs i d)
 after_space-more f xs i d within =
-    ap (λ ys. after_space (map f ys)) (take_more xs i d within) ∙ ap after_space (map-append f (take i xs) (get_or xs i d ∷ []))
-    ∙ flat_map-append (λ w. 32 ∷ w) (map f (take i xs)) (f (get_or xs i d) ∷ []) ∙ ap (λ r. after_space (map f (take i xs)) ++ r) (append-nil (32 ∷ f (get_or xs i d)))
+    ap (λ ys. after_space (map f ys)) (take_more xs i d within)
+    ∙ ap after_space (map-append f (take i xs) (get_or xs i d ∷ []))
+    ∙ flat_map-append (λ w. 32 ∷ w) (map f (take i xs)) (f (get_or xs i d) ∷ [])
+    ∙ ap (λ r. after_space (map f (take i xs)) ++ r) (append-nil (32 ∷ f (get_or xs i d)))
 
 -- the words of a line `chain` after the first
 pub chain_arguments : (c : Command) (z states : List (List ℕ)) → c ≡ command.Chain z → states ≡ z
@@ -45,24 +52,32 @@ IsPrintable-allowed g (command.Commute axis c v) few allowed = let below = allow
 IsPrintable-allowed g c few allowed = tt
 
 -- so has each of a list
-IsPrintable-all : (n : ℕ) (g : Marks) (commands : List Command) → n < 100 → IsGridOf n g → AreAllowed g commands → (i : ℕ) (d : Command) → i < length commands → IsPrintable (get_or commands i d)
+IsPrintable-all : (n : ℕ) (g : Marks) (commands : List Command) → n < 100 → IsGridOf n g → AreAllowed g commands
+    → (i : ℕ) (d : Command) → i < length commands → IsPrintable (get_or commands i d)
 IsPrintable-all n g [] few h all i d within = absurd (omega (arith, within))
-IsPrintable-all n g (c ∷ commands) few h all zero d within = let same = h.same_size in IsPrintable-allowed g c (omega (arith, same, few)) all.0
+IsPrintable-all n g (c ∷ commands) few h all zero d within =
+    let same = h.same_size in IsPrintable-allowed g c (omega (arith, same, few)) all.0
 IsPrintable-all n g (c ∷ commands) few h all (suc i) d within =
-    IsPrintable-all n (grid_after g c) commands few (IsGridOf-grid_after n g c h all.0) all.1 i d (omega (arith, within))
+    IsPrintable-all n (grid_after g c) commands few (IsGridOf-grid_after n g c h all.0) all.1 i d
+    (omega (arith, within))
 
 -- and each of a script
-pub IsPrintable-script : (s : GridScript) → IsScript s → (i : ℕ) (d : Command) → i < length s.commands → IsPrintable (get_or s.commands i d)
+pub IsPrintable-script : (s : GridScript) → IsScript s → (i : ℕ) (d : Command) → i < length s.commands
+    → IsPrintable (get_or s.commands i d)
 IsPrintable-script s h i d within =
     let most = h.grid.is_size.greatest in
-    IsPrintable-all (size s.grid) s.grid s.commands (omega (arith, most)) (record { grid = h.grid; same_size = refl }) h.allowed i d within
+    IsPrintable-all (size s.grid) s.grid s.commands (omega (arith, most))
+    (record { grid = h.grid; same_size = refl }) h.allowed i d within
 
 -- what was printed is the plain form
-pub plain_form-printed : (s : GridScript) (g : Marks) (commands : List Command) (k : ℕ) (start head loop all : List ℕ) → g ≡ s.grid → commands ≡ s.commands → length commands ≤ k
-    → start ≡ [] → head ≡ start ++ head_lines g → loop ≡ head ++ flat_map command_line (take k commands) → all ≡ loop ++ codes "end\n" → all ≡ plain_form s
+pub plain_form-printed : (s : GridScript) (g : Marks) (commands : List Command) (k : ℕ) (start head loop all : List ℕ)
+    → g ≡ s.grid → commands ≡ s.commands → length commands ≤ k
+    → start ≡ [] → head ≡ start ++ head_lines g → loop ≡ head ++ flat_map command_line (take k commands)
+    → all ≡ loop ++ codes "end\n" → all ≡ plain_form s
 unfolding plain_form
 plain_form-printed s g commands k start head loop all same_g same done empty printed_head printed_loop printed_end =
     printed_end
     ∙ ap (λ t. t ++ codes "end\n")
     (printed_loop ∙ ap (λ cs. head ++ flat_map command_line cs) (take_all k commands done ∙ same)
-    ∙ ap (λ t. t ++ flat_map command_line s.commands) (printed_head ∙ ap (λ t. t ++ head_lines g) empty ∙ ap head_lines same_g))
+    ∙ ap (λ t. t ++ flat_map command_line s.commands)
+    (printed_head ∙ ap (λ t. t ++ head_lines g) empty ∙ ap head_lines same_g))

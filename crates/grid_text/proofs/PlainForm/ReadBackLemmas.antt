@@ -1,5 +1,6 @@
--- The plain form is read back. Its lines and words are those that were written, and each line is allowed
--- where it stands.
+-- The plain form is read back. Words that are written have no space and no line feed (`IsPlainWord`), so that the
+-- lines and words of the text are those that were written (`lines-plain`); and each line is allowed where it stands,
+-- from the head over the commands to `end` (`commands-path`).
 use Rattle.std.proofs.Common.{◌≡◌, ◌≢◌, ℕ, ◌+◌, ◌<◌, ◌≤◌, Bool, true, false, ◌&&◌, true≢false, cond, List, [], ◌∷◌, ◌++◌, length, map, codes, refl, ap, subst, ◌∙◌, sym, arith, inl, inr, append_assoc, length-append}
 use Rattle.std.specs.Prelude.{nat_le}
 use Rattle.std.specs.List.{filter, flat_map}
@@ -62,31 +63,40 @@ one_line-append (b ∷ v) w h k = (h.0, one_line-append v w h.1 k)
 
 one_line-after_space : (words : List Word) → ArePlainWords words → IsOneLine (after_space words)
 one_line-after_space [] h = tt
-one_line-after_space (w ∷ words) h = ((λ e. omega (arith, e)), one_line-append w (after_space words) (one_line-clean w h.0.0) (one_line-after_space words h.1))
+one_line-after_space (w ∷ words) h = (
+  (λ e. omega (arith, e)),
+  one_line-append w (after_space words) (one_line-clean w h.0.0)
+      (one_line-after_space words h.1),
+)
 
 -- the first line of a text
 lines_of-line : (l rest : List ℕ) → IsOneLine l → lines_of (l ++ 10 ∷ rest) ≡ l ∷ lines_of rest
 lines_of-line [] rest h = refl
 lines_of-line (b ∷ l) rest h =
-    ap (λ t. cond t ([] ∷ lines_of (l ++ 10 ∷ rest)) (before_parts b (lines_of (l ++ 10 ∷ rest)))) (ne_eqb b 10 h.0) ∙ ap (before_parts b) (lines_of-line l rest h.1)
+    ap (λ t. cond t ([] ∷ lines_of (l ++ 10 ∷ rest)) (before_parts b (lines_of (l ++ 10 ∷ rest)))) (ne_eqb b 10 h.0)
+    ∙ ap (before_parts b) (lines_of-line l rest h.1)
 
 -- the first word of a line
 parts-word : (w rest : List ℕ) → IsClean w → parts is_space (w ++ 32 ∷ rest) ≡ w ∷ parts is_space rest
 parts-word [] rest h = refl
 parts-word (b ∷ w) rest h =
-    ap (λ t. cond t ([] ∷ parts is_space (w ++ 32 ∷ rest)) (before_parts b (parts is_space (w ++ 32 ∷ rest)))) (ne_eqb b 32 h.1) ∙ ap (before_parts b) (parts-word w rest h.2)
+    ap (λ t. cond t ([] ∷ parts is_space (w ++ 32 ∷ rest)) (before_parts b (parts is_space (w ++ 32 ∷ rest))))
+    (ne_eqb b 32 h.1) ∙ ap (before_parts b) (parts-word w rest h.2)
 
 -- the last one
 parts-last : (w : List ℕ) → IsClean w → 0 < length w → parts is_space (w ++ []) ≡ w ∷ []
 parts-last [] h some = absurd (omega arith)
 parts-last (b ∷ []) h some = ap (λ t. cond t ([] ∷ []) ((b ∷ []) ∷ [])) (ne_eqb b 32 h.1)
 parts-last (b ∷ c ∷ w) h some =
-    ap (λ t. cond t ([] ∷ parts is_space ((c ∷ w) ++ [])) (before_parts b (parts is_space ((c ∷ w) ++ [])))) (ne_eqb b 32 h.1) ∙ ap (before_parts b) (parts-last (c ∷ w) h.2 (omega arith))
+    ap (λ t. cond t ([] ∷ parts is_space ((c ∷ w) ++ [])) (before_parts b (parts is_space ((c ∷ w) ++ []))))
+    (ne_eqb b 32 h.1) ∙ ap (before_parts b) (parts-last (c ∷ w) h.2 (omega arith))
 
 -- all words
-parts-words : (w : Word) (words : List Word) → IsPlainWord w → ArePlainWords words → parts is_space (w ++ after_space words) ≡ w ∷ words
+parts-words : (w : Word) (words : List Word) → IsPlainWord w → ArePlainWords words
+    → parts is_space (w ++ after_space words) ≡ w ∷ words
 parts-words w [] h k = parts-last w h.0 h.1
-parts-words w (v ∷ words) h k = parts-word w (v ++ after_space words) h.0 ∙ ap (λ ps. w ∷ ps) (parts-words v words k.0 k.1)
+parts-words w (v ∷ words) h k =
+    parts-word w (v ++ after_space words) h.0 ∙ ap (λ ps. w ∷ ps) (parts-words v words k.0 k.1)
 
 filled : (words : List Word) → ArePlainWords words → filter is_filled words ≡ words
 filled [] h = refl
@@ -94,20 +104,26 @@ filled ([] ∷ words) h = absurd (omega (arith, h.0.1))
 filled ((b ∷ w) ∷ words) h = ap (λ ws. (b ∷ w) ∷ ws) (filled words h.1)
 
 -- the lines of a text that begins with a plain line
-pub lines-plain : (w : Word) (words : List Word) (rest : List ℕ) → IsPlainWord w → ArePlainWords words → map words_of (lines_of (line_of (w ∷ words) ++ rest)) ≡ (w ∷ words) ∷ map words_of (lines_of rest)
+pub lines-plain : (w : Word) (words : List Word) (rest : List ℕ) → IsPlainWord w → ArePlainWords words
+    → map words_of (lines_of (line_of (w ∷ words) ++ rest)) ≡ (w ∷ words) ∷ map words_of (lines_of rest)
 lines-plain w words rest h k =
     ap (λ t. map words_of (lines_of t)) (append_assoc (w ++ after_space words) (10 ∷ []) rest)
-    ∙ ap (map words_of) (lines_of-line (w ++ after_space words) rest (one_line-append w (after_space words) (one_line-clean w h.0) (one_line-after_space words k)))
-    ∙ ap (λ l. l ∷ map words_of (lines_of rest)) (ap (filter is_filled) (parts-words w words h k) ∙ filled (w ∷ words) (h, k))
+    ∙ ap (map words_of) (lines_of-line (w ++ after_space words) rest
+    (one_line-append w (after_space words) (one_line-clean w h.0) (one_line-after_space words k)))
+    ∙ ap (λ l. l ∷ map words_of (lines_of rest))
+    (ap (filter is_filled) (parts-words w words h k) ∙ filled (w ∷ words) (h, k))
 
 -- ---- the words that are written
 
 plain_decimal : (n : ℕ) → n < 10 → IsPlainWord (decimal n)
-plain_decimal n small = subst IsPlainWord (sym (decimal_digit n small)) (((λ e. omega (arith, e)), (λ e. omega (arith, e)), tt), omega arith)
+plain_decimal n small =
+    subst IsPlainWord (sym (decimal_digit n small))
+    (((λ e. omega (arith, e)), (λ e. omega (arith, e)), tt), omega arith)
 
 plain_decimals : (rows : List ℕ) → ((r : ℕ) → Contains rows r → r < 10) → ArePlainWords (map decimal rows)
 plain_decimals [] small = tt
-plain_decimals (r ∷ rows) small = (plain_decimal r (small r (member_head r rows)), plain_decimals rows (λ q m. small q (member_tail r rows q m)))
+plain_decimals (r ∷ rows) small =
+    (plain_decimal r (small r (member_head r rows)), plain_decimals rows (λ q m. small q (member_tail r rows q m)))
 
 clean_state : (x : List ℕ) → IsClean (state_word x)
 clean_state [] = tt
@@ -146,7 +162,8 @@ plain_corner Over = closed (codes "over") refl (omega arith)
 plain_corner Under = closed (codes "under") refl (omega arith)
 
 -- the words of good arguments
-plain_arguments : (n : ℕ) (arguments : List Argument) → 0 < n → n < 11 → AreGood n arguments → ArePlainWords (map argument_word arguments)
+plain_arguments : (n : ℕ) (arguments : List Argument) → 0 < n → n < 11 → AreGood n arguments
+    → ArePlainWords (map argument_word arguments)
 plain_arguments n [] some few h = tt
 plain_arguments n (a ∷ arguments) some few h = (plain a h.0, plain_arguments n arguments some few h.1)
   where
@@ -155,7 +172,8 @@ plain_arguments n (a ∷ arguments) some few h = (plain a h.0, plain_arguments n
     plain (side v) k = plain_side v
     plain (corner v) k = plain_corner v
     plain (number c) k = plain_decimal c (omega (arith, k, few))
-    plain (state x) k = let long = k.long in (clean_state x, omega (arith, some, long, length-map x (λ (q : ℕ). 48 + q)))
+    plain (state x) k =
+        let long = k.long in (clean_state x, omega (arith, some, long, length-map x (λ (q : ℕ). 48 + q)))
 
 -- the first word of a command
 plain_first : (c : Command) → IsPlainWord (command_row c).0
@@ -169,9 +187,17 @@ line-written (command.Chain z) = (z, IsPermutation-refl z, refl)
 line-written c = refl
 
 -- the lines of the commands and `end` lead on from the commands before them
-commands-path : (g : Marks) (done later : List Command) → IsScript (record { grid = g; commands = done }) → AreAllowed (grid_after_all g done) later → length done + length later ≤ max_commands
-    → Path (body (record { grid = g; commands = done })) (map words_of (lines_of (flat_map command_line later ++ line_of (end_word ∷ [])))) (ended (record { grid = g; commands = done ++ later }))
-commands-path g done [] h all few = (ended (record { grid = g; commands = done }), inl (refl, refl), ap (λ cs. ended (record { grid = g; commands = cs })) (sym (append-nil done)))
+commands-path : (g : Marks) (done later : List Command) → IsScript (record { grid = g; commands = done })
+    → AreAllowed (grid_after_all g done) later → length done + length later ≤ max_commands
+    → Path (body (record { grid = g; commands = done }))
+    (map words_of (lines_of (flat_map command_line later ++ line_of (end_word ∷ []))))
+    (ended (record { grid = g; commands = done ++ later }))
+commands-path g done [] h all few = (
+  ended (record { grid = g; commands = done }),
+  inl (refl, refl),
+  ap
+      (λ cs. ended (record { grid = g; commands = cs })) (sym (append-nil done)),
+)
 commands-path g done (c ∷ later) h all few =
     let s : GridScript = record { grid = g; commands = done } in
     let in_force = IsGridOf-grid_in_force s h in
@@ -179,16 +205,22 @@ commands-path g done (c ∷ later) h all few =
     let same = in_force.same_size in
     let words = map argument_word (command_row c).1 in
     let least = h.grid.is_size.least in
-    let plain = plain_arguments (size (grid_after_all g done)) (command_row c).1 (omega arith) (omega arith) (arguments-allowed (grid_after_all g done) c all.0) in
+    let plain = plain_arguments (size (grid_after_all g done)) (command_row c).1 (omega arith) (omega arith)
+    (arguments-allowed (grid_after_all g done) c all.0) in
     let room : length done < max_commands = omega arith in
     let rest = commands-path g (done ++ c ∷ []) later (IsScript-with_command s c h room all.0)
-    (subst (λ f. AreAllowed f later) (sym (grid_after_all-push g done c)) all.1) (omega (arith, length-append done (c ∷ []))) in
-    let lines = ap (λ t. map words_of (lines_of t)) (append_assoc (command_line c) (flat_map command_line later) (line_of (end_word ∷ [])))
-    ∙ lines-plain (command_row c).0 words (flat_map command_line later ++ line_of (end_word ∷ [])) (plain_first c) plain in
+    (subst (λ f. AreAllowed f later) (sym (grid_after_all-push g done c)) all.1)
+    (omega (arith, length-append done (c ∷ []))) in
+    let lines = ap (λ t. map words_of (lines_of t))
+    (append_assoc (command_line c) (flat_map command_line later) (line_of (end_word ∷ [])))
+    ∙ lines-plain (command_row c).0 words (flat_map command_line later ++ line_of (end_word ∷ []))
+    (plain_first c) plain in
     subst (λ ls. Path (body s) ls (ended (record { grid = g; commands = done ++ c ∷ later }))) (sym lines) (
       body (record { grid = g; commands = done ++ c ∷ [] }),
       inr (c, line-written c, all.0, room, refl),
-      subst (λ cs. Path (body (record { grid = g; commands = done ++ c ∷ [] })) (map words_of (lines_of (flat_map command_line later ++ line_of (end_word ∷ [])))) (ended (record { grid = g; commands = cs }))) (append_assoc done (c ∷ []) later) rest,
+      subst (λ cs. Path (body (record { grid = g; commands = done ++ c ∷ [] }))
+          (map words_of (lines_of (flat_map command_line later ++ line_of (end_word ∷ []))))
+          (ended (record { grid = g; commands = cs }))) (append_assoc done (c ∷ []) later) rest,
     )
 
 -- the plain form of a script is a document of it
@@ -204,13 +236,17 @@ IsDocument-plain_form s h =
     let l2 = line_of (codes "O" ∷ map decimal o) in
     let l3 = line_of (codes "X" ∷ map decimal x) in
     let whole : plain_form s ≡ l1 ++ (l2 ++ (l3 ++ tail)) =
-    append_assoc (l1 ++ l2 ++ l3) (flat_map command_line s.commands) (line_of (end_word ∷ [])) ∙ append_assoc (l1 ++ l2) l3 tail ∙ append_assoc l1 l2 (l3 ++ tail) in
+    append_assoc (l1 ++ l2 ++ l3) (flat_map command_line s.commands) (line_of (end_word ∷ []))
+    ∙ append_assoc (l1 ++ l2) l3 tail ∙ append_assoc l1 l2 (l3 ++ tail) in
     let plain_o = plain_decimals o (λ r m. let b = below-IsBijection n o h.grid.o r m in omega arith) in
     let plain_x = plain_decimals x (λ r m. let b = below-IsBijection n x h.grid.x r m in omega arith) in
     let lines = ap (λ t. map words_of (lines_of t)) whole
-    ∙ lines-plain (codes "grid") (decimal n ∷ []) (l2 ++ (l3 ++ tail)) (closed (codes "grid") refl (omega arith)) (plain_decimal n (omega arith), tt)
-    ∙ ap (λ ls. (codes "grid" ∷ decimal n ∷ []) ∷ ls) (lines-plain (codes "O") (map decimal o) (l3 ++ tail) (closed (codes "O") refl (omega arith)) plain_o
-    ∙ ap (λ ls. (codes "O" ∷ map decimal o) ∷ ls) (lines-plain (codes "X") (map decimal x) tail (closed (codes "X") refl (omega arith)) plain_x)) in
+    ∙ lines-plain (codes "grid") (decimal n ∷ []) (l2 ++ (l3 ++ tail)) (closed (codes "grid") refl (omega arith))
+    (plain_decimal n (omega arith), tt)
+    ∙ ap (λ ls. (codes "grid" ∷ decimal n ∷ []) ∷ ls)
+    (lines-plain (codes "O") (map decimal o) (l3 ++ tail) (closed (codes "O") refl (omega arith)) plain_o
+    ∙ ap (λ ls. (codes "O" ∷ map decimal o) ∷ ls)
+    (lines-plain (codes "X") (map decimal x) tail (closed (codes "X") refl (omega arith)) plain_x)) in
     subst (λ ls. Path head ls (ended s)) (sym lines) (
       o_line n,
       (n, h.grid.is_size, refl, refl),

@@ -1,4 +1,6 @@
--- Chains: lists of states in any order, and the same states in ascending order.
+-- Chains: lists of states in any order, and the same states in ascending order. States whose words are all different
+-- can be put in ascending order, one at a time (`ascending_of`), and in one way (`same_ascending`); sorted by rank they
+-- ascend exactly where no two are the same.
 use Rattle.std.proofs.Common.{◌≡◌, ◌≢◌, ℕ, ◌<◌, ◌≤◌, false, List, [], ◌∷◌, map, get_or, refl, ap, subst, ◌∙◌, sym, arith, inl, inr, true≢false, IsTrue}
 use Rattle.std.specs.List.{Contains, AllPairs}
 use Rattle.std.specs.List.Sorted.{IsPermutation, IsNonDecreasingBy}
@@ -18,19 +20,25 @@ use Rattle.grid_text.proofs.States.RepeatedLemmas.{has_repeated-apart, apart-has
 -- states that ascend are all different
 pub apart-AreAscending : (z : List (List ℕ)) → AreAscending z → AllPairs (λ x y. x ≢ y) z
 apart-AreAscending z ascending =
-    pairs_weaker (λ x y. IsTrue (is_before x y)) (λ x y. x ≢ y) z (λ x y before e. true≢false (sym before ∙ ap (is_before x) (sym e) ∙ is_before-same x)) ascending
+    pairs_weaker (λ x y. IsTrue (is_before x y)) (λ x y. x ≢ y) z
+    (λ x y before e. true≢false (sym before ∙ ap (is_before x) (sym e) ∙ is_before-same x)) ascending
 
 -- states that ascend in some order are all different, and so are their words
-pub repeated-none : (xs z : List (List ℕ)) → IsPermutation xs z → AreAscending z → has_repeated (map state_word xs) ≡ false
+pub repeated-none : (xs z : List (List ℕ)) → IsPermutation xs z → AreAscending z
+    → has_repeated (map state_word xs) ≡ false
 repeated-none xs z permutation ascending =
-    has_repeated-IsPermutation (map state_word z) (map state_word xs) (IsPermutation-map state_word z xs (IsPermutation-sym xs z permutation))
-    (has_repeated-apart (map state_word z) (AllPairs-map state_word z (λ a b m k e. state_word_injective a b e) (apart-AreAscending z ascending)))
+    has_repeated-IsPermutation (map state_word z) (map state_word xs)
+    (IsPermutation-map state_word z xs (IsPermutation-sym xs z permutation))
+    (has_repeated-apart (map state_word z) (AllPairs-map state_word z (λ a b m k e. state_word_injective a b e)
+    (apart-AreAscending z ascending)))
 
 -- where the words of states are all different, so are the states in any order
-pub apart-states : (xs ys : List (List ℕ)) → IsPermutation xs ys → has_repeated (map state_word xs) ≡ false → AllPairs (λ x y. x ≢ y) ys
+pub apart-states : (xs ys : List (List ℕ)) → IsPermutation xs ys → has_repeated (map state_word xs) ≡ false
+    → AllPairs (λ x y. x ≢ y) ys
 apart-states xs ys permutation once =
     AllPairs-unmap state_word ys
-    (apart-has_repeated (map state_word ys) (has_repeated-IsPermutation (map state_word xs) (map state_word ys) (IsPermutation-map state_word xs ys permutation) once))
+    (apart-has_repeated (map state_word ys) (has_repeated-IsPermutation (map state_word xs) (map state_word ys)
+    (IsPermutation-map state_word xs ys permutation) once))
 
 module _ (n : ℕ) where
   -- each is a bijection of 0 to n - 1
@@ -45,14 +53,24 @@ module _ (n : ℕ) where
   rank_from_order x y h k before = (rank_order n x y h k).0 before
 
   -- different bijections in the order of their ranks ascend
-  pub AreStates-from_sorted : IsSize n → (ys : List (List ℕ)) → AreBijections ys → IsNonDecreasingBy rank ys → AllPairs (λ x y. x ≢ y) ys → AreStates ys
+  pub AreStates-from_sorted : IsSize n → (ys : List (List ℕ)) → AreBijections ys → IsNonDecreasingBy rank ys
+      → AllPairs (λ x y. x ≢ y) ys → AreStates ys
   AreStates-from_sorted small ys all sorted apart = record {
-    states = λ k d l. let h = all (get_or ys k d) (Contains-get_or ys k d l) in record { size = subst IsSize (sym h.long) small; bijection = subst (λ m. IsBijection m (get_or ys k d)) (sym h.long) h };
-    one_size = λ i j d l m. (all (get_or ys i d) (Contains-get_or ys i d (omega arith))).long ∙ sym (all (get_or ys j d) (Contains-get_or ys j d m)).long;
+    states =
+        λ k d l. let h =
+        all (get_or ys k d) (Contains-get_or ys k d l) in
+        record {
+          size = subst IsSize (sym h.long) small;
+          bijection = subst (λ m. IsBijection m (get_or ys k d)) (sym h.long) h;
+        };
+    one_size =
+        λ i j d l m. (all (get_or ys i d) (Contains-get_or ys i d (omega arith))).long
+        ∙ sym (all (get_or ys j d) (Contains-get_or ys j d m)).long;
     ascending = λ i j d l m.
         let h = all (get_or ys i d) (Contains-get_or ys i d (omega arith)) in
         let k = all (get_or ys j d) (Contains-get_or ys j d m) in
-        order_from_rank (get_or ys i d) (get_or ys j d) h k (lower (rank (get_or ys i d)) (rank (get_or ys j d)) (sorted i j d (omega arith) m)
+        order_from_rank (get_or ys i d) (get_or ys j d) h k
+        (lower (rank (get_or ys i d)) (rank (get_or ys j d)) (sorted i j d (omega arith) m)
         (λ e. apart i j d l m (rank_one_to_one n (get_or ys i d) (get_or ys j d) h k e)));
   }
     where
@@ -63,7 +81,8 @@ module _ (n : ℕ) where
       ]
 
   -- one more state among others that ascend
-  insert_state : (x : List ℕ) (z : List (List ℕ)) → IsBijection n x → AreBijections z → AreAscending z → ((y : List ℕ) → Contains z y → x ≢ y)
+  insert_state : (x : List ℕ) (z : List (List ℕ)) → IsBijection n x → AreBijections z → AreAscending z
+      → ((y : List ℕ) → Contains z y → x ≢ y)
       → (w : List (List ℕ)) × IsPermutation (x ∷ z) w × AreAscending w
   insert_state x [] h all ascending other = (x ∷ [], IsPermutation-refl (x ∷ []), (λ i j d l m. absurd (omega arith)))
   insert_state x (y ∷ z) h all ascending other =
@@ -78,16 +97,20 @@ module _ (n : ℕ) where
                 | inl e ↦ subst (λ u. IsTrue (is_before x u)) e (order_from_rank x y h k lower)
                 | inr later ↦
                     let v_is = all v (member_tail y z v later) in
-                    let above = rank_from_order y v k v_is (pairs_head (λ a b. IsTrue (is_before a b)) y z ascending v later) in
+                    let above = rank_from_order y v k v_is (pairs_head (λ a b. IsTrue (is_before a b)) y z ascending v
+                    later) in
                     order_from_rank x v h v_is (omega (arith, lower, above))
               ]) ascending,
         )
         | inr (inr higher) ↦
-            let rest = insert_state x z h (λ v m. all v (member_tail y z v m)) (pairs_tail (λ a b. IsTrue (is_before a b)) y z ascending) (λ v m. other v (member_tail y z v m)) in (
+            let rest = insert_state x z h (λ v m. all v (member_tail y z v m))
+            (pairs_tail (λ a b. IsTrue (is_before a b)) y z ascending) (λ v m. other v (member_tail y z v m)) in (
               y ∷ rest.0,
-              IsPermutation-trans (x ∷ y ∷ z) (y ∷ x ∷ z) (y ∷ rest.0) (IsPermutation-middle (x ∷ []) y z) (IsPermutation-cons y (x ∷ z) rest.0 rest.1),
+              IsPermutation-trans (x ∷ y ∷ z) (y ∷ x ∷ z) (y ∷ rest.0) (IsPermutation-middle (x ∷ []) y z)
+                  (IsPermutation-cons y (x ∷ z) rest.0 rest.1),
               pairs_cons (λ a b. IsTrue (is_before a b)) y rest.0
-                  (λ v m. elim (member_cases x z v (Contains-permutation rest.0 (x ∷ z) v (IsPermutation-sym (x ∷ z) rest.0 rest.1) m)) [
+                  (λ v m. elim (member_cases x z v (Contains-permutation rest.0 (x ∷ z) v
+                  (IsPermutation-sym (x ∷ z) rest.0 rest.1) m)) [
                     | inl e ↦ subst (λ u. IsTrue (is_before y u)) e (order_from_rank y x k h higher)
                     | inr later ↦ pairs_head (λ a b. IsTrue (is_before a b)) y z ascending v later
                   ]) rest.2,
@@ -95,17 +118,20 @@ module _ (n : ℕ) where
       ]
 
   -- different states stand in ascending order in some list
-  pub ascending_of : (xs : List (List ℕ)) → AreBijections xs → AllPairs (λ x y. x ≢ y) xs → (z : List (List ℕ)) × IsPermutation xs z × AreAscending z
+  pub ascending_of : (xs : List (List ℕ)) → AreBijections xs → AllPairs (λ x y. x ≢ y) xs
+      → (z : List (List ℕ)) × IsPermutation xs z × AreAscending z
   ascending_of [] all apart = ([], IsPermutation-refl [], (λ i j d l m. absurd (omega arith)))
   ascending_of (x ∷ xs) all apart =
       let rest = ascending_of xs (λ y m. all y (member_tail x xs y m)) (pairs_tail (λ a b. a ≢ b) x xs apart) in
       let back = IsPermutation-sym xs rest.0 rest.1 in
-      let more = insert_state x rest.0 (all x (member_head x xs)) (λ y m. all y (member_tail x xs y (Contains-permutation rest.0 xs y back m))) rest.2
+      let more = insert_state x rest.0 (all x (member_head x xs))
+      (λ y m. all y (member_tail x xs y (Contains-permutation rest.0 xs y back m))) rest.2
       (λ y m. pairs_head (λ a b. a ≢ b) x xs apart y (Contains-permutation rest.0 xs y back m)) in
       (more.0, IsPermutation-trans (x ∷ xs) (x ∷ rest.0) more.0 (IsPermutation-cons x xs rest.0 rest.1) more.1, more.2)
 
 -- two ascending lists of the same states are one
-pub same_ascending : (z w : List (List ℕ)) → AreAscending z → AreAscending w → ((x : List ℕ) → Contains z x → Contains w x) → ((x : List ℕ) → Contains w x → Contains z x) → z ≡ w
+pub same_ascending : (z w : List (List ℕ)) → AreAscending z → AreAscending w
+    → ((x : List ℕ) → Contains z x → Contains w x) → ((x : List ℕ) → Contains w x → Contains z x) → z ≡ w
 same_ascending [] [] up up' to from = refl
 same_ascending [] (y ∷ w) up up' to from = absurd (no_member y (from y (member_head y w)))
 same_ascending (x ∷ z) [] up up' to from = absurd (no_member x (to x (member_head x z)))
@@ -118,7 +144,9 @@ same_ascending (x ∷ z) (y ∷ w) up up' to from =
             ∙ is_before-back y x (pairs_head (λ a b. IsTrue (is_before a b)) y w up' x later)))
       ]
     ] in
-    let rest : z ≡ w = same_ascending z w (pairs_tail (λ a b. IsTrue (is_before a b)) x z up) (pairs_tail (λ a b. IsTrue (is_before a b)) y w up')
+    let rest : z ≡ w =
+    same_ascending z w (pairs_tail (λ a b. IsTrue (is_before a b)) x z up)
+    (pairs_tail (λ a b. IsTrue (is_before a b)) y w up')
     (λ a m. elim (member_cases y w a (to a (member_tail x z a m))) [
       | inl e ↦ absurd (apart_head x z up a m (first ∙ e))
       | inr later ↦ later
@@ -133,7 +161,9 @@ same_ascending (x ∷ z) (y ∷ w) up up' to from =
     apart_head x z up a m = pairs_head (λ u v. u ≢ v) x z (apart-AreAscending (x ∷ z) up) a m
 
 -- so are two lists with the same states in another order
-pub same_chain : (xs z w : List (List ℕ)) → IsPermutation xs z → IsPermutation xs w → AreAscending z → AreAscending w → z ≡ w
+pub same_chain : (xs z w : List (List ℕ)) → IsPermutation xs z → IsPermutation xs w → AreAscending z → AreAscending w
+    → z ≡ w
 same_chain xs z w p q up up' =
-    same_ascending z w up up' (λ x m. Contains-permutation xs w x q (Contains-permutation z xs x (IsPermutation-sym xs z p) m))
+    same_ascending z w up up' (λ x m. Contains-permutation xs w x q
+    (Contains-permutation z xs x (IsPermutation-sym xs z p) m))
     (λ x m. Contains-permutation xs z x p (Contains-permutation w xs x (IsPermutation-sym xs w q) m))

@@ -1,4 +1,5 @@
--- Lists of words in which no word stands twice.
+-- Lists of words in which no word stands twice. It is so exactly where no word occurs more than once, which the order
+-- of the words does not touch; numbers below n, all different and n of them, are a bijection.
 use Rattle.std.proofs.Common.{◌≡◌, ◌≢◌, ℕ, ◌+◌, ◌<◌, ◌≤◌, ◌^◌, Bool, true, false, ◌||◌, cond, List, [], ◌∷◌, length, map, get_or, refl, ap, ◌∙◌, sym, arith, inl, inr, true≢false}
 use Rattle.std.proofs.lemmas.List.Sums.{sum_by-cons}
 use Rattle.std.specs.List.Sorted.{IsPermutation}
@@ -18,13 +19,15 @@ use Rattle.grid_text.proofs.Lines.KindLemmas.{or_parts}
 -- ---- a list has no element that passes a test
 
 -- none of its elements does
-pub list_any-none : {A : Type 0} (p : A → Bool) (xs : List A) → ((x : A) → Contains xs x → p x ≡ false) → list_any p xs ≡ false
+pub list_any-none : {A : Type 0} (p : A → Bool) (xs : List A) → ((x : A) → Contains xs x → p x ≡ false)
+    → list_any p xs ≡ false
 list_any-none p [] none = refl
 list_any-none p (x ∷ xs) none =
     ap (λ b. b || list_any p xs) (none x (member_head x xs)) ∙ list_any-none p xs (λ y m. none y (member_tail x xs y m))
 
 -- then each element fails it
-pub none-list_any : {A : Type 0} (p : A → Bool) (xs : List A) → list_any p xs ≡ false → (x : A) → Contains xs x → p x ≡ false
+pub none-list_any : {A : Type 0} (p : A → Bool) (xs : List A) → list_any p xs ≡ false → (x : A) → Contains xs x
+    → p x ≡ false
 none-list_any p [] none x m = absurd (no_member x m)
 none-list_any p (y ∷ xs) none x m =
     let parts = or_parts (p y) (list_any p xs) none in
@@ -39,7 +42,8 @@ none-list_any p (y ∷ xs) none x m =
 pub has_repeated-apart : (words : List Word) → AllPairs (λ v w. v ≢ w) words → has_repeated words ≡ false
 has_repeated-apart [] apart = refl
 has_repeated-apart (w ∷ words) apart =
-    ap (λ b. b || has_repeated words) (list_any-none (is_word w) words (λ v m. is_word-other w v (pairs_head (λ v w. v ≢ w) w words apart v m)))
+    ap (λ b. b || has_repeated words) (list_any-none (is_word w) words
+    (λ v m. is_word-other w v (pairs_head (λ v w. v ≢ w) w words apart v m)))
     ∙ has_repeated-apart words (pairs_tail (λ v w. v ≢ w) w words apart)
 
 -- and the other way round
@@ -54,7 +58,8 @@ apart-has_repeated (w ∷ words) once =
 -- ---- the words of different things
 
 -- things with different words are different
-pub AllPairs-unmap : {A : Type 0} (f : A → Word) (xs : List A) → AllPairs (λ v w. v ≢ w) (map f xs) → AllPairs (λ a b. a ≢ b) xs
+pub AllPairs-unmap : {A : Type 0} (f : A → Word) (xs : List A) → AllPairs (λ v w. v ≢ w) (map f xs)
+    → AllPairs (λ a b. a ≢ b) xs
 AllPairs-unmap f [] apart = λ i j d l m. absurd (omega arith)
 AllPairs-unmap f (x ∷ xs) apart =
     pairs_cons (λ a b. a ≢ b) x xs
@@ -62,17 +67,23 @@ AllPairs-unmap f (x ∷ xs) apart =
     (AllPairs-unmap f xs (pairs_tail (λ v w. v ≢ w) (f x) (map f xs) apart))
 
 -- different things have different words, where each word is that of one of them
-pub AllPairs-map : {A : Type 0} (f : A → Word) (xs : List A) → ((a b : A) → Contains xs a → Contains xs b → f a ≡ f b → a ≡ b) → AllPairs (λ a b. a ≢ b) xs → AllPairs (λ v w. v ≢ w) (map f xs)
+pub AllPairs-map : {A : Type 0} (f : A → Word) (xs : List A)
+    → ((a b : A) → Contains xs a → Contains xs b → f a ≡ f b → a ≡ b) → AllPairs (λ a b. a ≢ b) xs
+    → AllPairs (λ v w. v ≢ w) (map f xs)
 AllPairs-map f [] one apart = λ i j d l m. absurd (omega arith)
 AllPairs-map f (x ∷ xs) one apart =
     pairs_cons (λ v w. v ≢ w) (f x) (map f xs)
-    (λ w m e. let r = member_of_map f xs w m in pairs_head (λ a b. a ≢ b) x xs apart r.0 r.1 (one x r.0 (member_head x xs) (member_tail x xs r.0 r.1) (e ∙ sym r.2)))
-    (AllPairs-map f xs (λ a b m n. one a b (member_tail x xs a m) (member_tail x xs b n)) (pairs_tail (λ a b. a ≢ b) x xs apart))
+    (λ w m e. let r = member_of_map f xs w m in
+    pairs_head (λ a b. a ≢ b) x xs apart r.0 r.1
+    (one x r.0 (member_head x xs) (member_tail x xs r.0 r.1) (e ∙ sym r.2)))
+    (AllPairs-map f xs (λ a b m n. one a b (member_tail x xs a m) (member_tail x xs b n))
+    (pairs_tail (λ a b. a ≢ b) x xs apart))
 
 -- ---- rows
 
 -- rows below n, all different, are a bijection
-pub IsBijection-from_apart : (n : ℕ) (rows : List ℕ) → length rows ≡ n → All (λ r. r < n) rows → AllPairs (λ a b. a ≢ b) rows → IsBijection n rows
+pub IsBijection-from_apart : (n : ℕ) (rows : List ℕ) → length rows ≡ n → All (λ r. r < n) rows
+    → AllPairs (λ a b. a ≢ b) rows → IsBijection n rows
 IsBijection-from_apart n rows long small apart = record {
   long = long;
   small = λ c l. small c 0 (omega arith);
@@ -87,7 +98,8 @@ IsBijection-from_apart n rows long small apart = record {
 pub apart-IsBijection : (n : ℕ) (rows : List ℕ) → IsBijection n rows → AllPairs (λ a b. a ≢ b) rows
 apart-IsBijection n rows h i j d l m e =
     let long = h.long in
-    h.apart i j (omega arith) (omega arith) (λ same. omega (arith, same, l)) (get_or_default rows i 0 d (omega arith) ∙ e ∙ get_or_default rows j d 0 m)
+    h.apart i j (omega arith) (omega arith) (λ same. omega (arith, same, l))
+    (get_or_default rows i 0 d (omega arith) ∙ e ∙ get_or_default rows j d 0 m)
 
 -- each is below n
 pub below-IsBijection : (n : ℕ) (rows : List ℕ) → IsBijection n rows → (r : ℕ) → Contains rows r → r < n
@@ -98,15 +110,18 @@ below-IsBijection n rows h r (k, l, e) =
     omega (arith, small, same)
 
 -- the rows of a bijection have different decimal forms
-pub has_repeated-bijection : (n : ℕ) (rows : List ℕ) → n < 2 ^ 64 → IsBijection n rows → has_repeated (map decimal rows) ≡ false
+pub has_repeated-bijection : (n : ℕ) (rows : List ℕ) → n < 2 ^ 64 → IsBijection n rows
+    → has_repeated (map decimal rows) ≡ false
 has_repeated-bijection n rows fits h =
     has_repeated-apart (map decimal rows)
     (AllPairs-map decimal rows
-    (λ a b m k e. let small = below-IsBijection n rows h a m in let small_b = below-IsBijection n rows h b k in decimal_injective a b (omega arith) (omega arith) e)
+    (λ a b m k e. let small = below-IsBijection n rows h a m in let small_b = below-IsBijection n rows h b k in
+    decimal_injective a b (omega arith) (omega arith) e)
     (apart-IsBijection n rows h))
 
 -- rows with different decimal forms are a bijection
-pub bijection-has_repeated : (n : ℕ) (rows : List ℕ) → length rows ≡ n → All (λ r. r < n) rows → has_repeated (map decimal rows) ≡ false → IsBijection n rows
+pub bijection-has_repeated : (n : ℕ) (rows : List ℕ) → length rows ≡ n → All (λ r. r < n) rows
+    → has_repeated (map decimal rows) ≡ false → IsBijection n rows
 bijection-has_repeated n rows long small once =
     IsBijection-from_apart n rows long small (AllPairs-unmap decimal rows (apart-has_repeated (map decimal rows) once))
 
@@ -117,7 +132,8 @@ abbrev pub occurrences : Word → List Word → ℕ
 occurrences w words = sum_by (λ v. cond (is_word w v) 1 0) words
 
 -- one more word
-occurrences-cons : (w v : Word) (words : List Word) → ◌≡◌ {A = ℕ} (occurrences w (v ∷ words)) (cond (is_word w v) 1 0 + occurrences w words)
+occurrences-cons : (w v : Word) (words : List Word)
+    → ◌≡◌ {A = ℕ} (occurrences w (v ∷ words)) (cond (is_word w v) 1 0 + occurrences w words)
 occurrences-cons w v words = sum_by-cons (λ u. cond (is_word w u) 1 0) v words
 
 -- a word that is no element
@@ -133,8 +149,10 @@ occurrences-none w (v ∷ words) none =
 occurrences-some : (w : Word) (words : List Word) → list_any (is_word w) words ≡ true → 1 ≤ occurrences w words
 occurrences-some w [] some = absurd (true≢false (sym some))
 occurrences-some w (v ∷ words) some = elim (cases_Bool (is_word w v)) [
-  | inl t ↦ let here : ◌≡◌ {A = ℕ} (cond (is_word w v) 1 0) 1 = ap (λ b. cond b 1 0) t in omega (arith, occurrences-cons w v words, here)
-  | inr f ↦ let rest = occurrences-some w words (sym (ap (λ b. b || list_any (is_word w) words) f) ∙ some) in omega (arith, occurrences-cons w v words, rest)
+  | inl t ↦ let here : ◌≡◌ {A = ℕ} (cond (is_word w v) 1 0) 1 = ap (λ b. cond b 1 0) t in
+      omega (arith, occurrences-cons w v words, here)
+  | inr f ↦ let rest = occurrences-some w words (sym (ap (λ b. b || list_any (is_word w) words) f) ∙ some) in
+      omega (arith, occurrences-cons w v words, rest)
 ]
 
 -- no word stands twice where none occurs more than once
@@ -146,7 +164,8 @@ has_repeated-occurrences (v ∷ words) once = elim (cases_Bool (list_any (is_wor
       let here : ◌≡◌ {A = ℕ} (cond (is_word v v) 1 0) 1 = ap (λ b. cond b 1 0) (is_word-same v) in
       let more = occurrences-some v words t in
       absurd (omega (arith, occurrences-cons v v words, twice, here, more))
-  | inr f ↦ ap (λ b. b || has_repeated words) f ∙ has_repeated-occurrences words (λ w. let h = once w in omega (arith, occurrences-cons w v words, h))
+  | inr f ↦ ap (λ b. b || has_repeated words) f
+      ∙ has_repeated-occurrences words (λ w. let h = once w in omega (arith, occurrences-cons w v words, h))
 ]
 
 -- and the other way round
@@ -158,12 +177,16 @@ occurrences-has_repeated (v ∷ words) once w =
     elim (cases_Bool (is_word w v)) [
       | inl t ↦
           let here : ◌≡◌ {A = ℕ} (cond (is_word w v) 1 0) 1 = ap (λ b. cond b 1 0) t in
-          let none : occurrences w words ≡ 0 = occurrences-none w words (ap (λ u. list_any (is_word u) words) (same_word w v t) ∙ parts.0) in
+          let none : occurrences w words ≡ 0 =
+          occurrences-none w words (ap (λ u. list_any (is_word u) words) (same_word w v t) ∙ parts.0) in
           omega (arith, occurrences-cons w v words, here, none)
-      | inr f ↦ let here : ◌≡◌ {A = ℕ} (cond (is_word w v) 1 0) 0 = ap (λ b. cond b 1 0) f in omega (arith, occurrences-cons w v words, here, rest)
+      | inr f ↦ let here : ◌≡◌ {A = ℕ} (cond (is_word w v) 1 0) 0 = ap (λ b. cond b 1 0) f in
+          omega (arith, occurrences-cons w v words, here, rest)
     ]
 
 -- the order of the words is the same to it
-pub has_repeated-IsPermutation : (words other : List Word) → IsPermutation words other → has_repeated words ≡ false → has_repeated other ≡ false
+pub has_repeated-IsPermutation : (words other : List Word) → IsPermutation words other → has_repeated words ≡ false
+    → has_repeated other ≡ false
 has_repeated-IsPermutation words other permutation once =
-    has_repeated-occurrences other (λ w. let h = occurrences-has_repeated words once w in let same = sum_by-IsPermutation (λ v. cond (is_word w v) 1 0) words other permutation in omega (arith, h, same))
+    has_repeated-occurrences other (λ w. let h = occurrences-has_repeated words once w in
+    let same = sum_by-IsPermutation (λ v. cond (is_word w v) 1 0) words other permutation in omega (arith, h, same))

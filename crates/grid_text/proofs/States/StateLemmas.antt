@@ -1,4 +1,5 @@
--- Lists of states: one more state at the end, and a front of a list.
+-- Lists of states, one more state at the end, and a front of a list. The last state is after all others, so a state
+-- after the last is after all.
 use Rattle.std.proofs.Common.{◌≡◌, ℕ, ◌+◌, ◌-◌, ◌<◌, List, [], ◌∷◌, ◌++◌, length, take, get_or, IsTrue, refl, ap, subst, ◌∙◌, sym, arith, inl, inr, length-append}
 use Rattle.std.proofs.lemmas.Bool.{cases_lt}
 use Rattle.std.specs.List.{AllPairs}
@@ -11,9 +12,11 @@ use Rattle.state_rank.proofs.RankLemmas.{rank_order}
 use Rattle.grid_text.specs.States.{AreStates}
 
 -- of two states of one size the one of lower rank is before the other
-states_order : (x y : List ℕ) → IsState x → IsState y → length x ≡ length y → (IsTrue (is_before x y) → rank x < rank y) × (rank x < rank y → IsTrue (is_before x y))
+states_order : (x y : List ℕ) → IsState x → IsState y → length x ≡ length y
+    → (IsTrue (is_before x y) → rank x < rank y) × (rank x < rank y → IsTrue (is_before x y))
 states_order x y s t same =
-    let order = rank_order (length x) x y s.bijection (subst (λ n. IsBijection n y) (sym same) t.bijection) in (order.0, order.1)
+    let order = rank_order (length x) x y s.bijection (subst (λ n. IsBijection n y) (sym same) t.bijection) in
+    (order.0, order.1)
 
 -- no state before it
 pub AreStates-one : (xs : List (List ℕ)) (x : List ℕ) → length xs ≡ 0 → IsState x → AreStates (xs ++ x ∷ [])
@@ -34,15 +37,20 @@ module _ (xs : List (List ℕ)) (x y : List ℕ) (last : y ≡ get_or xs (length
         (λ k d l. (states_order (get_or xs k d) x (z.states k d l) s (related k d l).0).1 (related k d l).1);
   }
     where
-      related : (k : ℕ) (d : List ℕ) → k < length xs → (length (get_or xs k d) ≡ length x) × (rank (get_or xs k d) < rank x)
+      related : (k : ℕ) (d : List ℕ) → k < length xs
+          → (length (get_or xs k d) ≡ length x) × (rank (get_or xs k d) < rank x)
       related k d l =
-          let at_last : get_or xs (length xs - 1) d ≡ y = get_or_default xs (length xs - 1) d y (omega arith) ∙ sym last in
+          let at_last : get_or xs (length xs - 1) d ≡ y =
+          get_or_default xs (length xs - 1) d y (omega arith) ∙ sym last in
           elim (cases_lt k (length xs - 1)) [
             | inl before ↦
-                let same : length (get_or xs k d) ≡ length y = z.one_size k (length xs - 1) d before (omega arith) ∙ ap length at_last in
-                let order = states_order (get_or xs k d) (get_or xs (length xs - 1) d) (z.states k d l) (z.states (length xs - 1) d (omega arith)) (z.one_size k (length xs - 1) d before (omega arith)) in
+                let same : length (get_or xs k d) ≡ length y =
+                z.one_size k (length xs - 1) d before (omega arith) ∙ ap length at_last in
+                let order = states_order (get_or xs k d) (get_or xs (length xs - 1) d) (z.states k d l)
+                (z.states (length xs - 1) d (omega arith)) (z.one_size k (length xs - 1) d before (omega arith)) in
                 let lower = order.0 (z.ascending k (length xs - 1) d before (omega arith)) in
-                let lower_y : rank (get_or xs k d) < rank y = subst (λ a. rank (get_or xs k d) < rank a) at_last lower in
+                let lower_y : rank (get_or xs k d) < rank y =
+                subst (λ a. rank (get_or xs k d) < rank a) at_last lower in
                 (same ∙ next.0, omega (arith, lower_y, next.1))
             | inr from ↦
                 let e : k ≡ length xs - 1 = omega arith in
@@ -54,12 +62,17 @@ module _ (xs : List (List ℕ)) (x y : List ℕ) (last : y ≡ get_or xs (length
   pub AreStates-next : AreStates (xs ++ x ∷ []) → (length y ≡ length x) × (rank y < rank x)
   AreStates-next z =
       let whole : length (xs ++ x ∷ []) ≡ length xs + 1 = length-append xs (x ∷ []) in
-      let at_last : get_or (xs ++ x ∷ []) (length xs - 1) y ≡ y = get_or_append_left xs (x ∷ []) y (length xs - 1) (omega arith) ∙ sym last in
+      let at_last : get_or (xs ++ x ∷ []) (length xs - 1) y ≡ y =
+      get_or_append_left xs (x ∷ []) y (length xs - 1) (omega arith) ∙ sym last in
       let at_end : get_or (xs ++ x ∷ []) (length xs) y ≡ x = at_length in
       let same = z.one_size (length xs - 1) (length xs) y (omega arith) (omega arith) in
-      let order = states_order (get_or (xs ++ x ∷ []) (length xs - 1) y) (get_or (xs ++ x ∷ []) (length xs) y) (z.states (length xs - 1) y (omega arith)) (z.states (length xs) y (omega arith)) same in
-      let lower = order.0 (z.ascending (length xs - 1) (length xs) y (omega arith) (omega arith)) in
-      (ap length (sym at_last) ∙ same ∙ ap length at_end, subst (λ a. a < rank x) (ap rank at_last) (subst (λ a. rank (get_or (xs ++ x ∷ []) (length xs - 1) y) < a) (ap rank at_end) lower))
+      let order = states_order (get_or (xs ++ x ∷ []) (length xs - 1) y) (get_or (xs ++ x ∷ []) (length xs) y)
+      (z.states (length xs - 1) y (omega arith)) (z.states (length xs) y (omega arith)) same in
+      let lower = order.0 (z.ascending (length xs - 1) (length xs) y (omega arith) (omega arith)) in (
+        ap length (sym at_last) ∙ same ∙ ap length at_end,
+        subst (λ a. a < rank x) (ap rank at_last)
+            (subst (λ a. rank (get_or (xs ++ x ∷ []) (length xs - 1) y) < a) (ap rank at_end) lower),
+      )
     where
       at_length : get_or (xs ++ x ∷ []) (length xs) y ≡ x
       at_length =
@@ -72,7 +85,8 @@ AllPairs-take R k xs h i j d l m =
     let within : (j < k) × (j < length xs) = grind (arith, length-take) in
     let first = get_or-take k xs i d (omega arith) in
     let second = get_or-take k xs j d within.0 in
-    subst (λ a. R a (get_or (take k xs) j d)) (sym first) (subst (λ b. R (get_or xs i d) b) (sym second) (h i j d l within.1))
+    subst (λ a. R a (get_or (take k xs) j d)) (sym first)
+    (subst (λ b. R (get_or xs i d) b) (sym second) (h i j d l within.1))
 
 -- a front of such a list
 pub AreStates-take : (k : ℕ) (xs : List (List ℕ)) → AreStates xs → AreStates (take k xs)
@@ -83,6 +97,8 @@ AreStates-take k xs z = record {
 }
 
 -- the front up to a state that does not follow
-pub AreStates-not_next : (xs : List (List ℕ)) (k : ℕ) (x : List ℕ) → k < length xs → x ≡ get_or xs k x → (AreStates (take k xs ++ x ∷ []) → ⊥) → AreStates xs → ⊥
+pub AreStates-not_next : (xs : List (List ℕ)) (k : ℕ) (x : List ℕ) → k < length xs → x ≡ get_or xs k x
+    → (AreStates (take k xs ++ x ∷ []) → ⊥) → AreStates xs → ⊥
 AreStates-not_next xs k x within is none z =
-    none (subst AreStates (take_more xs k x within ∙ ap (λ y. take k xs ++ y ∷ []) (sym is)) (AreStates-take (k + 1) xs z))
+    none (subst AreStates (take_more xs k x within ∙ ap (λ y. take k xs ++ y ∷ []) (sym is))
+    (AreStates-take (k + 1) xs z))

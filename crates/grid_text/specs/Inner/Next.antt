@@ -10,16 +10,16 @@ use Rattle.grid_text.specs.Document.{Place, head, o_line, x_line, body, ended, L
 use Rattle.grid_text.specs.Faults.{fault_at}
 use Rattle.grid_text.specs.Inner.Reading.{IsPlace}
 use Rattle.grid_text.specs.declared.faults.TextFault.{TextFault}
-use Rattle.grid_text.specs.declared.places.Place.{Place as Kept}
-use Rattle.grid_text.specs.declared.places.Place.TheVariants as kept
+use Rattle.grid_text.specs.declared.places.Place.{Place as StoredPlace}
+use Rattle.grid_text.specs.declared.places.Place.TheVariants as stored
 
-abbrev pub place_of : Kept → Place
-place_of kept.Head = head
-place_of (kept.OLine n) = o_line n
-place_of (kept.XLine o) = x_line (length o) o
-place_of (kept.Body s) = body s
-place_of (kept.Ended s) = ended s
+abbrev pub place_of : StoredPlace → Place
+place_of stored.Head = head
+place_of (stored.OLine n) = o_line n
+place_of (stored.XLine o) = x_line (length o) o
+place_of (stored.Body s) = body s
+place_of (stored.Ended s) = ended s
 
-abbrev pub IsNext : Place → List Word → Result Kept TextFault → Type 0
+abbrev pub IsNext : Place → List Word → Result StoredPlace TextFault → Type 0
 IsNext p words (Ok q) = Leads p words (place_of q) × IsPlace (place_of q)
 IsNext p words (Err f) = fault_at p words ≡ Some f

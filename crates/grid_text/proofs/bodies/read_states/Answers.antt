@@ -12,5 +12,6 @@ returns-in_default-clause-none c =
 
 pub loop-word-preserved : goal.loop-word-preserved
 loop-word-preserved c =
-    states_of-more c.args.n c.loop-word.states.items c.push.new.self.items c.in-Some.x c.args.words.now c.loop-word.word-index _ c.loop-word-test.true
+    states_of-more c.args.n c.loop-word.states.items c.push.new.self.items c.in-Some.x c.args.words.now
+    c.loop-word.word-index _ c.loop-word-test.true
     c.loop-word.invariant (sym c.read_state.ensures ∙ c.in-Some.is) c.in_ok-push.ensures.items

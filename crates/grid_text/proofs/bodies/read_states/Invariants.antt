@@ -7,4 +7,5 @@ use Rattle.grid_text.proofs.Lines.SeenLemmas.{seen}
 use Rattle.grid_text.proofs.bodies.read_states.Given as goal
 
 abbrev pub invariant-loop-word : goal.invariant-loop-word
-invariant-loop-word l = All (IsBijection l.n) l.states.items × (seen (take l.word-index l.words) ≡ map state_word l.states.items)
+invariant-loop-word l =
+    All (IsBijection l.n) l.states.items × (seen (take l.word-index l.words) ≡ map state_word l.states.items)

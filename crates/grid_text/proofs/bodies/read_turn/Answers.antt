@@ -6,14 +6,17 @@ use Rattle.grid_text.proofs.bodies.read_turn.Goals as goal
 
 pub returns-then-arguments-ne1 : goal.returns-then-arguments-ne1
 returns-then-arguments-ne1 c s =
-    key-count s (seen c.args.arguments.now) keyword.Turn 1 refl (λ e. c.if-arguments-ne1.true (sym (length-seen c.args.arguments.now) ∙ e))
+    key-count s (seen c.args.arguments.now) keyword.Turn 1 refl
+    (λ e. c.if-arguments-ne1.true (sym (length-seen c.args.arguments.now) ∙ e))
 
 pub returns-in-Some : goal.returns-in-Some
 returns-in-Some c s =
-    turn-read s (seen c.args.arguments.now) (get_or c.args.arguments.now 0 _).now (seen-one c.args.arguments.now _ c.if-arguments-ne1.false)
+    turn-read s (seen c.args.arguments.now) (get_or c.args.arguments.now 0 _).now
+    (seen-one c.args.arguments.now _ c.if-arguments-ne1.false)
     c.read_side.result c.in-Some.side c.read_side.ensures c.in-Some.is
 
 pub returns-in-None : goal.returns-in-None
 returns-in-None c s =
-    turn-choice s (seen c.args.arguments.now) (get_or c.args.arguments.now 0 _).now (seen-one c.args.arguments.now _ c.if-arguments-ne1.false)
+    turn-choice s (seen c.args.arguments.now) (get_or c.args.arguments.now 0 _).now
+    (seen-one c.args.arguments.now _ c.if-arguments-ne1.false)
     c.read_side.result c.read_side.ensures c.in-None.is

@@ -4,4 +4,5 @@ use Rattle.grid_text.proofs.lengths.arguments_len.Goals as goal
 
 pub returns-in-Chain-clause-exact : goal.returns-in-Chain-clause-exact
 returns-in-Chain-clause-exact c =
-    c.states_len.ensures.exact ∙ ap length (chain_arguments c.args.command.now c.in-Chain.z c.states.result.now c.in-Chain.is c.states.ensures.states)
+    c.states_len.ensures.exact ∙ ap length (chain_arguments c.args.command.now c.in-Chain.z c.states.result.now
+    c.in-Chain.is c.states.ensures.states)

@@ -7,4 +7,5 @@ pub returns-then-n-lt10-clause-exact : goal.returns-then-n-lt10-clause-exact
 returns-then-n-lt10-clause-exact c = sym (ap length (decimal_digit c.args.n c.if-n-lt10.true))
 
 pub returns-else-n-lt10-clause-exact : goal.returns-else-n-lt10-clause-exact
-returns-else-n-lt10-clause-exact c = sym (ap length (decimal_two c.args.n (omega (arith, c.if-n-lt10.false)) c.requires))
+returns-else-n-lt10-clause-exact c =
+    sym (ap length (decimal_two c.args.n (omega (arith, c.if-n-lt10.false)) c.requires))

@@ -5,4 +5,5 @@ use Rattle.grid_text.specs.PlainForm.{after_space}
 use Rattle.grid_text.proofs.lengths.numbers_len.Given as goal
 
 abbrev pub invariant-loop-n : goal.invariant-loop-n
-invariant-loop-n l = (l.count ≡ length (after_space (map decimal (take l.n-index l.numbers)))) × (l.count ≤ 3 * l.n-index)
+invariant-loop-n l =
+    (l.count ≡ length (after_space (map decimal (take l.n-index l.numbers)))) × (l.count ≤ 3 * l.n-index)

@@ -5,4 +5,5 @@ use Rattle.grid_text.specs.PlainForm.{after_space}
 use Rattle.grid_text.proofs.lengths.states_len.Given as goal
 
 abbrev pub invariant-loop-x : goal.invariant-loop-x
-invariant-loop-x l = (l.count ≡ length (after_space (map state_word (take l.x-index l.states)))) × (l.count ≤ 10 * l.x-index)
+invariant-loop-x l =
+    (l.count ≡ length (after_space (map state_word (take l.x-index l.states)))) × (l.count ≤ 10 * l.x-index)

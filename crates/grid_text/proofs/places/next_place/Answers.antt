@@ -7,4 +7,6 @@ use Rattle.grid_text.proofs.Lines.FaultLemmas.{fault_at-ended}
 use Rattle.grid_text.proofs.places.next_place.Goals as goal
 
 pub returns : goal.returns
-returns c = ap (λ p. fault_at (place_of p) (seen c.args.words.now)) c.in-Ended.is ∙ fault_at-ended (ended c.in-Ended.field-0) (seen c.args.words.now) refl
+returns c =
+    ap (λ p. fault_at (place_of p) (seen c.args.words.now)) c.in-Ended.is
+    ∙ fault_at-ended (ended c.in-Ended.field-0) (seen c.args.words.now) refl

@@ -8,10 +8,12 @@ returns-in_default c = grid-word (seen c.args.words.now) c.in_default.ensures.no
 
 pub returns-then-arguments-ne1 : goal.returns-then-arguments-ne1
 returns-then-arguments-ne1 c =
-    grid-count (seen c.args.words.now) (seen c.in-Some.arguments.now) c.in-Some.ensures.some (λ e. c.if-arguments-ne1.true (sym (length-seen c.in-Some.arguments.now) ∙ e))
+    grid-count (seen c.args.words.now) (seen c.in-Some.arguments.now) c.in-Some.ensures.some
+    (λ e. c.if-arguments-ne1.true (sym (length-seen c.in-Some.arguments.now) ∙ e))
 
 pub returns-in_default-numeral : goal.returns-in_default-numeral
 returns-in_default-numeral c =
-    grid-number (seen c.args.words.now) (seen c.in-Some.arguments.now) (get_or c.in-Some.arguments.now 0 _).now c.in-Some.ensures.some
+    grid-number (seen c.args.words.now) (seen c.in-Some.arguments.now)
+    (get_or c.in-Some.arguments.now 0 _).now c.in-Some.ensures.some
     (seen-one c.in-Some.arguments.now _ c.if-arguments-ne1.false)
     (grid-numeral c.from.result _ c.numeral.result _ c.from.ensures c.numeral.ensures.value c.in_default-numeral.is)

@@ -7,7 +7,9 @@ use Rattle.grid_text.proofs.places.read_x_line.Goals as goal
 
 pub returns-in-Err-of : goal.returns-in-Err-of
 returns-in-Err-of c =
-    let marks : ◌≡◌ {A = Marks} (record { o = c.rows.result.now; x = c.rows-2.result.now }) (record { o = c.args.o.now; x = c.in-Ok.x }) = λ i. record { o = c.rows.ensures.rows i; x = c.rows-2.ensures.rows i } in
+    let marks : ◌≡◌ {A = Marks} (record { o = c.rows.result.now; x = c.rows-2.result.now })
+    (record { o = c.args.o.now; x = c.in-Ok.x }) =
+    λ i. record { o = c.rows.ensures.rows i; x = c.rows-2.ensures.rows i } in
     let bijection = subst (λ n. IsBijection n c.in-Ok.x) c.size.ensures.size c.in-Ok.ensures.ok.0 in
     square-read c.args.o.now c.in-Ok.x (seen c.args.words.now) c.rows.ensures.state bijection c.in-Ok.ensures.ok.1
     (fault_of_grid c.args.o.now c.in-Ok.x c.in-Err-of.field-0 c.rows.ensures.state bijection

@@ -4,8 +4,10 @@ use Rattle.grid_text.proofs.places.words_after.Goals as goal
 
 pub returns-then-not-is_word-clause-none : goal.returns-then-not-is_word-clause-none
 returns-then-not-is_word-clause-none c =
-    seen-other c.args.words.now c.args.expected.now _ c.in-len1-up.len_at_least (sym c.is_word.ensures ∙ c.if-not-is_word.true)
+    seen-other c.args.words.now c.args.expected.now _ c.in-len1-up.len_at_least
+    (sym c.is_word.ensures ∙ c.if-not-is_word.true)
 
 pub returns-clause-some : goal.returns-clause-some
 returns-clause-some c =
-    seen-first c.args.words.now c.args.expected.now _ c.in-len1-up.len_at_least (sym c.is_word.ensures ∙ c.if-not-is_word.false)
+    seen-first c.args.words.now c.args.expected.now _ c.in-len1-up.len_at_least
+    (sym c.is_word.ensures ∙ c.if-not-is_word.false)

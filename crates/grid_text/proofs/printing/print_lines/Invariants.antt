@@ -5,4 +5,5 @@ use Rattle.grid_text.specs.PlainForm.{command_line}
 use Rattle.grid_text.proofs.printing.print_lines.Given as goal
 
 abbrev pub invariant-loop-command : goal.invariant-loop-command
-invariant-loop-command l = l.text.items ≡ l.initial.text.items ++ flat_map command_line (take l.command-index l.command-items)
+invariant-loop-command l =
+    l.text.items ≡ l.initial.text.items ++ flat_map command_line (take l.command-index l.command-items)

@@ -10,5 +10,6 @@ pub loop-c-preserved : goal.loop-c-preserved
 loop-c-preserved c =
     let room = c.loop-c.invariant.0 in (
       length-set c.loop-c.rows c.loop-c.c c.in-Some.row ∙ room,
-      state_word-more c.args.word.now c.loop-c.rows c.loop-c.c c.in-Some.row (omega arith) (omega arith) (omega (arith, c.in-Some.ensures)) c.loop-c.invariant.1,
+      state_word-more c.args.word.now c.loop-c.rows c.loop-c.c c.in-Some.row (omega arith) (omega arith)
+          (omega (arith, c.in-Some.ensures)) c.loop-c.invariant.1,
     )
