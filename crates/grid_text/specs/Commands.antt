@@ -1,10 +1,10 @@
 -- The commands of a document: their words, what they ask of the grid that stands there, and what they make
--- of it.
+-- of it. Each command is said once, in the table `command_row`.
 --     sign_word, side_word, corner_word, axis_word   the word for each sign, side, corner and axis
 --     signs, sides, corners      all of them
 --     Argument                   what a word of a command after its first stands for
 --     argument_word a            the word for it
---     command_row c              THE TABLE OF COMMANDS: the first word of a command, and its arguments
+--     command_row c              the row of a command: its first word, and its arguments
 --     command_words c            the words of a command
 --     IsLineOf words c           the words of a line are the command's
 --     IsStateOf g x              x is a state of the grid g
@@ -75,7 +75,7 @@ argument_word (corner v) = corner_word v
 argument_word (number c) = decimal c
 argument_word (state x) = state_word x
 
--- each command is said here, and nowhere else
+-- the table of commands
 abbrev pub command_row : Command → Word × List Argument
 command_row command.Front = (codes "front", [])
 command_row command.Ranks = (codes "ranks", [])

@@ -1,8 +1,8 @@
 -- Which texts are documents. The lines of a text are taken in order, each at a place; a line that is
 -- allowed there leads to the next place.
---     Place                  the head; the O line of a size; the X line of a size with the O list; the body
---                            with the script so far; after the end
---     end_word               the word of the last line
+--     Place                  where a line stands: at the head; at the O line of a size; at the X line of a size
+--                            with the O list; in the body, with the script so far; after the end
+--     grid_word, o_word, x_word, end_word   the first words of the lines of the head, and the last line
 --     Leads p words q        a line with these words is allowed at the place p and leads to q
 --     Path p lines q         these lines, in order, lead from p to q
 --     AreLinesOf lines s     lines with these words are a document of the script s
@@ -23,16 +23,25 @@ pub data Place : Type 0 where
   body : (s : GridScript) → Place
   ended : (s : GridScript) → Place
 
+abbrev pub grid_word : Word
+grid_word = codes "grid"
+
+abbrev pub o_word : Word
+o_word = codes "O"
+
+abbrev pub x_word : Word
+x_word = codes "X"
+
 abbrev pub end_word : Word
 end_word = codes "end"
 
 abbrev pub Leads : Place → List Word → Place → Type 0
-Leads head words q = (n : ℕ) × IsSize n × (words ≡ codes "grid" ∷ decimal n ∷ []) × (q ≡ o_line n)
+Leads head words q = (n : ℕ) × IsSize n × (words ≡ grid_word ∷ decimal n ∷ []) × (q ≡ o_line n)
 Leads (o_line n) words q =
-    (o : List ℕ) × IsBijection n o × (words ≡ codes "O" ∷ map decimal o) × (q ≡ x_line n o)
+    (o : List ℕ) × IsBijection n o × (words ≡ o_word ∷ map decimal o) × (q ≡ x_line n o)
 Leads (x_line n o) words q =
     (x : List ℕ) × IsBijection n x × ((c : ℕ) → c < n → slice_index o c ≢ slice_index x c)
-    × (words ≡ codes "X" ∷ map decimal x) × (q ≡ body (record { grid = record { o = o; x = x }; commands = [] }))
+    × (words ≡ x_word ∷ map decimal x) × (q ≡ body (record { grid = record { o = o; x = x }; commands = [] }))
 Leads (body s) words q =
     ((words ≡ end_word ∷ []) × (q ≡ ended s))
     ⊎ ((c : Command) × IsLineOf words c × IsAllowed (grid_in_force s) c × (length s.commands < max_commands)

@@ -1,17 +1,45 @@
 -- The first fault of lines that are no document. The table has a row for each fault; at a place a line has
 -- the fault of the first row whose test passes, and none where no test passes.
---     Kind                what may stand in the place of a word
---     kind_fault k        the fault of a word that may not stand there
---     is_bad k word       whether the word is one
---     Form                the kinds of the words after the first
+--
+-- Kinds of words, and forms of lines:
+--     Kind                what a word may be: one of some words, a number between two, a state of a size
+--     kind_fault k        the fault of a word that is not of the kind
+--     is_bad k word       the word is not of the kind
+--     kind_of n a         the kind of the words for an argument of a command, for a grid of size n
+--     Form                the kinds of the words after the first: exactly some, or any number of one
 --     form_of n c         the form of the lines of a command, for a grid of size n
 --     examples            one command for each word that begins the line of a command
---     form_at p word      the form of a line at the place p whose first word it is, if it may begin with it
---     table p words       the table's rows, in order, for a line with these words at the place p
---     fault_at p words    its fault
---     HaveFirstFault lines f line   lines with these words have the first fault f at this line, counted from 1
---     IsFirstFault text f line      so have the lines of the text
-use Rattle.std.specs.Prelude.{◌≡◌, ◌⊎◌, ℕ, ◌+◌, ◌-◌, Bool, true, false, ◌&&◌, ◌||◌, not, List, [], ◌∷◌, ◌++◌, length, map, replicate, drop, codes, is_none, nat_le, ◌==◌, if◌then◌else◌}
+--     body_forms n        the first words of the lines of a body, each with its form, for a grid of size n
+--     row_form n          the form of the lines O and X of a grid of size n
+--     form_among rows word   the form of the first of these words that the word is
+--     form_at p word      the form of a line at the place p that begins with the word, if one may
+--     form_of_line p words   the same of a line with these words
+--
+-- The tests, for a line with these words after the first, where it is no other:
+--     is_after_end p                   the place is after the end
+--     is_bad_count form arguments      the number of words is not that of the form
+--     is_bad_by f kind word            the word is not of the kind, and this is its fault
+--     has_bad f form arguments         some word has this fault
+--     has_repeated arguments           some word stands twice
+--     is_not_permutation p arguments   the numbers of an O or X line are not all different
+--     has_same_square p arguments      on an X line, the row of some column is that of its O
+--     has_repeated_state form arguments   two states of a line `chain` are the same
+--     fails_to_commute axis g word     columns, or rows, c - 1 and c of g do not commute, where the word is c
+--     is_not_commuting p words         a line `cols` or `rows` exchanges such columns or rows
+--     is_one_too_many p words          a command follows the greatest number of them
+--
+-- The table, and the first fault:
+--     form_table p form words          the rows from the number of words on, for a line of this form
+--     rows_of_form p form words        the rows from the first word on, for a line of this form, if it has one
+--     table p words                    all rows, in order, for a line with these words at the place p
+--     first_passed rows                the fault of the first row whose test passes
+--     fault_at p words                 the fault of such a line
+--     HaveFault lines f line           the line of this number has the fault f, and those before it are allowed
+--     HaveNoEnd lines line             all lines are allowed and `end` was not met; the number is that of the next
+--     HaveFirstFault lines f line      lines with these words have the first fault f at the line of this number,
+--                                      counted from 1
+--     IsFirstFault text f line         so have the lines of the text
+use Rattle.std.specs.Prelude.{◌≡◌, ◌⊎◌, ℕ, ◌+◌, ◌-◌, Bool, true, false, ◌&&◌, ◌||◌, not, List, [], ◌∷◌, ◌++◌, length, map, replicate, drop, is_none, nat_le, ◌==◌, if◌then◌else◌}
 use Rattle.std.specs.declared.option.Option.{Option}
 use Rattle.std.specs.declared.option.Option.TheVariants.{None, Some}
 use Rattle.std.specs.List.{list_any, zip}
@@ -27,7 +55,7 @@ use Rattle.grid_text.specs.Limits.{max_commands}
 use Rattle.grid_text.specs.Words.{Word, words_of_lines, is_word, numeral, state_of}
 use Rattle.grid_text.specs.Commands.{sign_word, signs, side_word, sides, corner_word, corners, axis_word, Argument, sign, side, corner, number, state, command_row}
 use Rattle.grid_text.specs.Script.{grid_in_force}
-use Rattle.grid_text.specs.Document.{Place, head, o_line, x_line, body, ended, end_word, Path}
+use Rattle.grid_text.specs.Document.{Place, head, o_line, x_line, body, ended, grid_word, o_word, x_word, end_word, Path}
 use Rattle.grid_text.specs.FaultWords.{fault_word}
 use Rattle.grid_text.specs.declared.commands.Sign.TheVariants.{Plus}
 use Rattle.grid_text.specs.declared.commands.Command.{Command}
@@ -37,7 +65,6 @@ use Rattle.grid_text.specs.declared.faults.TextFault.TheVariants as fault
 
 -- ---- kinds of words
 
--- one of some words; a number between two; a state of a size
 pub data Kind : Type 0 where
   choice_of : (words : List Word) → Kind
   number_between : (low high : ℕ) → Kind
@@ -53,7 +80,6 @@ is_bad (choice_of words) word = not (list_any (λ w. is_word w word) words)
 is_bad (number_between low high) word = is_none (numeral low high word)
 is_bad (state_of_size n) word = is_none (state_of n word)
 
--- the kind of the words for an argument, in a grid of size n
 abbrev pub kind_of : ℕ → Argument → Kind
 kind_of n (sign v) = choice_of (map sign_word signs)
 kind_of n (side v) = choice_of (map side_word sides)
@@ -77,23 +103,20 @@ examples =
     ∷ command.Show ∷ command.Bounds ∷ command.Turn Left ∷ command.Commute Cols 0 Over ∷ command.Commute Rows 0 Over
     ∷ []
 
--- the first words of the lines of a body, for a grid of size n, each with its form
 abbrev pub body_forms : ℕ → List (Word × Form)
 body_forms n = map (λ c. ((command_row c).0, form_of n c)) examples ++ (end_word, exactly []) ∷ []
 
--- the lines O and X of a grid of size n
 abbrev pub row_form : ℕ → Form
 row_form n = exactly (replicate n (number_between 0 (n - 1)))
 
--- the form of the first of these words that the word is
 abbrev pub form_among : List (Word × Form) → Word → Option Form
 form_among [] word = None
 form_among (row ∷ rows) word = if is_word row.0 word then Some row.1 else form_among rows word
 
 abbrev pub form_at : Place → Word → Option Form
-form_at head word = form_among ((codes "grid", exactly (number_between 2 9 ∷ [])) ∷ []) word
-form_at (o_line n) word = form_among ((codes "O", row_form n) ∷ []) word
-form_at (x_line n o) word = form_among ((codes "X", row_form n) ∷ []) word
+form_at head word = form_among ((grid_word, exactly (number_between 2 9 ∷ [])) ∷ []) word
+form_at (o_line n) word = form_among ((o_word, row_form n) ∷ []) word
+form_at (x_line n o) word = form_among ((x_word, row_form n) ∷ []) word
 form_at (body s) word = form_among (body_forms (size (grid_in_force s))) word
 form_at (ended s) word = None
 
@@ -103,42 +126,34 @@ abbrev pub is_after_end : Place → Bool
 is_after_end (ended s) = true
 is_after_end p = false
 
--- whether the number of words after the first is not that of the form
 abbrev pub is_bad_count : Form → List Word → Bool
 is_bad_count (exactly kinds) arguments = not (length kinds == length arguments)
 is_bad_count (any_number_of kind) arguments = false
 
--- whether a word may not stand in its place, and has this fault
 abbrev pub is_bad_by : TextFault → Kind → Word → Bool
 is_bad_by f kind word = is_word (fault_word f) (fault_word (kind_fault kind)) && is_bad kind word
 
--- whether one of the words after the first has this fault
 abbrev pub has_bad : TextFault → Form → List Word → Bool
 has_bad f (exactly kinds) arguments = list_any (λ (a : Kind × Word). is_bad_by f a.0 a.1) (zip kinds arguments)
 has_bad f (any_number_of kind) arguments = list_any (is_bad_by f kind) arguments
 
--- whether some word stands in the list twice
 abbrev pub has_repeated : List Word → Bool
 has_repeated [] = false
 has_repeated (word ∷ words) = list_any (is_word word) words || has_repeated words
 
--- the numbers of an O or X line are not all different
 abbrev pub is_not_permutation : Place → List Word → Bool
 is_not_permutation (o_line n) arguments = has_repeated arguments
 is_not_permutation (x_line n o) arguments = has_repeated arguments
 is_not_permutation p arguments = false
 
--- on the X line, the row of some column is that of its O
 abbrev pub has_same_square : Place → List Word → Bool
 has_same_square (x_line n o) arguments = list_any (λ (a : ℕ × Word). is_word (decimal a.0) a.1) (zip o arguments)
 has_same_square p arguments = false
 
--- two states of a line `chain` are the same
 abbrev pub has_repeated_state : Form → List Word → Bool
 has_repeated_state (any_number_of kind) arguments = has_repeated arguments
 has_repeated_state (exactly kinds) arguments = false
 
--- columns, or rows, c - 1 and c of the grid do not commute, where the word is the number c
 abbrev pub fails_to_commute : Axis → Marks → Word → Bool
 fails_to_commute axis g word = option_map_or (λ c. not (are_commuting axis g c)) (numeral 0 (size g - 1) word) false
 
@@ -148,7 +163,6 @@ is_not_commuting (body s) (axis ∷ c ∷ choice ∷ []) =
     || (is_word (axis_word Rows) axis && fails_to_commute Rows (grid_in_force s) c)
 is_not_commuting p words = false
 
--- a command line after the greatest number of them
 abbrev pub is_one_too_many : Place → List Word → Bool
 is_one_too_many (body s) (word ∷ words) = not (is_word end_word word) && nat_le max_commands (length s.commands)
 is_one_too_many p words = false
@@ -159,7 +173,6 @@ abbrev pub form_of_line : Place → List Word → Option Form
 form_of_line p [] = None
 form_of_line p (word ∷ words) = form_at p word
 
--- the rows from the number of words on, for a line of this form
 abbrev pub form_table : Place → Form → List Word → List (TextFault × Bool)
 form_table p form words =
     (fault.BadCount, is_bad_count form (drop 1 words))

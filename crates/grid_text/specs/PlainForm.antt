@@ -5,14 +5,14 @@
 --     command_line c       the line of a command
 --     head_lines g         the lines of the head of the grid g
 --     plain_form s         the text
-use Rattle.std.specs.Prelude.{ℕ, List, [], ◌∷◌, ◌++◌, map, codes}
+use Rattle.std.specs.Prelude.{ℕ, List, [], ◌∷◌, ◌++◌, map}
 use Rattle.std.specs.List.{flat_map}
 use Rattle.std.specs.Fmt.{decimal}
 use Rattle.torus_geom.specs.Marks.{Marks, size}
 use Rattle.grid_text.specs.Words.{Word}
 use Rattle.grid_text.specs.Commands.{command_words}
 use Rattle.grid_text.specs.Script.{GridScript}
-use Rattle.grid_text.specs.Document.{end_word}
+use Rattle.grid_text.specs.Document.{grid_word, o_word, x_word, end_word}
 use Rattle.grid_text.specs.declared.commands.Command.{Command}
 
 abbrev pub after_space : List Word → List ℕ
@@ -27,8 +27,8 @@ command_line c = line_of (command_words c)
 
 abbrev pub head_lines : Marks → List ℕ
 head_lines g =
-    line_of (codes "grid" ∷ decimal (size g) ∷ []) ++ line_of (codes "O" ∷ map decimal g.o)
-    ++ line_of (codes "X" ∷ map decimal g.x)
+    line_of (grid_word ∷ decimal (size g) ∷ []) ++ line_of (o_word ∷ map decimal g.o)
+    ++ line_of (x_word ∷ map decimal g.x)
 
 unfoldable pub plain_form : GridScript → List ℕ
 plain_form s = head_lines s.grid ++ flat_map command_line s.commands ++ line_of (end_word ∷ [])

@@ -2,6 +2,10 @@
 --     Word                   a list of bytes
 --     parts is_end bytes     the bytes up to each byte that ends a part, and where bytes follow the last such
 --                            byte, these as one more part
+--     before_parts b parts   the parts, with the byte before the first
+--     is_line_feed b         the byte is 10
+--     is_space b             the byte is 32
+--     is_filled bytes        there are some
 --     lines_of text          its lines: each is ended by a line feed, but the last may be ended by the text
 --     words_of line          the longest runs of bytes other than spaces
 --     words_of_lines text    the words of each line, in order

@@ -2,8 +2,10 @@
 --     example k          a command whose lines begin with the keyword, but for `end`
 --     keyword_word k     the word of a keyword
 --     keyword_form n k   the form of the lines that begin with it, for a grid of size n
+--     is_empty_form form the form of a line of one word
 --     stands_alone k     no word may follow the keyword
 --     IsPlace p          what is known of a place that lines lead to
+--     IsReadLine s words line   the words are those of the command, which may stand there, or of `end`
 --     IsRead s words r   what a line of the body of a script is: a command that may stand there, or `end`,
 --                        or a line with a fault before `TooMany`
 --     IsRowPlace letter n p, AreNumerals n rows words   what O and X lines share
