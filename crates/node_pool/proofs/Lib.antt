@@ -1,0 +1,3 @@
+pub mod BlockLemmas
+pub mod ChunkLemmas
+pub mod FreeListLemmas
