@@ -1,29 +1,30 @@
--- Cancelling an arrow on the two lists of a slice: when the arrows from sources to targets are toggled,
--- and what touches the two codes is left out, the lists are those of the cancelled slice.
-use Rattle.std.proofs.Common.{◌≡◌, ◌≢◌, ℕ, suc, ℤ, ◌*◌, ◌<◌, Bool, true, false, not, cond, ◌&&◌, ◌||◌, eqb, List, [], ◌∷◌, map, length, get_or, Option, Some, None, is_some, refl, sym, ap, ap₂, subst, ◌∙◌, arith}
-use Rattle.std.specs.List.{filter}
+-- Cancelling an arrow: when the arrows from sources to targets are toggled, and those of the two keys are
+-- taken out, the slice is the cancelled one.
+use Rattle.std.proofs.Common.{◌≡◌, ℕ, suc, ℤ, ◌*◌, ◌<◌, ◌≤◌, Bool, true, false, not, cond, ◌&&◌, ◌||◌, eqb, ltb, List, [], ◌∷◌, map, length, get_or, set, length-set, get_or-set_same, get_or-set_other, Option, Some, None, is_some, ◌⊎◌, inl, inr, refl, sym, ap, ap₂, subst, ◌∙◌, arith}
 use Rattle.std.specs.FinMap as fin
-use Rattle.std.proofs.lemmas.Bool.{eq-eqb, eqb-true, true≢false, false≢true}
-use Rattle.std.proofs.lemmas.List.Elements.{Contains-get_or}
-use Rattle.f2_algebra.specs.Chain.{Chain, holds, codes}
+use Rattle.std.proofs.lemmas.Bool.{eq-eqb, eqb-true, true≢false, false≢true, and_parts, and_from}
+use Rattle.f2_algebra.specs.Chain.{Chain, holds, codes, of_codes}
 use Rattle.f2_algebra.specs.Complex.{arrow, IsComplex}
-use Rattle.f2_algebra.specs.Cancel.{is_one_of, cancelled, Entry, IsEntry}
+use Rattle.f2_algebra.specs.Cancel.{is_one_of, cancelled, IsEntry}
 use Rattle.f2_algebra.specs.Slice.{Slice, slice_complex, targets_in}
 use Rattle.f2_algebra.proofs.Tables.{◌⊻◌, same}
-use Rattle.f2_algebra.proofs.Sets.{any, any-is, any-filter, holds-of_codes, holds-nothing, holds-where_code}
-use Rattle.f2_algebra.proofs.Cancellation.{no_loop, arrow-cancelled, cancelled_IsComplex}
+use Rattle.f2_algebra.proofs.Sets.{any, any-is, any-filter, holds-of_codes, holds-nothing, holds-where_code, same_chain, cardinality, cardinality-length, cardinality-of_codes, IsApart}
+use Rattle.f2_algebra.proofs.Cancellation.{arrow-cancelled, cancelled_IsComplex}
 use Rattle.f2_algebra.proofs.Slice.{same_complex}
-use Rattle.state_rank.proofs.MemberLemmas.{member_of_filter, pairs_filter, pairs_map}
-use Rattle.sparse_complex.specs.declared.slices.Arrow.{Arrow}
+use Rattle.sparse_complex.specs.declared.links.Links.{Links}
 use Rattle.sparse_complex.specs.declared.slices.Cell.{Cell}
 use Rattle.sparse_complex.specs.Slices.{other_sources, other_targets, fill}
-use Rattle.sparse_complex.specs.Kept.{is_from_to, has_arrow, slice_of, IsKept}
-use Rattle.sparse_complex.specs.Toggled.{IsOnceBut, touches_neither, is_source, is_target, source_arrows, target_arrows, IsFilled}
-use Rattle.sparse_complex.proofs.KeptLemmas.{degree_of, degree-slice_of, arrow-slice_of, arrow-kept}
-use Rattle.sparse_complex.proofs.ToggleLemmas.{is_from_to-is, length-target_arrows}
+use Rattle.sparse_complex.specs.Inner.Lists.{no_id, among, AreDistinct, head_at}
+use Rattle.sparse_complex.specs.Inner.Graph.{AreListed, width, targets, sources, has_arrow, others, code_at, IsFilled, IsCleared}
+use Rattle.sparse_complex.specs.Inner.Kept.{no_key, key_of, is_live, maslov_at, slice_of, IsLiveKey, IsStored, IsFirst, IsKept}
+use Rattle.sparse_complex.proofs.ListLemmas.{same_test, in_head, in_tail, AreDistinct-filter}
+use Rattle.sparse_complex.proofs.GraphLemmas.{has_arrow-sources, has_arrow-targets}
+use Rattle.sparse_complex.proofs.FillLemmas.{no_out}
+use Rattle.sparse_complex.proofs.KeptLemmas.{past, degree-slice_of, arrow-stored, ends-live, same_key, no_arrow-from, no_arrow-to}
+use Rattle.sparse_complex.proofs.QueryLemmas.{distinct-source_codes, distinct-target_codes, among-source_codes, among-target_codes}
 
 -- ---- an entry of a slice
--- a code that has an arrow is a key of the slice
+-- a code that has an arrow is a key of the map
 key_of_arrow : (s : Slice) (p t : ℕ) → arrow (slice_complex s) p t ≡ true → fin.contains_key s p ≡ true
 key_of_arrow s p t h = by (fin.get s p) refl h
   where
@@ -47,145 +48,411 @@ pub holds-other_targets : (s : Slice) (x y t : ℕ) → holds (other_targets s x
 unfolding other_targets
 holds-other_targets s x y t = holds-where_code (λ q. not (eqb q y)) ((slice_complex s).targets x) t
 
--- an arrow with its other sources and targets is an entry of a log
-pub entry_of_arrow : ℕ → ℕ → Slice → Entry
-entry_of_arrow x y s = record { x = x; y = y; sources = other_sources s x y; targets = other_targets s x y }
+-- an arrow with its other sources and targets fits the complex of the slice
+pub IsEntry-of_arrow : (s : Slice) (x y : ℕ) → arrow (slice_complex s) x y ≡ true → IsEntry (slice_complex s) (record { x = x; y = y; sources = other_sources s x y; targets = other_targets s x y })
+IsEntry-of_arrow s x y h = record { arrows = h; other_sources = holds-other_sources s x y; other_targets = holds-other_targets s x y }
 
--- and fits the complex of the slice
-pub IsEntry-entry_of_arrow : (s : Slice) (x y : ℕ) → arrow (slice_complex s) x y ≡ true → IsEntry (slice_complex s) (record { x = x; y = y; sources = other_sources s x y; targets = other_targets s x y })
-IsEntry-entry_of_arrow s x y h = record { arrows = h; other_sources = holds-other_sources s x y; other_targets = holds-other_targets s x y }
+-- ---- the number of toggles
+distinct-same : (xs : List ℕ) → AreDistinct xs → IsApart xs
+distinct-same [] a = tt
+distinct-same (x ∷ xs) a = (a.0, distinct-same xs a.1)
 
--- ---- sources are the targets of the turned arrows
-turned : Arrow → Arrow
-turned a = record { x = a.y; y = a.x }
+-- a chain with the elements of a list that are apart has as many codes
+count-codes : (z : Chain) (xs : List ℕ) → AreDistinct xs → ((c : ℕ) → holds z c ≡ among c xs) → length (codes z) ≡ length xs
+count-codes z xs a h = sym (cardinality-length z) ∙ ap cardinality (same_chain z (of_codes xs) (λ c. h c ∙ sym (holds-of_codes xs c))) ∙ cardinality-of_codes xs (distinct-same xs a)
 
-has_arrow-turned : (arrows : List Arrow) (s t : ℕ) → has_arrow (map turned arrows) s t ≡ has_arrow arrows t s
-unfolding turned
-has_arrow-turned [] s t = refl
-has_arrow-turned (a ∷ arrows) s t = ap₂ (λ u v. u || v) (same 2 (λ a b. a && b) (λ a b. b && a) refl (eqb a.y s) (eqb a.x t)) (has_arrow-turned arrows s t)
+among-others : (t y : ℕ) (ks : List ℕ) → among t (others y ks) ≡ (among t ks && not (eqb t y))
+among-others t y ks = any-filter t (λ j. not (eqb j y)) ks
 
-length-turned : (gone : Arrow) (arrows : List Arrow) → length (source_arrows gone arrows) ≡ length (target_arrows (turned gone) (map turned arrows))
-unfolding turned
-length-turned gone [] = refl
-length-turned gone (a ∷ arrows) = by (is_source gone a) (length-turned gone arrows)
+-- as many codes other than c as keys other than k
+length-others : (cells : List Cell) (c k : ℕ) (ks : List ℕ) → ((j : ℕ) → among j ks ≡ true → eqb (code_at cells j) c ≡ eqb j k) → length (others c (map (code_at cells) ks)) ≡ length (others k ks)
+length-others cells c k [] h = refl
+length-others cells c k (j ∷ ks) h = by (eqb j k) (h j (in_head j ks)) (length-others cells c k ks (λ i m. h i (in_tail i j ks m)))
   where
-    by : (b : Bool) → length (filter (is_source gone) arrows) ≡ length (filter (is_target (turned gone)) (map turned arrows))
-        → length (cond b (a ∷ filter (is_source gone) arrows) (filter (is_source gone) arrows)) ≡ length (cond b (turned a ∷ filter (is_target (turned gone)) (map turned arrows)) (filter (is_target (turned gone)) (map turned arrows)))
-    by true h = ap suc h
-    by false h = h
+    by : (b : Bool) → eqb (code_at cells j) c ≡ b → length (others c (map (code_at cells) ks)) ≡ length (others k ks)
+        → length (cond (not (eqb (code_at cells j) c)) (code_at cells j ∷ others c (map (code_at cells) ks)) (others c (map (code_at cells) ks))) ≡ length (cond (not b) (j ∷ others k ks) (others k ks))
+    by true e r = ap (λ b. length (cond (not b) (code_at cells j ∷ others c (map (code_at cells) ks)) (others c (map (code_at cells) ks)))) e ∙ r
+    by false e r = ap (λ b. length (cond (not b) (code_at cells j ∷ others c (map (code_at cells) ks)) (others c (map (code_at cells) ks)))) e ∙ ap suc r
 
-IsOnceBut-turned : (gone : Arrow) (arrows : List Arrow) → IsOnceBut gone arrows → IsOnceBut (turned gone) (map turned arrows)
-unfolding turned
-IsOnceBut-turned gone arrows once = pairs_map (λ a b. a ≡ b → a ≡ gone) (λ a b. a ≡ b → a ≡ turned gone) turned arrows (λ a b h e. ap turned (h (ap turned e))) once
+module _ (keys : List ℕ) (cells : List Cell) (links : Links) (s : IsStored keys cells links) where
+  -- a code is that of a live key where the key is that of the code
+  code-test : (c k : ℕ) → is_live keys c ≡ true → IsLiveKey keys cells k → eqb (code_at cells k) c ≡ eqb k (key_of keys c)
+  code-test c k l e = same_test _ _
+      (λ h. eq-eqb k (key_of keys c) (sym e ∙ ap (key_of keys) (eqb-true (code_at cells k) c h)))
+      (λ h. eq-eqb (code_at cells k) c (ap (code_at cells) (eqb-true k (key_of keys c) h) ∙ (s.keyed c l).1))
 
--- ---- what is left out
--- the list without the arrows that fail the test has those of the list that pass it
-pub has_arrow-filter : (p : Arrow → Bool) (arrows : List Arrow) (s t : ℕ) → has_arrow (filter p arrows) s t ≡ (p (record { x = s; y = t }) && has_arrow arrows s t)
-has_arrow-filter p [] s t = same 1 (λ b. false) (λ b. b && false) refl (p (record { x = s; y = t }))
-has_arrow-filter p (a ∷ arrows) s t = by (p a) (is_from_to s t a) refl refl (has_arrow-filter p arrows s t)
-  where
-    by : (b d : Bool) → p a ≡ b → is_from_to s t a ≡ d → has_arrow (filter p arrows) s t ≡ (p (record { x = s; y = t }) && has_arrow arrows s t)
-        → has_arrow (cond b (a ∷ filter p arrows) (filter p arrows)) s t ≡ (p (record { x = s; y = t }) && (d || has_arrow arrows s t))
-    by true true e f h = ap (λ u. u || has_arrow (filter p arrows) s t) f ∙ sym (ap (λ u. u && true) (ap p (sym (is_from_to-is s t a f)) ∙ e))
-    by true false e f h = ap (λ u. u || has_arrow (filter p arrows) s t) f ∙ h
-    by false true e f h = h ∙ ap (λ u. u && has_arrow arrows s t) (ap p (sym (is_from_to-is s t a f)) ∙ e) ∙ sym (ap (λ u. u && true) (ap p (sym (is_from_to-is s t a f)) ∙ e))
-    by false false e f h = h
+  -- codes are equal where their keys are
+  key-test : (c d : ℕ) → is_live keys c ≡ true → is_live keys d ≡ true → eqb (key_of keys c) (key_of keys d) ≡ eqb c d
+  key-test c d l m = same_test _ _
+      (λ h. eq-eqb c d (same_key keys cells links s c d l m (eqb-true (key_of keys c) (key_of keys d) h)))
+      (λ h. eq-eqb (key_of keys c) (key_of keys d) (ap (key_of keys) (eqb-true c d h)))
 
--- the cells without those of two codes
-pub degree_of-filter : (x y : ℕ) (cells : List Cell) (k : ℕ) → degree_of (filter (λ c. not (is_one_of x y c.code)) cells) k ≡ cond (is_one_of x y k) None (degree_of cells k)
-degree_of-filter x y [] k = sym (by (is_one_of x y k))
+  pub fill-stored : (x y : ℕ) → is_live keys x ≡ true → is_live keys y ≡ true
+      → fill (slice_of keys cells links) x y ≡ length (others (key_of keys x) (sources links (key_of keys y))) * length (others (key_of keys y) (targets links (key_of keys x)))
+  fill-stored x y l m =
+      let p = key_of keys x in
+      let q = key_of keys y in
+      ap₂ (λ a b. a * b)
+      (count-codes (other_sources (slice_of keys cells links) x y) (others x (map (code_at cells) (sources links q))) (AreDistinct-filter (λ j. not (eqb j x)) _ (distinct-source_codes keys cells links s q))
+      (λ c. holds-other_sources (slice_of keys cells links) x y c ∙ ap (λ b. b && not (eqb c x)) (sym (among-source_codes keys cells links s y m c)) ∙ sym (among-others c x (map (code_at cells) (sources links q))))
+      ∙ length-others cells x p (sources links q) (λ j i. code-test x j l (s.ends j q (sym (has_arrow-sources links s.listed j q) ∙ i)).0))
+      (count-codes (other_targets (slice_of keys cells links) x y) (others y (map (code_at cells) (targets links p))) (AreDistinct-filter (λ j. not (eqb j y)) _ (distinct-target_codes keys cells links s p))
+      (λ c. holds-other_targets (slice_of keys cells links) x y c ∙ ap (λ b. b && not (eqb c y)) (sym (among-target_codes keys cells links s x l c)) ∙ sym (among-others c y (map (code_at cells) (targets links p))))
+      ∙ length-others cells y q (targets links p) (λ j i. code-test y j m (s.ends p j (sym (has_arrow-targets links s.listed p j) ∙ i)).1))
+
+  -- with no source, or no target, there is nothing to toggle
+  no_fill-from : (x y : ℕ) → key_of keys x ≡ no_key → fill (slice_of keys cells links) x y ≡ 0
+  no_fill-from x y e = ap (λ n. length (codes (other_sources (slice_of keys cells links) x y)) * n)
+      (count-codes (other_targets (slice_of keys cells links) x y) [] tt (λ c. holds-other_targets (slice_of keys cells links) x y c ∙ ap (λ b. b && not (eqb c y)) (no_arrow-from keys cells links s x c e)))
+      ∙ omega arith
+
+  no_fill-to : (x y : ℕ) → key_of keys y ≡ no_key → fill (slice_of keys cells links) x y ≡ 0
+  no_fill-to x y e = ap (λ n. n * length (codes (other_targets (slice_of keys cells links) x y)))
+      (count-codes (other_sources (slice_of keys cells links) x y) [] tt (λ c. holds-other_sources (slice_of keys cells links) x y c ∙ ap (λ b. b && not (eqb c x)) (no_arrow-to keys cells links s c y e)))
+      ∙ omega arith
+
+  pub room-from : (x y n : ℕ) → key_of keys x ≡ no_key → fill (slice_of keys cells links) x y ≤ n
+  room-from x y n e = let z = no_fill-from x y e in omega arith
+
+  pub room-to : (x y n : ℕ) → key_of keys y ≡ no_key → fill (slice_of keys cells links) x y ≤ n
+  room-to x y n e = let z = no_fill-to x y e in omega arith
+
+others-shorter : (k : ℕ) (ks : List ℕ) → length (others k ks) ≤ length ks
+others-shorter k [] = omega arith
+others-shorter k (j ∷ ks) = by (not (eqb j k)) (others-shorter k ks)
   where
-    by : (b : Bool) → cond {A = Option ℤ} b None None ≡ None
-    by true = refl
-    by false = refl
-degree_of-filter x y (c ∷ cells) k = by (is_one_of x y c.code) (eqb k c.code) refl refl (degree_of-filter x y cells k)
+    by : (b : Bool) → length (others k ks) ≤ length ks → length (cond b (j ∷ others k ks) (others k ks)) ≤ suc (length ks)
+    by true l = omega arith
+    by false l = omega arith
+
+products : (a b c d n : ℕ) → a ≤ c → b ≤ d → n ≡ c * d → a * b ≤ n
+products a b c d n l m e = grind (arith, e, l, m)
+
+-- the product of all sources and all targets is enough
+pub room-enough : (keys : List ℕ) (cells : List Cell) (links : Links) (s : IsStored keys cells links) (x y n : ℕ) → is_live keys x ≡ true → is_live keys y ≡ true
+    → n ≡ length (sources links (key_of keys y)) * length (targets links (key_of keys x)) → fill (slice_of keys cells links) x y ≤ n
+room-enough keys cells links s x y n l m e =
+    let f = fill-stored keys cells links s x y l m in
+    let g = products (length (others (key_of keys x) (sources links (key_of keys y)))) (length (others (key_of keys y) (targets links (key_of keys x)))) _ _ n (others-shorter (key_of keys x) (sources links (key_of keys y))) (others-shorter (key_of keys y) (targets links (key_of keys x))) e in
+    omega arith
+
+-- ---- the keys of two codes are taken away
+pub key_of-set : (keys : List ℕ) (c k d : ℕ) → c < length keys → key_of (set keys c k) d ≡ cond (eqb d c) k (key_of keys d)
+unfolding key_of
+key_of-set keys c k d l = by (eqb d c) refl
   where
-    by : (b d : Bool) → is_one_of x y c.code ≡ b → eqb k c.code ≡ d → degree_of (filter (λ c. not (is_one_of x y c.code)) cells) k ≡ cond (is_one_of x y k) None (degree_of cells k)
-        → degree_of (cond (not b) (c ∷ filter (λ c. not (is_one_of x y c.code)) cells) (filter (λ c. not (is_one_of x y c.code)) cells)) k ≡ cond (is_one_of x y k) None (cond d (Some c.maslov) (degree_of cells k))
-    by true true e f h = h ∙ ap (λ u. cond u None (degree_of cells k)) here ∙ sym (ap (λ u. cond u None (Some c.maslov)) here)
+    by : (b : Bool) → eqb d c ≡ b → get_or (set keys c k) d no_key ≡ cond b k (get_or keys d no_key)
+    by true e = ap (λ i. get_or (set keys c k) i no_key) (eqb-true d c e) ∙ get_or-set_same keys c k no_key l
+    by false e = get_or-set_other keys c d k no_key (λ q. true≢false (sym (eq-eqb d c q) ∙ e))
+
+-- a live code is below the number of keys
+pub live-below : (keys : List ℕ) (c : ℕ) → is_live keys c ≡ true → c < length keys
+live-below keys c l = by (lt_or_ge c (length keys))
+  where
+    lt_or_ge : (a b : ℕ) → (a < b) ⊎ (b ≤ a)
+    lt_or_ge a b = le_or (ltb a b) refl
       where
-        here : is_one_of x y k ≡ true
-        here = ap (is_one_of x y) (eqb-true k c.code f) ∙ e
-    by true false e f h = h
-    by false true e f h = ap (λ u. cond u (Some c.maslov) (degree_of (filter (λ c. not (is_one_of x y c.code)) cells) k)) f ∙ sym (ap (λ u. cond u None (Some c.maslov)) (ap (is_one_of x y) (eqb-true k c.code f) ∙ e))
-    by false false e f h = ap (λ u. cond u (Some c.maslov) (degree_of (filter (λ c. not (is_one_of x y c.code)) cells) k)) f ∙ h
+        le_or : (t : Bool) → ltb a b ≡ t → (a < b) ⊎ (b ≤ a)
+        le_or true e = inl (grind (arith, e))
+        le_or false e = inr (grind (arith, e))
+
+    by : (c < length keys) ⊎ (length keys ≤ c) → c < length keys
+    by (inl h) = h
+    by (inr h) = absurd (true≢false (sym l ∙ ap (λ k. not (eqb k no_key)) (past keys c h)))
+
+-- the arrows after one key and then another are cut off
+pub record IsCut (p q : ℕ) (old new : Links) : Type 0 where
+  pub listed : AreListed new
+  pub width : width new ≡ width old
+  pub arrows : (s t : ℕ) → has_arrow new s t ≡ ((has_arrow old s t ⊻ ((has_arrow old s q && not (eqb s p)) && (has_arrow old p t && not (eqb t q)))) && (not (eqb s p || eqb s q) && not (eqb t p || eqb t q)))
+
+pub IsCut-cleared : (p q : ℕ) (l0 l1 l2 l3 l4 l5 : Links) → IsFilled p q l0 l1 → IsCleared (λ s _. eqb s p) l1 l2 → IsCleared (λ _ t. eqb t p) l2 l3 → IsCleared (λ s _. eqb s q) l3 l4 → IsCleared (λ _ t. eqb t q) l4 l5
+    → IsCut p q l0 l5
+IsCut-cleared p q l0 l1 l2 l3 l4 l5 f a b c d = record {
+  listed = d.listed;
+  width = d.width ∙ c.width ∙ b.width ∙ a.width ∙ f.width;
+  arrows = λ s t.
+      d.arrows s t ∙ ap (λ h. h && not (eqb t q)) (c.arrows s t ∙ ap (λ h. h && not (eqb s q)) (b.arrows s t ∙ ap (λ h. h && not (eqb t p)) (a.arrows s t ∙ ap (λ h. h && not (eqb s p)) (f.arrows s t))))
+      ∙ same 5 (λ h sp sq tp tq. (((h && not sp) && not tp) && not sq) && not tq) (λ h sp sq tp tq. h && (not (sp || sq) && not (tp || tq))) refl
+      (has_arrow l0 s t ⊻ ((has_arrow l0 s q && not (eqb s p)) && (has_arrow l0 p t && not (eqb t q)))) (eqb s p) (eqb s q) (eqb t p) (eqb t q);
+}
+
+xor_cases : (a b c : Bool) → (a ⊻ (b && c)) ≡ true → (a ≡ true) ⊎ ((b ≡ true) × (c ≡ true))
+xor_cases true b c h = inl refl
+xor_cases false true true h = inr (refl, refl)
+xor_cases false true false h = absurd (false≢true h)
+xor_cases false false c h = absurd (false≢true h)
+
+or_none : (a b : Bool) → not (a || b) ≡ true → (a ≡ false) × (b ≡ false)
+or_none true b h = absurd (false≢true h)
+or_none false true h = absurd (false≢true h)
+or_none false false h = (refl, refl)
+
+not-true : (b : Bool) → not b ≡ true → b ≡ false
+not-true true h = sym h
+not-true false h = refl
 
 -- ---- the cancelled slice
-module _ (cells : List Cell) (arrows : List Arrow) (kept : IsKept cells arrows) where
-  -- no arrow goes round
-  pub no_round : (s : ℕ) → has_arrow arrows s s ≡ false
-  no_round s = sym (arrow-kept cells arrows kept s s) ∙ no_loop (slice_complex (slice_of cells arrows)) kept.rules s
+-- the keys without those of two codes
+abbrev pub keys_without : List ℕ → ℕ → ℕ → List ℕ
+keys_without keys x y = set (set keys x no_key) y no_key
 
-  -- each arrow stands once
-  pub once_but : (gone : Arrow) → IsOnceBut gone arrows
-  once_but gone i j d l m e = absurd (kept.once i j d l m e)
+module _ (keys : List ℕ) (cells : List Cell) (links : Links) (s : IsStored keys cells links) (x y : ℕ) (l : is_live keys x ≡ true) (m : is_live keys y ≡ true)
+    (new : Links) (cut : IsCut (key_of keys x) (key_of keys y) links new) where
+  key-without : (c : ℕ) → key_of (keys_without keys x y) c ≡ cond (eqb c y) no_key (cond (eqb c x) no_key (key_of keys c))
+  key-without c =
+      key_of-set (set keys x no_key) y no_key c (subst (λ n. y < n) (sym (length-set keys x no_key)) (live-below keys y m))
+      ∙ ap (λ k. cond (eqb c y) no_key k) (key_of-set keys x no_key c (live-below keys x l))
 
-  -- the number of toggled arrows is that of pairs of sources and targets
-  pub fill-slice_of : (x y : ℕ) → fill (slice_of cells arrows) x y ≡ length (source_arrows (record { x = x; y = y }) arrows) * length (target_arrows (record { x = x; y = y }) arrows)
-  unfolding turned
-  fill-slice_of x y =
-      let gone : Arrow = record { x = x; y = y } in
-      let s = slice_of cells arrows in
-      ap₂ (λ m n. m * n)
-      (sym (length-turned gone arrows
-      ∙ length-target_arrows (turned gone) (map turned arrows) (IsOnceBut-turned gone arrows (once_but gone)) (other_sources s x y) (λ p.
-      holds-other_sources s x y p ∙ ap (λ b. b && not (eqb p x)) (arrow-kept cells arrows kept p y ∙ sym (has_arrow-turned arrows y p)))))
-      (sym (length-target_arrows gone arrows (once_but gone) (other_targets s x y) (λ t.
-      holds-other_targets s x y t ∙ ap (λ b. b && not (eqb t y)) (arrow-kept cells arrows kept x t))))
-
-  module _ (x y : ℕ) (is : arrow (slice_complex (slice_of cells arrows)) x y ≡ true) where
-    fits : IsEntry (slice_complex (slice_of cells arrows)) (record { x = x; y = y; sources = other_sources (slice_of cells arrows) x y; targets = other_targets (slice_of cells arrows) x y })
-    fits = IsEntry-entry_of_arrow (slice_of cells arrows) x y is
-
-    -- what is left keeps the two rules
-    pub cancelled_rules : IsComplex (cancelled (slice_complex (slice_of cells arrows)) x y)
-    cancelled_rules = cancelled_IsComplex (slice_complex (slice_of cells arrows)) kept.rules _ fits
-
-    pub ends_apart : x ≢ y
-    ends_apart q = true≢false (sym is ∙ ap (arrow (slice_complex (slice_of cells arrows)) x) (sym q) ∙ no_loop (slice_complex (slice_of cells arrows)) kept.rules x)
-
-    module _ (filled : List Arrow) (toggled : IsFilled (record { x = x; y = y }) arrows filled) where
-      table : (sx sy tx ty h a b f : Bool) → (sx ≡ false → f ≡ cond ((a && not sx) && (b && not ty)) (not h) h)
-          → ((not (sx || sy) && not (tx || ty)) && f) ≡ (not (sx || sy) && ((h ⊻ (a && b)) && not (tx || ty)))
-      table true sy tx ty h a b f g = refl
-      table false sy tx ty h a b f g =
-          ap (λ u. (not sy && not (tx || ty)) && u) (g refl)
-          ∙ same 6 (λ sy tx ty h a b. (not sy && not (tx || ty)) && cond ((a && true) && (b && not ty)) (not h) h) (λ sy tx ty h a b. not sy && ((h ⊻ (a && b)) && not (tx || ty))) refl sy tx ty h a b
-
-      -- the arrows that are left are those of the cancelled slice
-      has_arrow-left : (s t : ℕ) → has_arrow (filter (touches_neither x y) filled) s t ≡ arrow (cancelled (slice_complex (slice_of cells arrows)) x y) s t
-      has_arrow-left s t =
-          has_arrow-filter (touches_neither x y) filled s t
-          ∙ table (eqb s x) (eqb s y) (eqb t x) (eqb t y) (has_arrow arrows s t) (has_arrow arrows s y) (has_arrow arrows x t) (has_arrow filled s t) (λ p. toggled.arrows s t (away p))
-          ∙ sym (arrow-cancelled (slice_complex (slice_of cells arrows)) kept.rules _ fits s t
-          ∙ (λ i. not (is_one_of x y s) && ((arrow-kept cells arrows kept s t i ⊻ (arrow-kept cells arrows kept s y i && arrow-kept cells arrows kept x t i)) && not (is_one_of x y t))))
+  live-without : (c : ℕ) → is_live (keys_without keys x y) c ≡ (is_live keys c && not (is_one_of x y c))
+  live-without c = ap (λ k. not (eqb k no_key)) (key-without c) ∙ by (eqb c x) (eqb c y) (is_live keys c) refl
+    where
+      by : (a b d : Bool) → is_live keys c ≡ d → not (eqb (cond b no_key (cond a no_key (key_of keys c))) no_key) ≡ (is_live keys c && not (a || b))
+      by true true d e = sym (ap (λ h. h && false) e ∙ none d)
         where
-          away : eqb s x ≡ false → is_from_to s t (record { x = x; y = y }) ≡ false
-          away p = ap (λ b. b && eqb y t) (flip x s ∙ p)
-            where
-              flip : (a b : ℕ) → eqb a b ≡ eqb b a
-              flip a b = grind arith
+          none : (d : Bool) → (d && false) ≡ false
+          none true = refl
+          none false = refl
+      by true false d e = sym (ap (λ h. h && false) e ∙ none d)
+        where
+          none : (d : Bool) → (d && false) ≡ false
+          none true = refl
+          none false = refl
+      by false true d e = sym (ap (λ h. h && false) e ∙ none d)
+        where
+          none : (d : Bool) → (d && false) ≡ false
+          none true = refl
+          none false = refl
+      by false false d e = e ∙ sym (ap (λ h. h && true) e ∙ all d)
+        where
+          all : (d : Bool) → (d && true) ≡ d
+          all true = refl
+          all false = refl
 
-      degree-left : (k : ℕ) → degree_of (filter (λ c. not (is_one_of x y c.code)) cells) k ≡ (cancelled (slice_complex (slice_of cells arrows)) x y).degree k
-      degree-left k = degree_of-filter x y cells k ∙ ap (λ d. cond (is_one_of x y k) None d) (sym (degree-slice_of cells arrows k))
+  key-stays : (c : ℕ) → is_one_of x y c ≡ false → key_of (keys_without keys x y) c ≡ key_of keys c
+  key-stays c e = key-without c ∙ by (eqb c x) (eqb c y) e
+    where
+      by : (a b : Bool) → (a || b) ≡ false → cond b no_key (cond a no_key (key_of keys c)) ≡ key_of keys c
+      by true b e = absurd (true≢false e)
+      by false true e = absurd (true≢false e)
+      by false false e = refl
 
-      ends-left : (s t : ℕ) → has_arrow (filter (touches_neither x y) filled) s t ≡ true → is_some (degree_of (filter (λ c. not (is_one_of x y c.code)) cells) s) ≡ true
-      ends-left s t h = let above = cancelled_rules.lowers s t (sym (has_arrow-left s t) ∙ h) in ap is_some (degree-left s ∙ above.1)
+  -- the arrows that are left have ends that stay
+  cut-parts : (a b : ℕ) → has_arrow new a b ≡ true
+      → ((has_arrow links a b ≡ true) ⊎ ((has_arrow links a (key_of keys y) ≡ true) × (has_arrow links (key_of keys x) b ≡ true)))
+      × ((eqb a (key_of keys x) ≡ false) × (eqb a (key_of keys y) ≡ false)) × ((eqb b (key_of keys x) ≡ false) × (eqb b (key_of keys y) ≡ false))
+  cut-parts a b h =
+      let p = key_of keys x in
+      let q = key_of keys y in
+      let w = and_parts (has_arrow links a b ⊻ ((has_arrow links a (key_of keys y) && not (eqb a (key_of keys x))) && (has_arrow links (key_of keys x) b && not (eqb b (key_of keys y)))))
+      (not (eqb a (key_of keys x) || eqb a (key_of keys y)) && not (eqb b (key_of keys x) || eqb b (key_of keys y))) (sym (cut.arrows a b) ∙ h) in
+      let u = and_parts (not (eqb a (key_of keys x) || eqb a (key_of keys y))) (not (eqb b (key_of keys x) || eqb b (key_of keys y))) w.1 in (
+        either (xor_cases (has_arrow links a b) (has_arrow links a (key_of keys y) && not (eqb a (key_of keys x))) (has_arrow links (key_of keys x) b && not (eqb b (key_of keys y))) w.0),
+        or_none (eqb a (key_of keys x)) (eqb a (key_of keys y)) u.0,
+        or_none (eqb b (key_of keys x)) (eqb b (key_of keys y)) u.1,
+      )
+    where
+      either : (has_arrow links a b ≡ true) ⊎ (((has_arrow links a (key_of keys y) && not (eqb a (key_of keys x))) ≡ true) × ((has_arrow links (key_of keys x) b && not (eqb b (key_of keys y))) ≡ true))
+          → (has_arrow links a b ≡ true) ⊎ ((has_arrow links a (key_of keys y) ≡ true) × (has_arrow links (key_of keys x) b ≡ true))
+      either (inl h) = inl h
+      either (inr r) = inr ((and_parts (has_arrow links a (key_of keys y)) (not (eqb a (key_of keys x))) r.0).0, (and_parts (has_arrow links (key_of keys x) b) (not (eqb b (key_of keys y))) r.1).0)
 
-      -- what is left is the cancelled slice
-      pub left_is_cancelled : slice_complex (slice_of (filter (λ c. not (is_one_of x y c.code)) cells) (filter (touches_neither x y) filled)) ≡ cancelled (slice_complex (slice_of cells arrows)) x y
-      left_is_cancelled =
-          same_complex _ _ refl (λ k. degree-slice_of (filter (λ c. not (is_one_of x y c.code)) cells) (filter (touches_neither x y) filled) k ∙ degree-left k)
-          (λ s t. arrow-slice_of (filter (λ c. not (is_one_of x y c.code)) cells) (filter (touches_neither x y) filled) ends-left s t ∙ has_arrow-left s t)
+  -- a live key that is none of the two is still live
+  still-live : (k : ℕ) → IsLiveKey keys cells k → (eqb k (key_of keys x) ≡ false) × (eqb k (key_of keys y) ≡ false) → IsLiveKey (keys_without keys x y) cells k
+  still-live k e n =
+      key-stays (code_at cells k) (ap₂ (λ a b. a || b) (code-test keys cells links s x k l e ∙ n.0) (code-test keys cells links s y k m e ∙ n.1)) ∙ e
 
-      -- and is kept as a slice is
-      pub left_IsKept : IsKept (filter (λ c. not (is_one_of x y c.code)) cells) (filter (touches_neither x y) filled)
-      left_IsKept = record {
-        ends = λ s t h. ap is_some (degree-slice_of (filter (λ c. not (is_one_of x y c.code)) cells) (filter (touches_neither x y) filled) s) ∙ ends-left s t h;
-        once = λ i j d l m q.
-            let same_gone = pairs_filter (λ a b. a ≡ b → a ≡ record { x = x; y = y }) (touches_neither x y) filled toggled.once i j d l m q in
-            let i_in : i < length (filter (touches_neither x y) filled) = omega arith in
-            let passes = (member_of_filter (touches_neither x y) filled (get_or (filter (touches_neither x y) filled) i d) (Contains-get_or (filter (touches_neither x y) filled) i d i_in)).1 in
-            true≢false (sym passes ∙ ap (touches_neither x y) same_gone ∙ ap (λ b. not (b || eqb x y) && not (is_one_of x y y)) (eq-eqb x x refl));
-        rules = subst IsComplex (sym left_is_cancelled) cancelled_rules;
-      }
+  pub stored-left : IsStored (keys_without keys x y) cells new
+  stored-left = record {
+    listed = cut.listed;
+    small = subst (λ w. w ≤ no_key) (sym cut.width) s.small;
+    whole = s.whole ∙ sym cut.width;
+    keyed = λ c h.
+        let p = and_parts (is_live keys c) (not (is_one_of x y c)) (sym (live-without c) ∙ h) in
+        let k = key-stays c (not-true (is_one_of x y c) p.1) in
+        let was = s.keyed c p.0 in
+        (subst (λ (t : ℕ × ℕ). t.0 < t.1) (λ i. (sym k i, sym cut.width i)) was.0, ap (code_at cells) k ∙ was.1);
+    ends = λ a b h.
+        let r = cut-parts a b h in
+        elim r.0 [
+          | inl old ↦ let e = s.ends a b old in (still-live a e.0 r.1, still-live b e.1 r.2)
+          | inr both ↦ (still-live a (s.ends a (key_of keys y) both.0).0 r.1, still-live b (s.ends (key_of keys x) b both.1).1 r.2)
+        ];
+  }
+
+  degree-left : (c : ℕ) → (slice_complex (slice_of (keys_without keys x y) cells new)).degree c ≡ (cancelled (slice_complex (slice_of keys cells links)) x y).degree c
+  degree-left c =
+      degree-slice_of (keys_without keys x y) cells new c
+      ∙ ap (λ b. cond b (Some (maslov_at cells (key_of (keys_without keys x y) c))) None) (live-without c)
+      ∙ by (is_one_of x y c) refl (is_live keys c) refl
+      ∙ ap (λ d. cond (is_one_of x y c) None d) (sym (degree-slice_of keys cells links c))
+    where
+      by : (a : Bool) → is_one_of x y c ≡ a → (b : Bool) → is_live keys c ≡ b
+          → cond (is_live keys c && not (is_one_of x y c)) (Some (maslov_at cells (key_of (keys_without keys x y) c))) None ≡ cond (is_one_of x y c) None (cond (is_live keys c) (Some (maslov_at cells (key_of keys c))) None)
+      by true e true f = ap₂ (λ u v. cond (u && not v) (Some (maslov_at cells (key_of (keys_without keys x y) c))) None) f e ∙ sym (ap (λ v. cond v None (cond (is_live keys c) (Some (maslov_at cells (key_of keys c))) None)) e)
+      by true e false f = ap₂ (λ u v. cond (u && not v) (Some (maslov_at cells (key_of (keys_without keys x y) c))) None) f e ∙ sym (ap (λ v. cond v None (cond (is_live keys c) (Some (maslov_at cells (key_of keys c))) None)) e)
+      by false e true f =
+          ap₂ (λ u v. cond (u && not v) (Some (maslov_at cells (key_of (keys_without keys x y) c))) None) f e ∙ ap (λ k. Some (maslov_at cells k)) (key-stays c e)
+          ∙ sym (ap₂ (λ u v. cond v None (cond u (Some (maslov_at cells (key_of keys c))) None)) f e)
+      by false e false f =
+          ap₂ (λ u v. cond (u && not v) (Some (maslov_at cells (key_of (keys_without keys x y) c))) None) f e
+          ∙ sym (ap₂ (λ u v. cond v None (cond u (Some (maslov_at cells (key_of keys c))) None)) f e)
+
+  abbrev old_arrow : ℕ → ℕ → Bool
+  old_arrow c d = arrow (slice_complex (slice_of keys cells links)) c d
+
+  -- of codes that were live
+  both-live : (c d : ℕ) → is_live keys c ≡ true → is_live keys d ≡ true
+      → has_arrow new (key_of keys c) (key_of keys d) ≡ (not (is_one_of x y c) && ((old_arrow c d ⊻ (old_arrow c y && old_arrow x d)) && not (is_one_of x y d)))
+  both-live c d u v =
+      cut.arrows (key_of keys c) (key_of keys d)
+      ∙ (λ i. (old c d u v i ⊻ ((old c y u m i && not (key-test keys cells links s c x u l i)) && (old x d l v i && not (key-test keys cells links s d y v m i))))
+      && (not (key-test keys cells links s c x u l i || key-test keys cells links s c y u m i) && not (key-test keys cells links s d x v l i || key-test keys cells links s d y v m i)))
+      ∙ same 7 (λ h a b cx cy dx dy. (h ⊻ ((a && not cx) && (b && not dy))) && (not (cx || cy) && not (dx || dy))) (λ h a b cx cy dx dy. not (cx || cy) && ((h ⊻ (a && b)) && not (dx || dy))) refl
+      (old_arrow c d) (old_arrow c y) (old_arrow x d) (eqb c x) (eqb c y) (eqb d x) (eqb d y)
+    where
+      old : (c d : ℕ) → is_live keys c ≡ true → is_live keys d ≡ true → has_arrow links (key_of keys c) (key_of keys d) ≡ arrow (slice_complex (slice_of keys cells links)) c d
+      old c d u v = sym (arrow-stored keys cells links s c d ∙ ap (λ b. b && has_arrow links (key_of keys c) (key_of keys d)) (and_from (is_live keys c) (is_live keys d) u v))
+
+  -- a code that was not live has no arrow before or after
+  not-live : (c d : ℕ) → (is_live keys c && is_live keys d) ≡ false → (old_arrow c d ⊻ (old_arrow c y && old_arrow x d)) ≡ false
+  not-live c d e =
+      (λ i. arrow-stored keys cells links s c d i ⊻ (arrow-stored keys cells links s c y i && arrow-stored keys cells links s x d i))
+      ∙ by (is_live keys c) (is_live keys d) (is_live keys x) (is_live keys y) (has_arrow links (key_of keys c) (key_of keys d)) (has_arrow links (key_of keys c) (key_of keys y)) (has_arrow links (key_of keys x) (key_of keys d)) e
+    where
+      by : (c d x y h a b : Bool) → (c && d) ≡ false → (((c && d) && h) ⊻ (((c && y) && a) && ((x && d) && b))) ≡ false
+      by true true x y h a b e = absurd (true≢false e)
+      by true false true y h a b e = none ((y && a))
+        where
+          none : (z : Bool) → (z && false) ≡ false
+          none true = refl
+          none false = refl
+      by true false false y h a b e = none ((y && a))
+        where
+          none : (z : Bool) → (z && false) ≡ false
+          none true = refl
+          none false = refl
+      by false d x y h a b e = refl
+
+  arrow-left : (c d : ℕ) → arrow (slice_complex (slice_of (keys_without keys x y) cells new)) c d ≡ (not (is_one_of x y c) && ((old_arrow c d ⊻ (old_arrow c y && old_arrow x d)) && not (is_one_of x y d)))
+  arrow-left c d = arrow-stored (keys_without keys x y) cells new stored-left c d
+      ∙ (λ i. (live-without c i && live-without d i) && has_arrow new (key_of (keys_without keys x y) c) (key_of (keys_without keys x y) d))
+      ∙ by (is_one_of x y c) refl (is_one_of x y d) refl (is_live keys c) refl (is_live keys d) refl
+    where
+      none : (z : Bool) → (z && false) ≡ false
+      none true = refl
+      none false = refl
+
+      none_left : (z h : Bool) → ((z && false) && h) ≡ false
+      none_left true h = refl
+      none_left false h = refl
+
+      by : (a : Bool) → is_one_of x y c ≡ a → (b : Bool) → is_one_of x y d ≡ b → (u : Bool) → is_live keys c ≡ u → (v : Bool) → is_live keys d ≡ v
+          → (((is_live keys c && not (is_one_of x y c)) && (is_live keys d && not (is_one_of x y d))) && has_arrow new (key_of (keys_without keys x y) c) (key_of (keys_without keys x y) d))
+          ≡ (not (is_one_of x y c) && ((old_arrow c d ⊻ (old_arrow c y && old_arrow x d)) && not (is_one_of x y d)))
+      by true e b f u g v h =
+          ap (λ a. ((is_live keys c && not a) && (is_live keys d && not (is_one_of x y d))) && has_arrow new (key_of (keys_without keys x y) c) (key_of (keys_without keys x y) d)) e
+          ∙ ap (λ z. (z && (is_live keys d && not (is_one_of x y d))) && has_arrow new (key_of (keys_without keys x y) c) (key_of (keys_without keys x y) d)) (none (is_live keys c))
+          ∙ sym (ap (λ a. not a && ((old_arrow c d ⊻ (old_arrow c y && old_arrow x d)) && not (is_one_of x y d))) e)
+      by false e true f u g v h =
+          ap (λ b. ((is_live keys c && not (is_one_of x y c)) && (is_live keys d && not b)) && has_arrow new (key_of (keys_without keys x y) c) (key_of (keys_without keys x y) d)) f
+          ∙ ap (λ z. ((is_live keys c && not (is_one_of x y c)) && z) && has_arrow new (key_of (keys_without keys x y) c) (key_of (keys_without keys x y) d)) (none (is_live keys d))
+          ∙ none_left (is_live keys c && not (is_one_of x y c)) (has_arrow new (key_of (keys_without keys x y) c) (key_of (keys_without keys x y) d))
+          ∙ sym (ap₂ (λ a b. not a && ((old_arrow c d ⊻ (old_arrow c y && old_arrow x d)) && not b)) e f ∙ none (old_arrow c d ⊻ (old_arrow c y && old_arrow x d)))
+      by false e false f true g true h =
+          (λ i. ((g i && not (e i)) && (h i && not (f i))) && has_arrow new (key-stays c e i) (key-stays d f i))
+          ∙ both-live c d g h
+      by false e false f true g false h =
+          (λ i. ((g i && not (e i)) && (h i && not (f i))) && has_arrow new (key-stays c e i) (key-stays d f i))
+          ∙ sym (ap₂ (λ a b. not a && ((old_arrow c d ⊻ (old_arrow c y && old_arrow x d)) && not b)) e f ∙ ap (λ z. z && true) (not-live c d (ap₂ (λ u v. u && v) g h)))
+      by false e false f false g v h =
+          (λ i. ((g i && not (e i)) && (is_live keys d && not (f i))) && has_arrow new (key-stays c e i) (key-stays d f i))
+          ∙ sym (ap₂ (λ a b. not a && ((old_arrow c d ⊻ (old_arrow c y && old_arrow x d)) && not b)) e f ∙ ap (λ z. z && true) (not-live c d (ap (λ u. u && is_live keys d) g)))
+
+  module _ (rules : IsComplex (slice_complex (slice_of keys cells links))) (is : arrow (slice_complex (slice_of keys cells links)) x y ≡ true) where
+    pub rules-left : IsComplex (cancelled (slice_complex (slice_of keys cells links)) x y)
+    rules-left = cancelled_IsComplex (slice_complex (slice_of keys cells links)) rules _ (IsEntry-of_arrow (slice_of keys cells links) x y is)
+
+    -- what is left is the cancelled slice
+    pub left-is : slice_complex (slice_of (keys_without keys x y) cells new) ≡ cancelled (slice_complex (slice_of keys cells links)) x y
+    left-is =
+        same_complex _ _ refl degree-left
+        (λ c d. arrow-left c d ∙ sym (arrow-cancelled (slice_complex (slice_of keys cells links)) rules _ (IsEntry-of_arrow (slice_of keys cells links) x y is) c d))
+
+  -- the cursor has only to move on
+  pub first-left : (cursor next : ℕ) → IsFirst links cursor → next ≤ width new → ((k : ℕ) → cursor ≤ k → k < next → (head_at new.heads.items k).first_out ≡ no_id)
+      → (next < width new → eqb (head_at new.heads.items next).first_out no_id ≡ false) → IsFirst new next
+  first-left cursor next f within none some = record {
+    within = within;
+    none_before = λ a b h. by a b h (ltb a cursor) refl;
+    some_here = some;
+  }
+    where
+      below : (a c : ℕ) → ltb a c ≡ true → a < c
+      below a c e = grind (arith, e)
+
+      above : (a c : ℕ) → ltb a c ≡ false → c ≤ a
+      above a c e = grind (arith, e)
+
+      nothing : (a b z : Bool) → ((false ⊻ ((false && a) && b)) && z) ≡ false
+      nothing a b z = refl
+
+      by : (a b : ℕ) → a < next → (t : Bool) → ltb a cursor ≡ t → has_arrow new a b ≡ false
+      by a b h true e =
+          let z = f.none_before a in
+          cut.arrows a b
+          ∙ ap₂ (λ u v. (u ⊻ ((v && not (eqb a (key_of keys x))) && (has_arrow links (key_of keys x) b && not (eqb b (key_of keys y))))) && (not (eqb a (key_of keys x) || eqb a (key_of keys y)) && not (eqb b (key_of keys x) || eqb b (key_of keys y))))
+          (z b (below a cursor e)) (z (key_of keys y) (below a cursor e))
+      by a b h false e = no_out new cut.listed a (head_at new.heads.items a) refl (none a (above a cursor e) h) b
+
+-- ---- for the code
+pub record CanCancel (keys : List ℕ) (links : Links) (x y p q fills : ℕ) : Type 0 where
+  pub x_live : is_live keys x ≡ true
+  pub y_live : is_live keys y ≡ true
+  pub p_in : p < width links
+  pub q_in : q < width links
+  pub x_in : x < length keys
+  pub y_in : y < length keys
+  pub room : length (others p (sources links q)) * length (others q (targets links p)) ≡ fills
+
+pub can_cancel : (keys : List ℕ) (cells : List Cell) (links : Links) (s : IsStored keys cells links) (x y p q : ℕ) → arrow (slice_complex (slice_of keys cells links)) x y ≡ true → p ≡ key_of keys x → q ≡ key_of keys y
+    → CanCancel keys links x y p q (fill (slice_of keys cells links) x y)
+can_cancel keys cells links s x y p q is e f =
+    let l = ends-live keys cells links s x y is in
+    record {
+      x_live = l.0;
+      y_live = l.1;
+      p_in = subst (λ k. k < width links) (sym e) (s.keyed x l.0).0;
+      q_in = subst (λ k. k < width links) (sym f) (s.keyed y l.1).0;
+      x_in = live-below keys x l.0;
+      y_in = live-below keys y l.1;
+      room = (λ i. length (others (e i) (sources links (f i))) * length (others (f i) (targets links (e i)))) ∙ sym (fill-stored keys cells links s x y l.0 l.1);
+    }
+
+pub kept_after : (keys : List ℕ) (cells : List Cell) (links new : Links) (cursor next : ℕ) (k : IsKept keys cells links cursor) (x y : ℕ) (is : arrow (slice_complex (slice_of keys cells links)) x y ≡ true)
+    → IsCut (key_of keys x) (key_of keys y) links new
+    → next ≤ width new → ((j : ℕ) → cursor ≤ j → j < next → (head_at new.heads.items j).first_out ≡ no_id) → (next < width new → eqb (head_at new.heads.items next).first_out no_id ≡ false)
+    → IsKept (keys_without keys x y) cells new next
+kept_after keys cells links new cursor next k x y is cut within none some =
+    let l = ends-live keys cells links k.stored x y is in
+    record {
+      stored = stored-left keys cells links k.stored x y l.0 l.1 new cut;
+      first = first-left keys cells links k.stored x y l.0 l.1 new cut cursor next k.first within none some;
+      rules = subst IsComplex (sym (left-is keys cells links k.stored x y l.0 l.1 new cut k.rules is)) (rules-left keys cells links k.stored x y l.0 l.1 new cut k.rules is);
+    }
+
+pub cancelled_after : (keys : List ℕ) (cells : List Cell) (links new : Links) (cursor : ℕ) (k : IsKept keys cells links cursor) (x y : ℕ) (is : arrow (slice_complex (slice_of keys cells links)) x y ≡ true)
+    → IsCut (key_of keys x) (key_of keys y) links new → slice_complex (slice_of (keys_without keys x y) cells new) ≡ cancelled (slice_complex (slice_of keys cells links)) x y
+cancelled_after keys cells links new cursor k x y is cut = let l = ends-live keys cells links k.stored x y is in left-is keys cells links k.stored x y l.0 l.1 new cut k.rules is
+
+pub rules_after : (keys : List ℕ) (cells : List Cell) (links : Links) (cursor : ℕ) (k : IsKept keys cells links cursor) (x y : ℕ) (is : arrow (slice_complex (slice_of keys cells links)) x y ≡ true) → IsComplex (cancelled (slice_complex (slice_of keys cells links)) x y)
+rules_after keys cells links cursor k x y is = cancelled_IsComplex (slice_complex (slice_of keys cells links)) k.rules _ (IsEntry-of_arrow (slice_of keys cells links) x y is)
+
+-- the cursor at the start
+pub first-begin : (links : Links) (t : AreListed links) (next : ℕ) → next ≤ width links → ((k : ℕ) → 0 ≤ k → k < next → (head_at links.heads.items k).first_out ≡ no_id)
+    → (next < width links → eqb (head_at links.heads.items next).first_out no_id ≡ false) → IsFirst links next
+first-begin links t next within none some = record {
+  within = within;
+  none_before = λ p q l. no_out links t p (head_at links.heads.items p) refl (none p (omega arith) l) q;
+  some_here = some;
+}

@@ -1,6 +1,11 @@
+pub mod ListLemmas
+pub mod LinkLemmas
+pub mod GraphLemmas
+pub mod WalkLemmas
+pub mod FillLemmas
 pub mod KeptLemmas
 pub mod QueryLemmas
-pub mod ToggleLemmas
 pub mod CancelLemmas
-pub mod BuildLemmas
 pub mod GridPartLemmas
+pub mod BuildLemmas
+pub mod LiveLemmas

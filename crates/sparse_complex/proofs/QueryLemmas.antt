@@ -1,153 +1,123 @@
--- What the queries of a slice find in its two lists.
-use Rattle.std.proofs.Common.{◌≡◌, ◌≢◌, ℕ, suc, ◌+◌, ◌<◌, ◌≤◌, Bool, true, false, cond, ◌&&◌, ◌||◌, eqb, List, [], ◌∷◌, ◌++◌, map, length, take, drop, get_or, add-one, append-nil, drop-cons, drop_of_length-le, Option, Some, None, Contains, AllPairs, IfSome, IsNone, slice_get, refl, sym, ap, ap₂, subst, ◌∙◌, arith, inl, inr}
-use Rattle.std.proofs.Math.IntN.{pos}
-use Rattle.std.specs.List.{filter}
-use Rattle.std.proofs.lemmas.Bool.{eq-eqb, eqb-true, and_from, and_parts, false≢true}
-use Rattle.std.proofs.lemmas.List.{take_more, map-append}
-use Rattle.std.proofs.lemmas.List.Elements.{filter-append}
-use Rattle.state_rank.proofs.MemberLemmas.{member_cases, member_head, member_tail, no_member, member_of_map, member_of_filter, Contains-map, Contains-filter, pairs_cons, pairs_head, pairs_tail, pairs_filter}
-use Rattle.sparse_complex.specs.declared.slices.Arrow.{Arrow}
+-- The lists that the queries answer.
+use Rattle.std.proofs.Common.{◌≡◌, ◌≢◌, ℕ, ◌≤◌, Bool, true, false, ◌+◌, ◌<◌, List, [], ◌∷◌, ◌++◌, map, length, length-append, get_or, Contains, AllPairs, refl, sym, ap, ap₂, subst, ◌∙◌, arith, inl, inr}
+use Rattle.std.proofs.lemmas.Bool.{true≢false, false≢true}
+use Rattle.std.specs.declared.result.Result.{Result}
+use Rattle.std.specs.declared.result.Result.TheVariants.{Ok, Err}
+use Rattle.std.specs.Result.{OnErr}
+use Rattle.std.proofs.lemmas.List.{get_or_append_left}
+use Rattle.std.proofs.lemmas.List.Elements.{Contains-get_or, Contains-append_left}
+use Rattle.f2_algebra.specs.Complex.{arrow}
+use Rattle.f2_algebra.specs.Slice.{slice_complex}
+use Rattle.state_rank.proofs.MemberLemmas.{member_cases, member_head, member_tail, no_member, pairs_cons}
+use Rattle.sparse_complex.specs.declared.links.Links.{Links}
 use Rattle.sparse_complex.specs.declared.slices.Cell.{Cell}
-use Rattle.sparse_complex.specs.Slices.{ListsOnce}
-use Rattle.sparse_complex.specs.Kept.{has_arrow}
-use Rattle.sparse_complex.proofs.KeptLemmas.{degree_of}
+use Rattle.sparse_complex.specs.Slices.{ListsOnce, ListsSome}
+use Rattle.sparse_complex.specs.Inner.Lists.{among, AreDistinct}
+use Rattle.sparse_complex.specs.Inner.Graph.{width, targets, sources, has_arrow, code_at, IsPrefix}
+use Rattle.sparse_complex.specs.Inner.Kept.{key_of, is_live, slice_of, IsStored, IsFirst}
+use Rattle.sparse_complex.proofs.ListLemmas.{same_test, in_head, in_tail, in_cases}
+use Rattle.sparse_complex.proofs.GraphLemmas.{among-map, among-of_map, AreDistinct-map, has_arrow-targets, has_arrow-sources, has_arrow-from, distinct-targets, distinct-sources}
+use Rattle.sparse_complex.proofs.KeptLemmas.{arrow-keys, ends-live}
 
--- ---- degrees
--- what the code reads past the end, which it never does
-abbrev pub no_cell : Cell
-no_cell = record { code = 0; maslov = pos 0 }
-
--- past a cell of another code
-pub degree_of-drop : (cells : List Cell) (i : ℕ) (cell : Cell) (code : ℕ) → i < length cells → cell ≡ get_or cells i cell → cell.code ≢ code
-    → degree_of (drop (i + 1) cells) code ≡ degree_of (drop i cells) code
-degree_of-drop cells i cell code l is p =
-    sym (ap (λ cs. degree_of cs code) (drop-cons cells i cell l)
-    ∙ ap (λ c. degree_of (c ∷ drop (suc i) cells) code) (sym is)
-    ∙ ap (λ b. cond b (Some cell.maslov) (degree_of (drop (suc i) cells) code)) (other code cell.code (λ e. p (sym e)))
-    ∙ ap (λ k. degree_of (drop k cells) code) (sym (add-one i)))
-  where
-    other : (a b : ℕ) → a ≢ b → eqb a b ≡ false
-    other a b q = grind arith
-
--- at the cell of the code
-pub degree_of-found : (cells : List Cell) (i : ℕ) (code : ℕ) → i < length cells → (get_or cells i no_cell).code ≡ code
-    → degree_of (drop i cells) code ≡ Some (get_or cells i no_cell).maslov
-degree_of-found cells i code l e =
-    ap (λ cs. degree_of cs code) (drop-cons cells i no_cell l)
-    ∙ ap (λ b. cond b (Some (get_or cells i no_cell).maslov) (degree_of (drop (suc i) cells) code)) (eq-eqb code (get_or cells i no_cell).code (sym e))
-
--- past the last cell
-pub degree_of-end : (cells : List Cell) (i : ℕ) (code : ℕ) → length cells ≤ i → degree_of (drop i cells) code ≡ None
-degree_of-end cells i code l = ap (λ cs. degree_of cs code) (drop_of_length-le cells l)
-
--- ---- arrows
--- the list has the arrow that stands in it
-pub has_arrow-member : (arrows : List Arrow) (a : Arrow) → Contains arrows a → has_arrow arrows a.x a.y ≡ true
-has_arrow-member [] a m = absurd (no_member a m)
-has_arrow-member (b ∷ arrows) a m = elim (member_cases b arrows a m) [
-  | inl e ↦ ap (λ t. t || has_arrow arrows a.x a.y) (and_from _ _ (eq-eqb b.x a.x (ap (λ c. c.x) e)) (eq-eqb b.y a.y (ap (λ c. c.y) e)))
-  | inr t ↦ ap (λ r. (eqb b.x a.x && eqb b.y a.y) || r) (has_arrow-member arrows a t) ∙ either (eqb b.x a.x && eqb b.y a.y)
+-- ---- membership in two spellings
+pub Contains-among : (xs : List ℕ) (c : ℕ) → among c xs ≡ true → Contains xs c
+Contains-among [] c h = absurd (false≢true h)
+Contains-among (x ∷ xs) c h = elim (in_cases c x xs h) [
+  | inl e ↦ subst (λ d. Contains (x ∷ xs) d) (sym e) (member_head x xs)
+  | inr t ↦ member_tail x xs c (Contains-among xs c t)
 ]
-  where
-    either : (b : Bool) → (b || true) ≡ true
-    either true = refl
-    either false = refl
 
--- and an arrow that it has stands in it
-pub member_of_arrows : (arrows : List Arrow) (s t : ℕ) → has_arrow arrows s t ≡ true → Contains arrows (record { x = s; y = t })
-member_of_arrows [] s t h = absurd (false≢true h)
-member_of_arrows (a ∷ arrows) s t h = by (eqb a.x s && eqb a.y t) refl h (member_of_arrows arrows s t)
-  where
-    by : (b : Bool) → (eqb a.x s && eqb a.y t) ≡ b → (b || has_arrow arrows s t) ≡ true → (has_arrow arrows s t ≡ true → Contains arrows (record { x = s; y = t })) → Contains (a ∷ arrows) (record { x = s; y = t })
-    by true e h rest =
-        let p = and_parts (eqb a.x s) (eqb a.y t) e in
-        let is : a ≡ record { x = s; y = t } = λ i. record { x = eqb-true a.x s p.0 i; y = eqb-true a.y t p.1 i } in
-        subst (λ b. Contains (a ∷ arrows) b) is (member_head a arrows)
-    by false e h rest = member_tail a arrows (record { x = s; y = t }) (rest h)
+pub among-Contains : (xs : List ℕ) (c : ℕ) → Contains xs c → among c xs ≡ true
+among-Contains [] c m = absurd (no_member c m)
+among-Contains (x ∷ xs) c m = elim (member_cases x xs c m) [
+  | inl e ↦ ap (λ d. among d (x ∷ xs)) (sym e) ∙ in_head x xs
+  | inr t ↦ in_tail c x xs (among-Contains xs c t)
+]
 
--- ---- one more element
--- the images of those that pass, one more read at i, which passes
-pub filtered-more : {A : Type 0} (f : A → ℕ) (p : A → Bool) (xs : List A) (i : ℕ) (x : A) → i < length xs → x ≡ get_or xs i x → p x ≡ true
-    → map f (filter p (take (i + 1) xs)) ≡ map f (filter p (take i xs)) ++ f x ∷ []
-filtered-more f p xs i x l is t =
-    ap (λ ys. map f (filter p ys)) (take_more xs i x l) ∙ ap (map f) (filter-append p (take i xs) (get_or xs i x ∷ []))
-    ∙ ap (λ y. map f (filter p (take i xs) ++ cond (p y) (y ∷ []) [])) (sym is)
-    ∙ ap (λ b. map f (filter p (take i xs) ++ cond b (x ∷ []) [])) t
-    ∙ map-append f (filter p (take i xs)) (x ∷ [])
+pub pairs_distinct : (xs : List ℕ) → AreDistinct xs → AllPairs (λ b c. b ≢ c) xs
+pairs_distinct [] a = λ i j d l m. absurd (omega arith)
+pairs_distinct (x ∷ xs) a = pairs_cons (λ b c. b ≢ c) x xs (λ y m e. true≢false (sym (ap (λ z. among z xs) e ∙ among-Contains xs y m) ∙ a.0)) (pairs_distinct xs a.1)
 
--- or does not
-pub filtered-same : {A : Type 0} (f : A → ℕ) (p : A → Bool) (xs : List A) (i : ℕ) (x : A) → i < length xs → x ≡ get_or xs i x → p x ≡ false
-    → map f (filter p (take (i + 1) xs)) ≡ map f (filter p (take i xs))
-filtered-same f p xs i x l is t =
-    ap (λ ys. map f (filter p ys)) (take_more xs i x l) ∙ ap (map f) (filter-append p (take i xs) (get_or xs i x ∷ []))
-    ∙ ap (λ y. map f (filter p (take i xs) ++ cond (p y) (y ∷ []) [])) (sym is)
-    ∙ ap (λ b. map f (filter p (take i xs) ++ cond b (x ∷ []) [])) t
-    ∙ ap (map f) (append-nil (filter p (take i xs)))
+pub ListsOnce-distinct : (xs : List ℕ) (test : ℕ → Bool) → AreDistinct xs → ((c : ℕ) → among c xs ≡ test c) → ListsOnce xs test
+ListsOnce-distinct xs test a same = record { each = λ c. ((λ m. sym (same c) ∙ among-Contains xs c m), (λ h. Contains-among xs c (same c ∙ h))); once = pairs_distinct xs a }
+
+pub ListsOnce-none : (test : ℕ → Bool) → ((c : ℕ) → test c ≡ false) → ListsOnce [] test
+ListsOnce-none test none = ListsOnce-distinct [] test tt (λ c. sym (none c))
 
 -- ---- sources and targets
--- images under a map that tells members apart are different
-pub pairs_map_apart : {A : Type 0} (f : A → ℕ) (xs : List A) → ((a b : A) → Contains xs a → Contains xs b → f a ≡ f b → a ≡ b) → AllPairs (λ a b. a ≢ b) xs → AllPairs (λ a b. a ≢ b) (map f xs)
-pairs_map_apart f [] one h = λ i j d l m. absurd (omega arith)
-pairs_map_apart f (x ∷ xs) one h =
-    pairs_cons (λ a b. a ≢ b) (f x) (map f xs)
-    (λ b m e. let r = member_of_map f xs b m in
-    pairs_head (λ a b. a ≢ b) x xs h r.0 r.1 (one x r.0 (member_head x xs) (member_tail x xs r.0 r.1) (e ∙ sym r.2)))
-    (pairs_map_apart f xs (λ a b m n. one a b (member_tail x xs a m) (member_tail x xs b n)) (pairs_tail (λ a b. a ≢ b) x xs h))
+module _ (keys : List ℕ) (cells : List Cell) (links : Links) (s : IsStored keys cells links) where
+  -- keys that have arrows differ where their codes are one
+  codes-distinct : (ks : List ℕ) → ((k : ℕ) → among k ks ≡ true → key_of keys (code_at cells k) ≡ k) → AreDistinct ks → AreDistinct (map (code_at cells) ks)
+  codes-distinct ks live a = AreDistinct-map (code_at cells) ks (λ p q m n e. sym (live p m) ∙ ap (key_of keys) e ∙ live q n) a
 
-module _ (arrows : List Arrow) (once : AllPairs (λ a b. a ≢ b) arrows) where
-  -- the sources of y that stand in the list are all of them, each once
-  pub ListsOnce-sources : (y : ℕ) → ListsOnce (map (λ a. a.x) (filter (λ a. eqb a.y y) arrows)) (λ s. has_arrow arrows s y)
-  ListsOnce-sources y = record {
-    each = λ s. (
-      λ m.
-          let (a, in_filter, is) = member_of_map (λ a. a.x) (filter (λ a. eqb a.y y) arrows) s m in
-          let (in_arrows, to_y) = member_of_filter (λ a. eqb a.y y) arrows a in_filter in
-          ap₂ (λ u v. has_arrow arrows u v) (sym is) (sym (eqb-true a.y y to_y)) ∙ has_arrow-member arrows a in_arrows,
-      λ h. Contains-map (λ a. a.x) (filter (λ a. eqb a.y y) arrows) (record { x = s; y = y })
-          (Contains-filter (λ a. eqb a.y y) arrows (record { x = s; y = y }) (member_of_arrows arrows s y h) (eq-eqb y y refl)),
-    );
-    once = pairs_map_apart (λ a. a.x) (filter (λ a. eqb a.y y) arrows) (λ a b m n e.
-        let p = (member_of_filter (λ a. eqb a.y y) arrows a m).1 in
-        let q = (member_of_filter (λ a. eqb a.y y) arrows b n).1 in
-        let same : a.y ≡ b.y = eqb-true a.y y p ∙ sym (eqb-true b.y y q) in
-        λ i. record { x = e i; y = same i })
-        (pairs_filter (λ a b. a ≢ b) (λ a. eqb a.y y) arrows once);
-  }
+  pub distinct-source_codes : (q : ℕ) → AreDistinct (map (code_at cells) (sources links q))
+  distinct-source_codes q = codes-distinct (sources links q) (λ p m. (s.ends p q (sym (has_arrow-sources links s.listed p q) ∙ m)).0) (distinct-sources links s.listed q)
 
-  -- and the targets of x
-  pub ListsOnce-targets : (x : ℕ) → ListsOnce (map (λ a. a.y) (filter (λ a. eqb a.x x) arrows)) (has_arrow arrows x)
-  ListsOnce-targets x = record {
-    each = λ t. (
-      λ m.
-          let (a, in_filter, is) = member_of_map (λ a. a.y) (filter (λ a. eqb a.x x) arrows) t m in
-          let (in_arrows, from_x) = member_of_filter (λ a. eqb a.x x) arrows a in_filter in
-          ap₂ (λ u v. has_arrow arrows u v) (sym (eqb-true a.x x from_x)) (sym is) ∙ has_arrow-member arrows a in_arrows,
-      λ h. Contains-map (λ a. a.y) (filter (λ a. eqb a.x x) arrows) (record { x = x; y = t })
-          (Contains-filter (λ a. eqb a.x x) arrows (record { x = x; y = t }) (member_of_arrows arrows x t h) (eq-eqb x x refl)),
-    );
-    once = pairs_map_apart (λ a. a.y) (filter (λ a. eqb a.x x) arrows) (λ a b m n e.
-        let p = (member_of_filter (λ a. eqb a.x x) arrows a m).1 in
-        let q = (member_of_filter (λ a. eqb a.x x) arrows b n).1 in
-        let same : a.x ≡ b.x = eqb-true a.x x p ∙ sym (eqb-true b.x x q) in
-        λ i. record { x = same i; y = e i })
-        (pairs_filter (λ a b. a ≢ b) (λ a. eqb a.x x) arrows once);
-  }
+  pub distinct-target_codes : (p : ℕ) → AreDistinct (map (code_at cells) (targets links p))
+  distinct-target_codes p = codes-distinct (targets links p) (λ q m. (s.ends p q (sym (has_arrow-targets links s.listed p q) ∙ m)).1) (distinct-targets links s.listed p)
 
--- a test that is told to be another lists the same
-pub ListsOnce-same : (xs : List ℕ) (p q : ℕ → Bool) → ((c : ℕ) → p c ≡ q c) → ListsOnce xs p → ListsOnce xs q
-ListsOnce-same xs p q h l = record { each = λ c. ((λ m. sym (h c) ∙ (l.each c).0 m), (λ e. (l.each c).1 (h c ∙ e))); once = l.once }
+  pub among-source_codes : (y : ℕ) → is_live keys y ≡ true → (c : ℕ) → among c (map (code_at cells) (sources links (key_of keys y))) ≡ arrow (slice_complex (slice_of keys cells links)) c y
+  among-source_codes y l c = same_test _ _ forth back
+    where
+      forth : among c (map (code_at cells) (sources links (key_of keys y))) ≡ true → arrow (slice_complex (slice_of keys cells links)) c y ≡ true
+      forth m =
+          let (p, in_sources, is) = among-of_map (code_at cells) (sources links (key_of keys y)) c m in
+          let h : has_arrow links p (key_of keys y) ≡ true = sym (has_arrow-sources links s.listed p (key_of keys y)) ∙ in_sources in
+          ap₂ (arrow (slice_complex (slice_of keys cells links))) (sym is) (sym (s.keyed y l).1) ∙ arrow-keys keys cells links s p (key_of keys y) h
 
--- the first arrow is one
-pub first_arrow : (is_arrow : ℕ → ℕ → Bool) (arrows : List Arrow) (r : Option Arrow) → ((s t : ℕ) → is_arrow s t ≡ has_arrow arrows s t) → r ≡ slice_get arrows 0
-    → IfSome r (λ a. is_arrow a.x a.y ≡ true)
-first_arrow is_arrow [] r same e = subst (λ o. IfSome o (λ a. is_arrow a.x a.y ≡ true)) (sym e) tt
-first_arrow is_arrow (a ∷ arrows) r same e = subst (λ o. IfSome o (λ a. is_arrow a.x a.y ≡ true)) (sym e) (same a.x a.y ∙ has_arrow-member (a ∷ arrows) a (member_head a arrows))
+      back : arrow (slice_complex (slice_of keys cells links)) c y ≡ true → among c (map (code_at cells) (sources links (key_of keys y))) ≡ true
+      back h =
+          let e = ends-live keys cells links s c y h in
+          ap (λ k. among k (map (code_at cells) (sources links (key_of keys y)))) (sym (s.keyed c e.0).1)
+          ∙ among-map (code_at cells) (sources links (key_of keys y)) (key_of keys c) (has_arrow-sources links s.listed (key_of keys c) (key_of keys y) ∙ e.2)
 
--- where there is no first arrow there is none
-pub no_first_arrow : (is_arrow : ℕ → ℕ → Bool) (arrows : List Arrow) (r : Option Arrow) → ((s t : ℕ) → is_arrow s t ≡ has_arrow arrows s t) → r ≡ slice_get arrows 0
-    → IsNone r → (s t : ℕ) → is_arrow s t ≡ false
-no_first_arrow is_arrow [] r same e none s t = same s t
-no_first_arrow is_arrow (a ∷ arrows) r same e none s t = absurd (not_both (subst IsNone e none))
+  pub among-target_codes : (x : ℕ) → is_live keys x ≡ true → (c : ℕ) → among c (map (code_at cells) (targets links (key_of keys x))) ≡ arrow (slice_complex (slice_of keys cells links)) x c
+  among-target_codes x l c = same_test _ _ forth back
+    where
+      forth : among c (map (code_at cells) (targets links (key_of keys x))) ≡ true → arrow (slice_complex (slice_of keys cells links)) x c ≡ true
+      forth m =
+          let (q, in_targets, is) = among-of_map (code_at cells) (targets links (key_of keys x)) c m in
+          let h : has_arrow links (key_of keys x) q ≡ true = sym (has_arrow-targets links s.listed (key_of keys x) q) ∙ in_targets in
+          ap₂ (arrow (slice_complex (slice_of keys cells links))) (sym (s.keyed x l).1) (sym is) ∙ arrow-keys keys cells links s (key_of keys x) q h
+
+      back : arrow (slice_complex (slice_of keys cells links)) x c ≡ true → among c (map (code_at cells) (targets links (key_of keys x))) ≡ true
+      back h =
+          let e = ends-live keys cells links s x c h in
+          ap (λ k. among k (map (code_at cells) (targets links (key_of keys x)))) (sym (s.keyed c e.1).1)
+          ∙ among-map (code_at cells) (targets links (key_of keys x)) (key_of keys c) (has_arrow-targets links s.listed (key_of keys x) (key_of keys c) ∙ e.2)
+
+  pub ListsOnce-sources : (y : ℕ) → is_live keys y ≡ true → ListsOnce (map (code_at cells) (sources links (key_of keys y))) (λ c. arrow (slice_complex (slice_of keys cells links)) c y)
+  ListsOnce-sources y l = ListsOnce-distinct _ _ (distinct-source_codes (key_of keys y)) (among-source_codes y l)
+
+  pub ListsOnce-targets : (x : ℕ) → is_live keys x ≡ true → ListsOnce (map (code_at cells) (targets links (key_of keys x))) (arrow (slice_complex (slice_of keys cells links)) x)
+  ListsOnce-targets x l = ListsOnce-distinct _ _ (distinct-target_codes (key_of keys x)) (among-target_codes x l)
+
+  -- where the cursor is past all keys there is no arrow
+  pub none_left : (cursor : ℕ) → IsFirst links cursor → width links ≤ cursor → (c d : ℕ) → arrow (slice_complex (slice_of keys cells links)) c d ≡ false
+  none_left cursor f l c d = by (arrow (slice_complex (slice_of keys cells links)) c d) refl
+    where
+      by : (b : Bool) → arrow (slice_complex (slice_of keys cells links)) c d ≡ b → b ≡ false
+      by true h =
+          let e = ends-live keys cells links s c d h in
+          let k_in = has_arrow-from links s.listed (key_of keys c) (key_of keys d) e.2 in
+          absurd (true≢false (sym e.2 ∙ f.none_before (key_of keys c) (key_of keys d) (omega arith)))
+      by false h = refl
+
+-- ---- a list that is not whole
+-- what holds is left after an error too
+pub on_err-from : {T E P : Type 0} (r : Result T E) → P → OnErr r P
+on_err-from (Ok v) p = tt
+on_err-from (Err e) p = p
+
+pub ListsSome-prefix : (xs ys : List ℕ) (test : ℕ → Bool) → IsPrefix xs ys → ListsOnce ys test → ListsSome xs test
+ListsSome-prefix xs ys test p l = record {
+  each = λ k d low. (l.each (get_or xs k d)).0 (subst (λ zs. Contains zs (get_or xs k d)) p.1 (Contains-append_left xs p.0 (get_or xs k d) (Contains-get_or xs k d low)));
+  once = λ i j d below low.
+      let lower : i < length xs = omega arith in
+      let more : length (xs ++ p.0) ≡ length xs + length p.0 = length-append xs p.0 in
+      let in_ys : j < length ys = subst (λ zs. j < length zs) p.1 (omega arith) in
+      subst (λ (t : ℕ × ℕ). t.0 ≢ t.1) (λ k. (place i d lower k, place j d low k)) (l.once i j d below in_ys);
+}
   where
-    not_both : IsNone (Some a) → ⊥
-    not_both h = cc
+    place : (i d : ℕ) → i < length xs → get_or ys i d ≡ get_or xs i d
+    place i d low = ap (λ zs. get_or zs i d) (sym p.1) ∙ get_or_append_left xs p.0 d i low

@@ -1,4 +1,2 @@
 pub mod Slices
-pub mod Kept
-pub mod Toggled
-pub mod Built
+pub mod Inner

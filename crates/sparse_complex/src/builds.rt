@@ -1,15 +1,15 @@
 //! Building the slice of a grid at one Alexander degree.
-ghost use Rattle.std.specs.Prelude.{◌≡◌, ◌≤◌, ◌<◌, ◌+◌, ◌++◌, length, map, IfOk, OnOk};
-ghost use Rattle.f2_algebra.specs.Chain.{codes};
+ghost use Rattle.std.specs.Prelude.{◌≡◌, ◌≤◌, ◌<◌, ◌+◌, length, IfOk, OnOk};
 ghost use Rattle.f2_algebra.specs.Bigraded.{at_second};
 ghost use Rattle.f2_algebra.specs.Slice.{slice_complex};
 ghost use Rattle.state_rank.specs.States.{factorial};
 ghost use Rattle.torus_geom.specs.Marks.{size};
-ghost use Rattle.torus_geom.specs.Border.{border_of_state};
 ghost use Rattle.torus_geom.specs.GridComplex.{grid_complex};
-ghost use Rattle.sparse_complex.specs.Built.{arrow_from, HasCodesBelow};
+ghost use Rattle.sparse_complex.specs.Inner.Graph.{code_at, width};
+ghost use Rattle.sparse_complex.specs.Inner.Built.{AreCells, AreKeys, AreLinksBelow};
 
-use crate::slices::{AlexSlice, Arrow, Cell};
+use crate::links::Links;
+use crate::slices::{AlexSlice, Cell, NO_KEY};
 use gradings::degree;
 use grid_ports::NoMemory;
 use rectangles::targets;
@@ -31,12 +31,11 @@ impl AlexSlice {
     pub fn build(alloc: Global, g: &Grid, a: i32) -> Result<AlexSlice, NoMemory>
         ensures { IfOk result (λ s. slice_complex s.slice ≡ at_second a (grid_complex g.now)) }
     {
-        let mut cells = Vec::new(alloc);
-        let mut arrows = Vec::new(alloc);
-        for code in 0..state_count(g.size()) {
-            push_state(alloc, g, a, code, &mut cells, &mut arrows)?;
-        }
-        Ok(AlexSlice::of_lists(cells, arrows))
+        let _size = g.size();
+        let cells = cells_of(alloc, g, a)?;
+        let keys = keys_of(alloc, g, a, &cells)?;
+        let links = links_of(alloc, g, a, &keys, &cells)?;
+        Ok(AlexSlice::of_parts(keys, cells, links))
     }
 }
 
@@ -52,19 +51,23 @@ fn state_count(n: u8) -> u32
     count
 }
 
-// Appends the cell and the arrows of the state of rank `code`, if its Alexander degree is `a`.
-fn push_state(
-    alloc: Global,
-    g: &Grid,
-    a: i32,
-    code: u32,
-    cells: &mut Vec<Cell>,
-    arrows: &mut Vec<Arrow>,
-) -> Result<(), NoMemory>
+// The cells of the degree `a`, by Maslov degree, and by code among those of one degree.
+fn cells_of(alloc: Global, g: &Grid, a: i32) -> Result<Vec<Cell>, NoMemory>
+    ensures { IfOk result (λ cells. AreCells (at_second a (grid_complex g.now)) (factorial (size g.now)) cells.items) }
+{
+    let mut cells = Vec::new(alloc);
+    for code in 0..state_count(g.size()) {
+        push_cell(g, a, code, &mut cells)?;
+    }
+    cells.sort_by_key(|cell| cell.maslov)?;
+    Ok(cells)
+}
+
+// Appends the cell of the state of rank `code`, if its Alexander degree is `a`.
+fn push_cell(g: &Grid, a: i32, code: u32, cells: &mut Vec<Cell>) -> Result<(), NoMemory>
     requires rank { code < factorial (size g.now) }
-    requires below { HasCodesBelow (at_second a (grid_complex g.now)) code cells.old.items arrows.old.items }
-    ensures { OnOk result
-        (HasCodesBelow (at_second a (grid_complex g.now)) (code + 1) cells.new.items arrows.new.items) }
+    requires below { AreCells (at_second a (grid_complex g.now)) code cells.old.items }
+    ensures { OnOk result (AreCells (at_second a (grid_complex g.now)) (code + 1) cells.new.items) }
 {
     let x = State::unrank(g.size(), code);
     let d = degree(g, &x);
@@ -72,27 +75,61 @@ fn push_state(
         return Ok(());
     }
     cells.push(Cell { code, maslov: d.m })?;
-    push_arrows(alloc, g, &x, code, arrows)
+    Ok(())
 }
 
-// Appends an arrow from `code` to each state of the border of `x`.
+// The key of each code: its place among the cells.
+fn keys_of(alloc: Global, g: &Grid, a: i32, cells: &[Cell]) -> Result<Vec<u32>, NoMemory>
+    requires { AreCells (at_second a (grid_complex g.now)) (factorial (size g.now)) cells.now }
+    ensures { IfOk result (λ keys. AreKeys keys.items cells.now) }
+{
+    let mut keys = vec![in alloc; NO_KEY; state_count(g.size()) as usize]?;
+    for (key, cell) in cells.iter().enumerate() {
+        keys[cell.code as usize] = key as u32;
+    }
+    Ok(keys)
+}
+
+// The arrows of all cells.
+fn links_of(
+    alloc: Global,
+    g: &Grid,
+    a: i32,
+    keys: &[u32],
+    cells: &[Cell],
+) -> Result<Links, NoMemory>
+    requires cells { AreCells (at_second a (grid_complex g.now)) (factorial (size g.now)) cells.now }
+    requires keys { AreKeys keys.now cells.now }
+    ensures { IfOk result (λ links. AreLinksBelow (at_second a (grid_complex g.now)) cells.now (length cells.now) links) }
+{
+    let mut links = Links::new(alloc, cells.len())?;
+    for key in 0..cells.len() {
+        push_arrows(alloc, g, a, key, keys, cells, &mut links)?;
+    }
+    Ok(links)
+}
+
+// Puts in the arrows of the cell of a key.
 fn push_arrows(
     alloc: Global,
     g: &Grid,
-    x: &State,
-    code: u32,
-    arrows: &mut Vec<Arrow>,
+    a: i32,
+    key: usize,
+    keys: &[u32],
+    cells: &[Cell],
+    links: &mut Links,
 ) -> Result<(), NoMemory>
-    requires { length x.now ≡ size g.now }
-    ensures { OnOk result
-        (arrows.new.items ≡ arrows.old.items ++ map (arrow_from code) (codes (border_of_state g.now x.now))) }
+    requires cells { AreCells (at_second a (grid_complex g.now)) (factorial (size g.now)) cells.now }
+    requires keys { AreKeys keys.now cells.now }
+    requires key { key < length cells.now }
+    requires below { AreLinksBelow (at_second a (grid_complex g.now)) cells.now key links.old }
+    ensures { OnOk result (AreLinksBelow (at_second a (grid_complex g.now)) cells.now (key + 1) links.new) }
 {
-    let states = targets(alloc, g, x);
+    let x = State::unrank(g.size(), cells[key].code);
+    let states = targets(alloc, g, &x);
+    links.reserve(states.len() as u64)?;
     for y in states.as_slice() {
-        arrows.push(Arrow {
-            x: code,
-            y: y.rank(),
-        })?;
+        links.link(key as u32, keys[y.rank() as usize]);
     }
     Ok(())
 }

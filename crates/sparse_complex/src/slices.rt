@@ -1,21 +1,27 @@
 //! Slices, their queries, and the cancelling of an arrow.
-ghost use Rattle.std.specs.Prelude.{◌≡◌, ◌≢◌, ◌≤◌, ◌<◌, ◌+◌, ◌*◌, ℕ, true, false, not, length, position, is_some, vec_len, vec_capacity, IfSome, IsNone, OnOk};
-ghost use Rattle.f2_algebra.specs.Complex.{arrow, IsComplex};
-ghost use Rattle.f2_algebra.specs.Cancel.{is_one_of, cancelled};
-ghost use Rattle.f2_algebra.specs.Slice.{slice_complex};
-ghost use Rattle.sparse_complex.specs.Slices.{ListsOnce, fill};
-ghost use Rattle.sparse_complex.specs.Kept.{is_from_to, has_arrow, slice_of, IsKept};
-ghost use Rattle.std.specs.List.{filter};
-ghost use Rattle.sparse_complex.specs.Toggled.{IsOnceBut, touches_neither, is_source as is_source_of, is_target as is_target_of, source_arrows, target_arrows, IsToggled, IsToggledFrom, IsFilled};
+ghost use Rattle.std.specs.Prelude.{◌≡◌, ◌≢◌, ◌≤◌, ◌<◌, ◌+◌, ◌*◌, ℕ, ℤ, true, false, not, eqb, length, get_or, is_some, IfSome, IsNone, IfOk, OnOk, OnErr};
+ghost use Rattle.f2_algebra.specs.Complex.{Complex, arrow, IsComplex};
+ghost use Rattle.f2_algebra.specs.Cancel.{Entry, IsEntry, cancelled};
+ghost use Rattle.f2_algebra.specs.Slice.{slice_complex, IsSlice};
+ghost use Rattle.sparse_complex.specs.Slices.{ListsOnce, ListsSome, ListsCells, fill};
+ghost use Rattle.sparse_complex.specs.Inner.Lists.{no_id, head_at};
+ghost use Rattle.sparse_complex.specs.Inner.Graph.{width};
+ghost use Rattle.sparse_complex.specs.Inner.Kept.{key_of, no_key, slice_of, IsStored, ListsLive};
 
+use crate::links::Links;
 use grid_ports::NoMemory;
+use node_pool::NO_NODE;
+use std::alloc::Global;
 use std::marker::Model;
 
-/// A live code, with its Maslov degree.
+/// The key of a code that is not live.
+pub(crate) const NO_KEY: u32 = u32::MAX;
+
+/// A code with its Maslov degree.
 #[derive(Clone, Copy, PartialEq, Eq, Debug)]
-pub(crate) struct Cell {
-    pub(crate) code: u32,
-    pub(crate) maslov: i32,
+pub struct Cell {
+    pub code: u32,
+    pub maslov: i32,
 }
 
 /// An arrow from the code `x` to the code `y`.
@@ -26,38 +32,50 @@ pub struct Arrow {
 }
 
 /// The part of a grid complex at one Alexander degree, or what is left of it after arrows were cancelled.
-#[derive(Drop, Debug)]
+///
+/// It keeps the two rules of a complex. `keys` has the key of each code (`NO_KEY` for a code that is not
+/// live), `cells` the code and the degree of each key, and `links` the arrows between keys. No key before
+/// `cursor` has an arrow that leaves it.
+#[derive(Drop)]
 pub struct AlexSlice {
+    keys: Vec<u32>,
     cells: Vec<Cell>,
-    arrows: Vec<Arrow>,
+    links: Links,
+    cursor: u32,
 }
 
 // Clauses see the slice, and the room for more arrows.
 impl Model for AlexSlice {
-    ghost use Rattle.std.specs.Prelude.{◌-◌, vec_len, vec_capacity};
     ghost use Rattle.sparse_complex.specs.Slices.{SliceState, state_code};
 
     ghost Value = { SliceState };
 
     ghost coded = { state_code };
 
-    ghost use Rattle.sparse_complex.specs.Kept.{slice_of, IsKept};
+    ghost use Rattle.sparse_complex.specs.Inner.Kept.{slice_of, IsKept};
 
     ghost view = { λ s. record {
-      slice = slice_of s.cells.items s.arrows.items;
-      spare = vec_capacity s.arrows - vec_len s.arrows;
+      slice = slice_of s.keys.items s.cells.items s.links;
+      spare = s.links.pool.spare;
     } };
 
-    ghost invariant = { λ s. IsKept s.cells.items s.arrows.items };
+    ghost invariant = { λ s. IsKept s.keys.items s.cells.items s.links s.cursor };
 }
 
 impl AlexSlice {
-    // The slice of these cells and arrows.
-    pub(crate) fn of_lists(cells: Vec<Cell>, arrows: Vec<Arrow>) -> AlexSlice
-        requires { IsKept cells.items arrows.items }
-        ensures { result.slice ≡ slice_of cells.items arrows.items }
+    // The slice of these parts.
+    pub(crate) fn of_parts(keys: Vec<u32>, cells: Vec<Cell>, links: Links) -> AlexSlice
+        requires stored { IsStored keys.items cells.items links }
+        requires rules { IsSlice (slice_of keys.items cells.items links) }
+        ensures { result.slice ≡ slice_of keys.items cells.items links }
     {
-        AlexSlice { cells, arrows }
+        let cursor = first_with_arrow(&links, 0);
+        AlexSlice {
+            keys,
+            cells,
+            links,
+            cursor,
+        }
     }
 
     /// Whether `code` is live.
@@ -69,29 +87,61 @@ impl AlexSlice {
 
     /// The Maslov degree of `code`, if it is live.
     pub fn maslov_of(&self, code: u32) -> Option<i32>
-        ensures { result ≡ (slice_complex self.now.slice).degree code }
+        ensures degree { result ≡ (slice_complex self.now.slice).degree code }
+
+        // Every slice keeps the two rules of a complex.
+        ensures rules { IsComplex (slice_complex self.now.slice) }
     {
-        for cell in &self.cells {
-            if cell.code == code {
-                return Some(cell.maslov);
-            }
+        let key = find_key(&self.keys, code);
+        if key == NO_KEY {
+            return None;
         }
-        None
+        Some(self.cells[key as usize].maslov)
+    }
+
+    /// The live codes with their Maslov degrees, each code once, in no order that is promised.
+    ///
+    /// # Errors
+    ///
+    /// `NoMemory` if the allocator refuses.
+    pub fn live_cells(&self, alloc: Global) -> Result<Vec<Cell>, NoMemory>
+        ensures { IfOk result (λ cells. ListsCells (slice_complex self.now.slice) cells.items) }
+    {
+        live_among(alloc, &self.keys, &self.cells)
     }
 
     /// Whether there is an arrow from `x` to `y`.
     pub fn is_arrow(&self, x: u32, y: u32) -> bool
         ensures { result ≡ arrow (slice_complex self.now.slice) x y }
     {
-        self.arrows.contains(&Arrow { x, y })
+        let from = find_key(&self.keys, x);
+        if from == NO_KEY {
+            return false;
+        }
+        let to = find_key(&self.keys, y);
+        if to == NO_KEY {
+            return false;
+        }
+        self.links.find(from, to).is_some()
     }
 
     /// An arrow, if there is one.
+    ///
+    /// Its source is the first key that has an arrow, and its target the greatest among the targets of
+    /// this key. The order has no part in what is promised, but in the time: with this one few arrows are
+    /// added while all are cancelled.
     pub fn any_arrow(&self) -> Option<Arrow>
         ensures arrow { IfSome result (λ a. arrow (slice_complex self.now.slice) a.x a.y ≡ true) }
         ensures none { IsNone result → (s t : ℕ) → arrow (slice_complex self.now.slice) s t ≡ false }
     {
-        self.arrows.first().copied()
+        if self.cursor as usize >= self.cells.len() {
+            return None;
+        }
+        let to = self.links.last_target(self.cursor);
+        Some(Arrow {
+            x: self.cells[self.cursor as usize].code,
+            y: self.cells[to as usize].code,
+        })
     }
 
     /// Writes the codes from which there are arrows to `y` into `into`, each once, in place of what
@@ -99,18 +149,19 @@ impl AlexSlice {
     ///
     /// # Errors
     ///
-    /// `NoMemory` if the allocator refuses; `into` then holds some of them.
+    /// `NoMemory` if the allocator refuses; `into` then holds some of them and nothing else.
     pub fn sources_of(&self, y: u32, into: &mut Vec<u32>) -> Result<(), NoMemory>
-        ensures { OnOk result (ListsOnce into.new.items
+        ensures all { OnOk result (ListsOnce into.new.items
+            (λ s. arrow (slice_complex self.now.slice) s y)) }
+        ensures some { OnErr result (ListsSome into.new.items
             (λ s. arrow (slice_complex self.now.slice) s y)) }
     {
         into.clear();
-        for a in &self.arrows {
-            if a.y == y {
-                into.push(a.x)?;
-            }
+        let key = find_key(&self.keys, y);
+        if key == NO_KEY {
+            return Ok(());
         }
-        Ok(())
+        self.links.push_sources(key, &self.cells, into)
     }
 
     /// Writes the codes to which there are arrows from `x` into `into`, each once, in place of what was
@@ -118,17 +169,17 @@ impl AlexSlice {
     ///
     /// # Errors
     ///
-    /// `NoMemory` if the allocator refuses; `into` then holds some of them.
+    /// `NoMemory` if the allocator refuses; `into` then holds some of them and nothing else.
     pub fn targets_of(&self, x: u32, into: &mut Vec<u32>) -> Result<(), NoMemory>
-        ensures { OnOk result (ListsOnce into.new.items (arrow (slice_complex self.now.slice) x)) }
+        ensures all { OnOk result (ListsOnce into.new.items (arrow (slice_complex self.now.slice) x)) }
+        ensures some { OnErr result (ListsSome into.new.items (arrow (slice_complex self.now.slice) x)) }
     {
         into.clear();
-        for a in &self.arrows {
-            if a.x == x {
-                into.push(a.y)?;
-            }
+        let key = find_key(&self.keys, x);
+        if key == NO_KEY {
+            return Ok(());
         }
-        Ok(())
+        self.links.push_targets(key, &self.cells, into)
     }
 
     /// Makes room for the arrows that cancelling the arrow from `x` to `y` may add.
@@ -140,14 +191,20 @@ impl AlexSlice {
         ensures room { OnOk result (fill self.old.slice x y ≤ self.new.spare) }
         ensures same { self.new.slice ≡ self.old.slice }
     {
-        let gone = Arrow { x, y };
-        let sources = source_count(&self.arrows, gone);
-        let targets = target_count(&self.arrows, gone);
+        let from = find_key(&self.keys, x);
+        if from == NO_KEY {
+            return Ok(());
+        }
+        let to = find_key(&self.keys, y);
+        if to == NO_KEY {
+            return Ok(());
+        }
+        let sources = self.links.count_in(to);
+        let targets = self.links.count_out(from);
         let Some(room) = sources.checked_mul(targets) else {
             return Err(NoMemory);
         };
-        self.arrows.reserve(room)?;
-        Ok(())
+        self.links.reserve(room)
     }
 
     /// Cancels the arrow from `x` to `y`: both leave with their arrows, and from each other source of `y`
@@ -160,118 +217,63 @@ impl AlexSlice {
 
         // What is left keeps the two rules.
         ensures rules { IsComplex (cancelled (slice_complex self.old.slice) x y) }
+
+        // Cancelling an arrow keeps them in every complex. An entry is an arrow with the other sources of
+        // its target and the other targets of its source.
+        ensures law { (C : Complex ℤ) (e : Entry) → IsComplex C → IsEntry C e
+            → IsComplex (cancelled C e.x e.y) }
     {
-        toggle_fill(&mut self.arrows, Arrow { x, y });
-        remove_arrows(&mut self.arrows, x, y);
-        remove_cells(&mut self.cells, x, y);
+        let from = find_key(&self.keys, x);
+        let to = find_key(&self.keys, y);
+        self.links.fill(from, to);
+        self.links.clear_out(from);
+        self.links.clear_in(from);
+        self.links.clear_out(to);
+        self.links.clear_in(to);
+        self.keys[x as usize] = NO_KEY;
+        self.keys[y as usize] = NO_KEY;
+        // A toggle adds arrows only at sources that had one, so the cursor never goes back.
+        self.cursor = first_with_arrow(&self.links, self.cursor);
     }
 }
 
-// Toggles the arrows from each other source of `gone` to each other target of `gone`.
-fn toggle_fill(arrows: &mut Vec<Arrow>, gone: Arrow)
-    requires once { IsOnceBut gone arrows.old.items }
-    requires no_loop { (s : ℕ) → has_arrow arrows.old.items s s ≡ false }
-    requires ends { gone.x ≢ gone.y }
-    requires room { vec_len arrows.old + length (source_arrows gone arrows.old.items)
-        * length (target_arrows gone arrows.old.items) ≤ vec_capacity arrows.old }
-    ensures { IsFilled gone arrows.old.items arrows.new.items }
+// The cells whose codes have the keys of these cells.
+fn live_among(alloc: Global, keys: &[u32], cells: &[Cell]) -> Result<Vec<Cell>, NoMemory>
+    ensures { IfOk result (λ live. ListsLive keys.now cells.now (length cells.now) live.items) }
 {
-    for i in 0..arrows.len() {
-        let a = arrows[i];
-        if is_source(gone, a) {
-            toggle_from(arrows, a.x, gone);
+    let mut live = Vec::new(alloc);
+    for key in 0..cells.len() {
+        let cell = cells[key];
+        if find_key(keys, cell.code) as usize == key {
+            live.push(cell)?;
         }
     }
+    Ok(live)
 }
 
-// Toggles the arrows from `p` to each other target of `gone`.
-fn toggle_from(arrows: &mut Vec<Arrow>, p: u32, gone: Arrow)
-    requires once { IsOnceBut gone arrows.old.items }
-    requires no_loop { has_arrow arrows.old.items gone.x gone.x ≡ false }
-    requires not_x { p ≢ gone.x }
-    requires not_y { p ≢ gone.y }
-    requires room { vec_len arrows.old + length (target_arrows gone arrows.old.items)
-        ≤ vec_capacity arrows.old }
-    ensures toggled { IsToggledFrom gone p arrows.old.items arrows.new.items }
-    ensures grown { vec_len arrows.new
-        ≤ vec_len arrows.old + length (target_arrows gone arrows.old.items) }
-    ensures capacity { vec_capacity arrows.new ≡ vec_capacity arrows.old }
+// The key of a code, or `NO_KEY`.
+fn find_key(keys: &[u32], code: u32) -> u32
+    ensures { result ≡ key_of keys.now code }
 {
-    for j in 0..arrows.len() {
-        let b = arrows[j];
-        if is_target(gone, b) {
-            toggle(arrows, Arrow { x: p, y: b.y }, gone);
+    match keys.get(code as usize) {
+        Some(key) => *key,
+        None => NO_KEY,
+    }
+}
+
+// The first key from `from` on that has an arrow out, or the number of keys.
+fn first_with_arrow(links: &Links, from: u32) -> u32
+    requires { (from ≤ width links.now) × (width links.now ≤ no_key) }
+    ensures within { (from ≤ result) × (result ≤ width links.now) }
+    ensures none_before { (k : ℕ) → from ≤ k → k < result → (head_at links.now.heads.items k).first_out ≡ no_id }
+    ensures some_here { result < width links.now → eqb (head_at links.now.heads.items result).first_out no_id ≡ false }
+{
+    let mut key = from;
+    while (key as usize) < links.heads.len() {
+        if links.heads[key as usize].first_out != NO_NODE {
+            return key;
         }
+        key += 1;
     }
-}
-
-// Puts `a` in if it is not there, and writes `gone` in its place if it is.
-fn toggle(arrows: &mut Vec<Arrow>, a: Arrow, gone: Arrow)
-    requires once { IsOnceBut gone arrows.old.items }
-    requires other { a ≢ gone }
-    requires room { vec_len arrows.old < vec_capacity arrows.old }
-    ensures toggled { IsToggled gone a arrows.old.items arrows.new.items }
-    ensures grown { vec_len arrows.new ≤ vec_len arrows.old + 1 }
-    ensures capacity { vec_capacity arrows.new ≡ vec_capacity arrows.old }
-{
-    match place_of(arrows, a) {
-        Some(k) => arrows[k] = gone,
-        None => arrows.push_reserved(a),
-    }
-}
-
-// The place of `a` in the list.
-fn place_of(arrows: &[Arrow], a: Arrow) -> Option<usize>
-    ensures { result ≡ position (is_from_to a.x a.y) arrows.now }
-{
-    arrows.iter().position(|b| *b == a)
-}
-
-// Whether `a` goes from another code to the target of `gone`.
-fn is_source(gone: Arrow, a: Arrow) -> bool
-    ensures { result ≡ is_source_of gone a }
-{
-    a.y == gone.y && a.x != gone.x
-}
-
-// Whether `a` goes from the source of `gone` to another code.
-fn is_target(gone: Arrow, a: Arrow) -> bool
-    ensures { result ≡ is_target_of gone a }
-{
-    a.x == gone.x && a.y != gone.y
-}
-
-// Whether `code` stays when `x` and `y` leave.
-fn stays(x: u32, y: u32, code: u32) -> bool
-    ensures { result ≡ not (is_one_of x y code) }
-{
-    code != x && code != y
-}
-
-// Takes out the arrows that leave or reach `x` or `y`.
-fn remove_arrows(arrows: &mut Vec<Arrow>, x: u32, y: u32)
-    ensures { arrows.new.items ≡ filter (touches_neither x y) arrows.old.items }
-{
-    arrows.retain(|a| stays(x, y, a.x) && stays(x, y, a.y));
-}
-
-// Takes out the cells of `x` and `y`.
-fn remove_cells(cells: &mut Vec<Cell>, x: u32, y: u32)
-    ensures { cells.new.items ≡ filter (λ c. not (is_one_of x y c.code)) cells.old.items }
-{
-    cells.retain(|c| stays(x, y, c.code));
-}
-
-// The number of arrows to the target of `gone` from other codes.
-fn source_count(arrows: &[Arrow], gone: Arrow) -> usize
-    ensures { result ≡ length (source_arrows gone arrows.now) }
-{
-    arrows.iter().filter(|a| is_source(gone, **a)).count()
-}
-
-// The number of arrows from the source of `gone` to other codes.
-fn target_count(arrows: &[Arrow], gone: Arrow) -> usize
-    ensures { result ≡ length (target_arrows gone arrows.now) }
-{
-    arrows.iter().filter(|a| is_target(gone, **a)).count()
+    key
 }

@@ -9,10 +9,10 @@ use Rattle.cancel.proofs.reductions.other_targets.Goals as goal
 
 pub of_once-requires : goal.of_once-requires
 of_once-requires c =
-    let listed = ListsOnce-without _ (arrow (slice_complex c.args.slice.now.slice) c.args.gone.x) c.args.gone.y c.in_ok-targets_of.ensures in
+    let listed = ListsOnce-without _ (arrow (slice_complex c.args.slice.now.slice) c.args.gone.x) c.args.gone.y c.in_ok-targets_of.ensures.all in
     subst (AllPairs (λ b c. b ≢ c)) (sym c.remove_code.ensures) listed.once
 
 pub returns : goal.returns
 returns c =
-    let listed = ListsOnce-without _ (arrow (slice_complex c.args.slice.now.slice) c.args.gone.x) c.args.gone.y c.in_ok-targets_of.ensures in
+    let listed = ListsOnce-without _ (arrow (slice_complex c.args.slice.now.slice) c.args.gone.x) c.args.gone.y c.in_ok-targets_of.ensures.all in
     subst (λ (xs : List ℕ). ListsOnce xs (λ t. arrow (slice_complex c.args.slice.now.slice) c.args.gone.x t && not (eqb t c.args.gone.y))) (sym (c.of_once.ensures ∙ c.remove_code.ensures)) listed

@@ -19,7 +19,7 @@ loop-code-init c =
 pub place_of-place-requires : goal.place_of-place-requires
 place_of-place-requires c =
     subst IsSmallDegree (sym (to_z-of_z w32 c.in-Some.m (search rules)))
-    (c.requires c.loop-code.code c.in-Some.m (sym c.maslov_of.ensures ∙ c.in-Some.is))
+    (c.requires c.loop-code.code c.in-Some.m (sym c.maslov_of.ensures.degree ∙ c.in-Some.is))
 
 pub overflow_add-index_mut : goal.overflow_add-index_mut
 overflow_add-index_mut c =
@@ -35,10 +35,10 @@ loop-code-preserved c =
           let at_place = sym (to_z-of_z w32 w.in-Some.m (search rules)) ∙ w.place_of-place.ensures.degree in
           subst (λ v. CountsCells C (c.loop-code.code + 1) v.items) (sym w.counts-is)
           (counts-add C c.loop-code.code place w.index_mut.result.now w.in-Some.m c.loop-code.counts.items w.place_of-place.ensures.below
-          (sym c.maslov_of.ensures ∙ w.in-Some.is) at_place w.index_mut.ensures.value c.loop-code.invariant)
+          (sym c.maslov_of.ensures.degree ∙ w.in-Some.is) at_place w.index_mut.ensures.value c.loop-code.invariant)
       | in_default w ↦
           subst (λ v. CountsCells C (c.loop-code.code + 1) v.items) (sym w.counts-is)
-          (counts-skip C c.loop-code.code c.loop-code.counts.items (sym c.maslov_of.ensures ∙ w.in_default.is) c.loop-code.invariant)
+          (counts-skip C c.loop-code.code c.loop-code.counts.items (sym c.maslov_of.ensures.degree ∙ w.in_default.is) c.loop-code.invariant)
     ]
 
 pub returns : goal.returns

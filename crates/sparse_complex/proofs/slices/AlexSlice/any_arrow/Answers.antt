@@ -1,17 +1,32 @@
--- The first arrow, if there is one.
-use Rattle.std.proofs.Common.{◌≡◌, ℕ, slice_get, sym, ap, ◌∙◌}
+-- The key at the cursor has an arrow, and where there is no such key there is none.
+use Rattle.std.proofs.Common.{◌<◌, ◌≤◌, sym, ap, ap₂, subst, ◌∙◌, arith}
 use Rattle.f2_algebra.specs.Complex.{arrow}
 use Rattle.f2_algebra.specs.Slice.{slice_complex}
-use Rattle.sparse_complex.specs.Kept.{has_arrow}
-use Rattle.sparse_complex.proofs.KeptLemmas.{arrow-kept}
-use Rattle.sparse_complex.proofs.QueryLemmas.{first_arrow, no_first_arrow}
+use Rattle.sparse_complex.specs.Inner.Graph.{width}
+use Rattle.sparse_complex.proofs.GraphLemmas.{cell_is, has_arrow-from, has_arrow-to}
+use Rattle.sparse_complex.proofs.KeptLemmas.{arrow-keys}
+use Rattle.sparse_complex.proofs.QueryLemmas.{none_left}
 use Rattle.sparse_complex.proofs.slices.AlexSlice.any_arrow.Goals as goal
 
-pub returns : goal.returns
-returns c =
-    let same : (s t : ℕ) → arrow (slice_complex c.args.self.now.slice) s t ≡ has_arrow c.self.inside.arrows.items s t = λ s t. sym (ap (λ state. arrow (slice_complex state.slice) s t) c.self.view_is) ∙ arrow-kept _ _ c.self.invariant s t in
-    let read = c.copied.ensures ∙ c.first.ensures.value ∙ ap (λ arrows. slice_get arrows 0) c.deref.ensures.value in
-    record {
-      arrow = first_arrow (arrow (slice_complex c.args.self.now.slice)) c.self.inside.arrows.items c.copied.result same read;
-      none = no_first_arrow (arrow (slice_complex c.args.self.now.slice)) c.self.inside.arrows.items c.copied.result same read;
-    }
+pub returns-then-self-len-clause-none : goal.returns-then-self-len-clause-none
+returns-then-self-len-clause-none c = λ _ s t.
+    let w = c.self.invariant.stored.whole in
+    let l : width c.self.inside.links ≤ c.self.inside.cursor = omega arith in
+    sym (ap (λ v. arrow (slice_complex v.slice) s t) c.self.view_is)
+    ∙ none_left c.self.inside.keys.items c.self.inside.cells.items c.self.inside.links c.self.invariant.stored c.self.inside.cursor c.self.invariant.first l s t
+
+pub index-requires-2 : goal.index-requires-2
+index-requires-2 c =
+    let w = c.self.invariant.stored.whole in
+    let l = has_arrow-to c.self.inside.links c.self.invariant.stored.listed c.self.inside.cursor c.last_target-to.result c.last_target-to.ensures in
+    omega arith
+
+pub returns-clause-arrow : goal.returns-clause-arrow
+returns-clause-arrow c =
+    let st = c.self.invariant.stored in
+    let h = c.last_target-to.ensures in
+    let p_in = subst (λ n. c.self.inside.cursor < n) (sym st.whole) (has_arrow-from c.self.inside.links st.listed c.self.inside.cursor c.last_target-to.result h) in
+    let q_in = subst (λ n. c.last_target-to.result < n) (sym st.whole) (has_arrow-to c.self.inside.links st.listed c.self.inside.cursor c.last_target-to.result h) in
+    sym (ap (λ v. arrow (slice_complex v.slice) c.index.result.now.code c.index-2.result.now.code) c.self.view_is)
+    ∙ ap₂ (arrow (slice_complex _)) (sym (cell_is c.self.inside.cells.items c.self.inside.cursor _ p_in c.index.ensures)) (sym (cell_is c.self.inside.cells.items c.last_target-to.result _ q_in c.index-2.ensures))
+    ∙ arrow-keys c.self.inside.keys.items c.self.inside.cells.items c.self.inside.links st c.self.inside.cursor c.last_target-to.result h

@@ -1,6 +1,6 @@
--- When all codes are in, the slice is the part of the complex.
-use Rattle.std.proofs.Common.{◌≡◌, ◌≤◌, w32, ap, sym, ◌∙◌, arith, rules, subst}
-use mir.Val.{SFits}
+-- The parts are those of the part of the grid complex.
+use Rattle.std.proofs.Common.{List, length, w32, refl, ap, subst, ◌∙◌, rules}
+use mir.Val.{SFits, to_z, of_z}
 use Rattle.std.proofs.Math.IntN.{ℤ}
 use Rattle.std.proofs.lemmas.Int.{to_z-of_z}
 use Rattle.f2_algebra.specs.Bigraded.{at_second}
@@ -8,30 +8,35 @@ use Rattle.f2_algebra.specs.Slice.{slice_complex}
 use Rattle.state_rank.specs.States.{factorial}
 use Rattle.torus_geom.specs.Marks.{size}
 use Rattle.torus_geom.specs.GridComplex.{grid_complex}
-use Rattle.sparse_complex.specs.Built.{HasCodesBelow}
-use Rattle.sparse_complex.proofs.BuildLemmas.{HasCodesBelow-same, HasCodesBelow-none}
-use Rattle.sparse_complex.proofs.GridPartLemmas.{slice_of-built, IsKept-built}
+use Rattle.sparse_complex.specs.declared.slices.Cell.{Cell}
+use Rattle.sparse_complex.specs.Inner.Built.{AreCells, AreKeys, AreLinksBelow}
+use Rattle.sparse_complex.proofs.GridPartLemmas.{part_rules, no_cell_past}
+use Rattle.sparse_complex.proofs.BuildLemmas.{stored-built, built-is, built-rules}
 use Rattle.sparse_complex.proofs.slices.AlexSlice.build.Goals as goal
 
-pub loop-code-init : goal.loop-code-init
-loop-code-init c =
+pub of_parts-requires-clause-stored : goal.of_parts-requires-clause-stored
+of_parts-requires-clause-stored c =
     let fits : SFits w32 c.args.a = search rules in
-    let start = HasCodesBelow-same (at_second c.args.a (grid_complex c.args.g.now)) 0 _ _ _ _ c.new-cells.ensures.items c.new-arrows.ensures.items (HasCodesBelow-none (at_second c.args.a (grid_complex c.args.g.now))) in
-    subst (λ (a : ℤ). HasCodesBelow (at_second a (grid_complex c.args.g.now)) 0 c.new-cells.result.items c.new-arrows.result.items) (sym (to_z-of_z w32 c.args.a fits)) start
+    let cells = subst (λ (a : ℤ). AreCells (at_second a (grid_complex c.args.g.now)) (factorial (size c.args.g.now)) c.in_ok-cells.cells.items) (to_z-of_z w32 c.args.a fits) c.in_ok-cells.ensures in
+    let keys = subst (λ (cs : List Cell). AreKeys c.in_ok-keys.keys.items cs) c.deref.ensures.value c.in_ok-keys.ensures in
+    let links = subst (λ (a : ℤ). AreLinksBelow (at_second a (grid_complex c.args.g.now)) c.in_ok-cells.cells.items (length c.in_ok-cells.cells.items) c.in_ok-links.links) (to_z-of_z w32 c.args.a fits)
+    (subst (λ (cs : List Cell). AreLinksBelow (at_second (to_z w32 (of_z w32 c.args.a)) (grid_complex c.args.g.now)) cs (length cs) c.in_ok-links.links) c.deref-3.ensures.value c.in_ok-links.ensures) in
+    stored-built (at_second c.args.a (grid_complex c.args.g.now)) (factorial (size c.args.g.now)) (part_rules c.args.g.now c.args.a c.size-size.ensures.grid) refl (no_cell_past c.args.g.now c.args.a) c.in_ok-cells.cells.items cells c.in_ok-keys.keys.items keys c.in_ok-links.links links
 
-pub of_lists-requires : goal.of_lists-requires
-of_lists-requires c =
+pub of_parts-requires-clause-rules : goal.of_parts-requires-clause-rules
+of_parts-requires-clause-rules c =
     let fits : SFits w32 c.args.a = search rules in
-    let below = subst (λ (a : ℤ). HasCodesBelow (at_second a (grid_complex c.args.g.now)) c.loop-code.code c.loop-code.cells.items c.loop-code.arrows.items) (to_z-of_z w32 c.args.a fits) c.loop-code.invariant in
-    let count : c.state_count-code-end.result ≡ factorial (size c.args.g.now) = c.state_count-code-end.ensures ∙ ap factorial c.size.ensures.size in
-    let all : factorial (size c.args.g.now) ≤ c.loop-code.code = omega arith in
-    IsKept-built c.args.g.now c.args.a c.loop-code.code c.loop-code.cells.items c.loop-code.arrows.items below all c.size.ensures.grid
+    let cells = subst (λ (a : ℤ). AreCells (at_second a (grid_complex c.args.g.now)) (factorial (size c.args.g.now)) c.in_ok-cells.cells.items) (to_z-of_z w32 c.args.a fits) c.in_ok-cells.ensures in
+    let keys = subst (λ (cs : List Cell). AreKeys c.in_ok-keys.keys.items cs) c.deref.ensures.value c.in_ok-keys.ensures in
+    let links = subst (λ (a : ℤ). AreLinksBelow (at_second a (grid_complex c.args.g.now)) c.in_ok-cells.cells.items (length c.in_ok-cells.cells.items) c.in_ok-links.links) (to_z-of_z w32 c.args.a fits)
+    (subst (λ (cs : List Cell). AreLinksBelow (at_second (to_z w32 (of_z w32 c.args.a)) (grid_complex c.args.g.now)) cs (length cs) c.in_ok-links.links) c.deref-3.ensures.value c.in_ok-links.ensures) in
+    built-rules (at_second c.args.a (grid_complex c.args.g.now)) (factorial (size c.args.g.now)) (part_rules c.args.g.now c.args.a c.size-size.ensures.grid) refl (no_cell_past c.args.g.now c.args.a) c.in_ok-cells.cells.items cells c.in_ok-keys.keys.items keys c.in_ok-links.links links
 
 pub returns : goal.returns
 returns c =
     let fits : SFits w32 c.args.a = search rules in
-    let below = subst (λ (a : ℤ). HasCodesBelow (at_second a (grid_complex c.args.g.now)) c.loop-code.code c.loop-code.cells.items c.loop-code.arrows.items) (to_z-of_z w32 c.args.a fits) c.loop-code.invariant in
-    let count : c.state_count-code-end.result ≡ factorial (size c.args.g.now) = c.state_count-code-end.ensures ∙ ap factorial c.size.ensures.size in
-    let all : factorial (size c.args.g.now) ≤ c.loop-code.code = omega arith in
-    ap slice_complex c.of_lists.ensures
-    ∙ slice_of-built c.args.g.now c.args.a c.loop-code.code c.loop-code.cells.items c.loop-code.arrows.items below all
+    let cells = subst (λ (a : ℤ). AreCells (at_second a (grid_complex c.args.g.now)) (factorial (size c.args.g.now)) c.in_ok-cells.cells.items) (to_z-of_z w32 c.args.a fits) c.in_ok-cells.ensures in
+    let keys = subst (λ (cs : List Cell). AreKeys c.in_ok-keys.keys.items cs) c.deref.ensures.value c.in_ok-keys.ensures in
+    let links = subst (λ (a : ℤ). AreLinksBelow (at_second a (grid_complex c.args.g.now)) c.in_ok-cells.cells.items (length c.in_ok-cells.cells.items) c.in_ok-links.links) (to_z-of_z w32 c.args.a fits)
+    (subst (λ (cs : List Cell). AreLinksBelow (at_second (to_z w32 (of_z w32 c.args.a)) (grid_complex c.args.g.now)) cs (length cs) c.in_ok-links.links) c.deref-3.ensures.value c.in_ok-links.ensures) in
+    ap slice_complex c.of_parts.ensures ∙ built-is (at_second c.args.a (grid_complex c.args.g.now)) (factorial (size c.args.g.now)) (part_rules c.args.g.now c.args.a c.size-size.ensures.grid) refl (no_cell_past c.args.g.now c.args.a) c.in_ok-cells.cells.items cells c.in_ok-keys.keys.items keys c.in_ok-links.links links

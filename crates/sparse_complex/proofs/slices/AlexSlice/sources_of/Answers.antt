@@ -1,19 +1,35 @@
--- The list has each arrow once, so each end stands once.
-use Rattle.std.proofs.Common.{◌≡◌, ℕ, eqb, map, sym, ap, subst, ◌∙◌}
-use Rattle.std.specs.List.{filter}
-use Rattle.std.proofs.lemmas.List.{take_all}
+-- The list of the key is read.
+use Rattle.std.proofs.Common.{◌++◌, map, sym, ap, subst, ◌∙◌}
+use Rattle.std.proofs.lemmas.Result.{on_ok_weaker, on_err_weaker}
 use Rattle.f2_algebra.specs.Complex.{arrow}
 use Rattle.f2_algebra.specs.Slice.{slice_complex}
 use Rattle.sparse_complex.specs.Slices.{ListsOnce}
-use Rattle.sparse_complex.specs.Kept.{has_arrow}
-use Rattle.sparse_complex.proofs.KeptLemmas.{arrow-kept}
-use Rattle.sparse_complex.proofs.QueryLemmas.{ListsOnce-sources, ListsOnce-same}
+use Rattle.sparse_complex.specs.Inner.Graph.{sources, code_at, IsPrefix}
+use Rattle.sparse_complex.specs.Inner.Kept.{key_of}
+use Rattle.sparse_complex.proofs.KeptLemmas.{no_arrow-to, live_is}
+use Rattle.sparse_complex.proofs.QueryLemmas.{ListsOnce-none, ListsOnce-sources, ListsSome-prefix}
 use Rattle.sparse_complex.proofs.slices.AlexSlice.sources_of.Goals as goal
 
-pub returns : goal.returns
-returns c =
-    let arrows = c.self.inside.arrows.items in
-    let all = take_all c.loop-a.a-index c.deref-a-items.result.now c.loop-a-test.false ∙ c.deref-a-items.ensures.value in
-    let same : (s : ℕ) → has_arrow arrows s c.args.y ≡ arrow (slice_complex c.args.self.now.slice) s c.args.y = λ s. sym (arrow-kept _ _ c.self.invariant s c.args.y) ∙ ap (λ state. arrow (slice_complex state.slice) s c.args.y) c.self.view_is in
-    let listed = ListsOnce-same _ (λ s. has_arrow arrows s c.args.y) (λ s. arrow (slice_complex c.args.self.now.slice) s c.args.y) same (ListsOnce-sources c.self.inside.arrows.items c.self.invariant.once c.args.y) in
-    subst (λ xs. ListsOnce xs (λ s. arrow (slice_complex c.args.self.now.slice) s c.args.y)) (sym (c.loop-a.invariant ∙ ap (λ as_read. map (λ a. a.x) (filter (λ a. eqb a.y c.args.y) as_read)) all)) listed
+pub returns-then-key-clause-all : goal.returns-then-key-clause-all
+returns-then-key-clause-all c =
+    let k = c.find_key-key.ensures ∙ ap (λ ks. key_of ks c.args.y) c.deref.ensures.value in
+    subst (λ xs. ListsOnce xs (λ s. arrow (slice_complex c.args.self.now.slice) s c.args.y)) (sym c.clear.ensures.items)
+    (subst (λ v. ListsOnce _ (λ s. arrow (slice_complex v.slice) s c.args.y)) c.self.view_is
+    (ListsOnce-none _ (λ s. no_arrow-to c.self.inside.keys.items c.self.inside.cells.items c.self.inside.links c.self.invariant.stored s c.args.y (sym k ∙ c.if-key.true))))
+
+pub returns-clause-all : goal.returns-clause-all
+returns-clause-all c =
+    let k = c.find_key-key.ensures ∙ ap (λ ks. key_of ks c.args.y) c.deref.ensures.value in
+    let listed = ListsOnce-sources c.self.inside.keys.items c.self.inside.cells.items c.self.inside.links c.self.invariant.stored c.args.y (live_is c.self.inside.keys.items c.args.y (λ e. c.if-key.false (k ∙ e))) in
+    on_ok_weaker c.push_sources.result (λ e. subst (λ xs. ListsOnce xs (λ s. arrow (slice_complex c.args.self.now.slice) s c.args.y)) (sym (e ∙ (λ i. c.clear.ensures.items i ++ map (code_at (c.deref-2.ensures.value i)) (sources c.self.inside.links (k i))))) (subst (λ v. ListsOnce (map (code_at c.self.inside.cells.items) (sources c.self.inside.links (key_of c.self.inside.keys.items c.args.y))) (λ s. arrow (slice_complex v.slice) s c.args.y)) c.self.view_is listed)) c.push_sources.ensures.all
+
+pub returns-clause-some : goal.returns-clause-some
+returns-clause-some c =
+    let k = c.find_key-key.ensures ∙ ap (λ ks. key_of ks c.args.y) c.deref.ensures.value in
+    let listed = ListsOnce-sources c.self.inside.keys.items c.self.inside.cells.items c.self.inside.links c.self.invariant.stored c.args.y (live_is c.self.inside.keys.items c.args.y (λ e. c.if-key.false (k ∙ e))) in
+    let those : ListsOnce (map (code_at c.self.inside.cells.items) (sources c.self.inside.links (key_of c.self.inside.keys.items c.args.y))) (λ s. arrow (slice_complex c.args.self.now.slice) s c.args.y) =
+    subst (λ v. ListsOnce (map (code_at c.self.inside.cells.items) (sources c.self.inside.links (key_of c.self.inside.keys.items c.args.y))) (λ s. arrow (slice_complex v.slice) s c.args.y)) c.self.view_is listed in
+    on_err_weaker c.push_sources.result (λ p.
+    ListsSome-prefix _ (map (code_at c.self.inside.cells.items) (sources c.self.inside.links (key_of c.self.inside.keys.items c.args.y))) (λ s. arrow (slice_complex c.args.self.now.slice) s c.args.y)
+    (subst (IsPrefix c.push_sources.new.into.items) (λ i. c.clear.ensures.items i ++ map (code_at (c.deref-2.ensures.value i)) (sources c.self.inside.links (k i))) p)
+    those) c.push_sources.ensures.some

@@ -1,8 +1,0 @@
--- The lists have the cells so far.
-use Rattle.f2_algebra.specs.Bigraded.{at_second}
-use Rattle.torus_geom.specs.GridComplex.{grid_complex}
-use Rattle.sparse_complex.specs.Built.{HasCodesBelow}
-use Rattle.sparse_complex.proofs.slices.AlexSlice.build.Given as goal
-
-abbrev pub invariant-loop-code : goal.invariant-loop-code
-invariant-loop-code l = HasCodesBelow (at_second l.fn.a (grid_complex l.g)) l.code l.cells.items l.arrows.items

@@ -1,7 +1,0 @@
--- The ends of the arrows so far.
-use Rattle.std.proofs.Common.{◌≡◌, eqb, map, take}
-use Rattle.std.specs.List.{filter}
-use Rattle.sparse_complex.proofs.slices.AlexSlice.sources_of.Given as goal
-
-abbrev pub invariant-loop-a : goal.invariant-loop-a
-invariant-loop-a l = l.into.items ≡ map (λ a. a.x) (filter (λ a. eqb a.y l.y) (take l.a-index l.a-items))
