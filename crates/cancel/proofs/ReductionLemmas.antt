@@ -1,6 +1,9 @@
 -- What one cancelled arrow adds to a log, and why the cancelling of arrows ends: two live codes leave
 -- each time.
 use Rattle.std.proofs.Common.{◌≡◌, ℕ, zero, suc, ℤ, ◌+◌, ◌<◌, Bool, true, false, not, cond, ◌&&◌, ◌||◌, eqb, List, [], ◌∷◌, ◌++◌, Option, Some, None, is_some, refl, sym, ap, subst, ◌∙◌, arith}
+use Rattle.std.specs.declared.result.Result.{Result}
+use Rattle.std.specs.declared.result.Result.TheVariants.{Ok, Err}
+use Rattle.std.specs.Result.{OnErr}
 use Rattle.std.specs.List.{All}
 use Rattle.std.specs.FinMap as fin
 use Rattle.std.proofs.lemmas.Bool.{false≢true}
@@ -13,7 +16,7 @@ use Rattle.f2_algebra.specs.Slice.{Slice, slice_complex, degree_in, targets_in, 
 use Rattle.f2_algebra.proofs.Sets.{any-is, same_chain, holds-nothing, holds-of_codes, holds-where_code, cardinality, cardinality-without}
 use Rattle.f2_algebra.proofs.Tables.{same}
 use Rattle.cancel.specs.declared.logs.LogEntry.{LogEntry}
-use Rattle.cancel.specs.Logs.{entry_of, log_of, HasEachOnce}
+use Rattle.cancel.specs.Logs.{entry_of, log_of, HasEachOnce, IsLeftOf}
 
 -- ---- one more entry
 -- a log that stands, with an entry of what is left after it, stands
@@ -48,6 +51,19 @@ LeadsTo-push first now next entries e so_far fits once left = record {
     alone : All HasEachOnce (e ∷ [])
     alone zero d l = once
     alone (suc k) d l = absurd (omega arith)
+
+-- what holds is left after an error too
+pub on_err-from : {T E P : Type 0} (r : Result T E) → P → OnErr r P
+on_err-from (Ok v) p = tt
+on_err-from (Err e) p = p
+
+-- what is left when a log breaks off
+pub LeadsTo_IsLeftOf : (first now next : Slice) (entries : List LogEntry) → LeadsTo first now entries → next ≡ now → IsLeftOf first next
+LeadsTo_IsLeftOf first now next entries so_far same = record {
+  log = log_of entries;
+  stands = so_far.stands;
+  is_after = ap slice_complex same ∙ so_far.is_after;
+}
 
 -- where no arrow is left, the slice is reduced
 pub LeadsTo_IsReduced : (first now : Slice) (entries : List LogEntry) → LeadsTo first now entries → ((s t : ℕ) → arrow (slice_complex now) s t ≡ false) → IsReduced first now (log_of entries)

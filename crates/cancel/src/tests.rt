@@ -1,6 +1,7 @@
 //! A slice of a small grid, built and reduced, and each allocation refused in turn
 //! (`rt try --test --fail-alloc N`).
 use crate::reduce;
+use bumpalo::Bump;
 use sparse_complex::AlexSlice;
 use std::test::Fail;
 use torus_geom::Grid;
@@ -25,13 +26,14 @@ fn a_slice_of_an_unknot(rt: HostRuntime) -> Result<(), Fail> {
         assert_eq!(rt; slice.is_live(code), maslov.is_some(), "of {code}");
         assert_eq!(rt; slice.is_arrow(code, 2), has_arrow, "from {code}");
     }
-    let log = reduce(rt.alloc(), &mut slice)?;
+    let bump = Bump::new(rt.alloc());
+    let log = reduce(rt.alloc(), &mut slice, &bump)?;
     assert!(rt; slice.any_arrow().is_none());
     assert_eq!(rt; log.entries().len(), 1);
     let entry = log.entries().first().ok_or("entry")?;
     assert_eq!(rt; entry.y, 2);
-    assert_eq!(rt; entry.sources.codes().len(), 2);
-    assert!(rt; entry.targets.codes().is_empty());
+    assert_eq!(rt; entry.sources.len(), 2);
+    assert!(rt; entry.targets.is_empty());
     for (code, maslov, _) in table {
         let stays = code != entry.x && code != entry.y;
         assert_eq!(rt;

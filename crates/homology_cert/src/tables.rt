@@ -8,6 +8,7 @@ ghost use Rattle.homology_cert.specs.Tables.{homology_row, HasSmallDegrees, HasS
 ghost use Rattle.homology_cert.specs.Places.{AreSmall, AreRows, AreRanksAt};
 
 use crate::counts::{DEGREES, alexander_degrees, cell_counts, degree_at, state_count};
+use bumpalo::Bump;
 use cancel::reduce;
 use grid_ports::NoMemory;
 use hat_division::{Table, TableRow};
@@ -84,6 +85,7 @@ fn ranks_of_slice(
     requires built { slice_complex slice.slice ≡ at_second a (grid_complex g.now) }
     ensures { IfOk result (λ v. AreRanksAt g.now a v.items) }
 {
-    reduce(alloc, &mut slice)?;
+    let bump = Bump::new(alloc);
+    reduce(alloc, &mut slice, &bump)?;
     cell_counts(alloc, &slice, state_count(g.size()))
 }

@@ -1,18 +1,24 @@
--- The sources are listed once, and the source of the arrow is taken out.
-use Rattle.std.proofs.Common.{◌≢◌, ℕ, not, ◌&&◌, eqb, List, sym, subst, ◌∙◌}
+-- The sources are listed once, and one of them is taken out.
+use Rattle.std.proofs.Common.{◌≡◌, ◌≢◌, ℕ, not, ◌&&◌, eqb, List, sym, subst, ◌∙◌}
 use Rattle.std.specs.List.{AllPairs}
+use Rattle.std.proofs.lemmas.Result.{IfOk-weaker}
+use Rattle.f2_algebra.specs.Chain.{holds, of_codes}
 use Rattle.f2_algebra.specs.Complex.{arrow}
 use Rattle.f2_algebra.specs.Slice.{slice_complex}
 use Rattle.sparse_complex.specs.Slices.{ListsOnce}
-use Rattle.cancel.proofs.ListLemmas.{ListsOnce-without}
+use Rattle.cancel.proofs.ListLemmas.{holds-listed}
 use Rattle.cancel.proofs.reductions.other_sources.Goals as goal
 
-pub of_once-requires : goal.of_once-requires
-of_once-requires c =
-    let listed = ListsOnce-without _ (λ s. arrow (slice_complex c.args.slice.now.slice) s c.args.gone.y) c.args.gone.x c.in_ok-sources_of.ensures.all in
-    subst (AllPairs (λ b c. b ≢ c)) (sym c.remove_code.ensures) listed.once
+pub returns-clause-codes : goal.returns-clause-codes
+returns-clause-codes c =
+    let listed : ListsOnce c.remove_code.new.list.items (λ s. arrow (slice_complex c.args.slice.now.slice) s c.args.gone.y && not (eqb s c.args.gone.x)) =
+    c.remove_code.ensures (λ s. arrow (slice_complex c.args.slice.now.slice) s c.args.gone.y) c.in_ok-sources_of.ensures.all in
+    IfOk-weaker c.placed.result _ (λ list. (s : ℕ) → holds (of_codes list.now) s ≡ (arrow (slice_complex c.args.slice.now.slice) s c.args.gone.y && not (eqb s c.args.gone.x))) (λ list e.
+    holds-listed list.now (λ s. arrow (slice_complex c.args.slice.now.slice) s c.args.gone.y && not (eqb s c.args.gone.x)) (subst (λ xs. ListsOnce xs (λ s. arrow (slice_complex c.args.slice.now.slice) s c.args.gone.y && not (eqb s c.args.gone.x))) (sym (e ∙ c.deref.ensures.value)) listed)) c.placed.ensures
 
-pub returns : goal.returns
-returns c =
-    let listed = ListsOnce-without _ (λ s. arrow (slice_complex c.args.slice.now.slice) s c.args.gone.y) c.args.gone.x c.in_ok-sources_of.ensures.all in
-    subst (λ (xs : List ℕ). ListsOnce xs (λ s. arrow (slice_complex c.args.slice.now.slice) s c.args.gone.y && not (eqb s c.args.gone.x))) (sym (c.of_once.ensures ∙ c.remove_code.ensures)) listed
+pub returns-clause-once : goal.returns-clause-once
+returns-clause-once c =
+    let listed : ListsOnce c.remove_code.new.list.items (λ s. arrow (slice_complex c.args.slice.now.slice) s c.args.gone.y && not (eqb s c.args.gone.x)) =
+    c.remove_code.ensures (λ s. arrow (slice_complex c.args.slice.now.slice) s c.args.gone.y) c.in_ok-sources_of.ensures.all in
+    IfOk-weaker c.placed.result _ (λ list. AllPairs (λ b c. b ≢ c) list.now) (λ list e.
+    subst (AllPairs (λ b c. b ≢ c)) (sym (e ∙ c.deref.ensures.value)) listed.once) c.placed.ensures

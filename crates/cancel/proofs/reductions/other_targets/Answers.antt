@@ -1,18 +1,24 @@
--- The targets are listed once, and the target of the arrow is taken out.
-use Rattle.std.proofs.Common.{◌≢◌, ℕ, not, ◌&&◌, eqb, List, sym, subst, ◌∙◌}
+-- The targets are listed once, and one of them is taken out.
+use Rattle.std.proofs.Common.{◌≡◌, ◌≢◌, ℕ, not, ◌&&◌, eqb, List, sym, subst, ◌∙◌}
 use Rattle.std.specs.List.{AllPairs}
+use Rattle.std.proofs.lemmas.Result.{IfOk-weaker}
+use Rattle.f2_algebra.specs.Chain.{holds, of_codes}
 use Rattle.f2_algebra.specs.Complex.{arrow}
 use Rattle.f2_algebra.specs.Slice.{slice_complex}
 use Rattle.sparse_complex.specs.Slices.{ListsOnce}
-use Rattle.cancel.proofs.ListLemmas.{ListsOnce-without}
+use Rattle.cancel.proofs.ListLemmas.{holds-listed}
 use Rattle.cancel.proofs.reductions.other_targets.Goals as goal
 
-pub of_once-requires : goal.of_once-requires
-of_once-requires c =
-    let listed = ListsOnce-without _ (arrow (slice_complex c.args.slice.now.slice) c.args.gone.x) c.args.gone.y c.in_ok-targets_of.ensures.all in
-    subst (AllPairs (λ b c. b ≢ c)) (sym c.remove_code.ensures) listed.once
+pub returns-clause-codes : goal.returns-clause-codes
+returns-clause-codes c =
+    let listed : ListsOnce c.remove_code.new.list.items (λ t. arrow (slice_complex c.args.slice.now.slice) c.args.gone.x t && not (eqb t c.args.gone.y)) =
+    c.remove_code.ensures (arrow (slice_complex c.args.slice.now.slice) c.args.gone.x) c.in_ok-targets_of.ensures.all in
+    IfOk-weaker c.placed.result _ (λ list. (t : ℕ) → holds (of_codes list.now) t ≡ (arrow (slice_complex c.args.slice.now.slice) c.args.gone.x t && not (eqb t c.args.gone.y))) (λ list e.
+    holds-listed list.now (λ t. arrow (slice_complex c.args.slice.now.slice) c.args.gone.x t && not (eqb t c.args.gone.y)) (subst (λ xs. ListsOnce xs (λ t. arrow (slice_complex c.args.slice.now.slice) c.args.gone.x t && not (eqb t c.args.gone.y))) (sym (e ∙ c.deref.ensures.value)) listed)) c.placed.ensures
 
-pub returns : goal.returns
-returns c =
-    let listed = ListsOnce-without _ (arrow (slice_complex c.args.slice.now.slice) c.args.gone.x) c.args.gone.y c.in_ok-targets_of.ensures.all in
-    subst (λ (xs : List ℕ). ListsOnce xs (λ t. arrow (slice_complex c.args.slice.now.slice) c.args.gone.x t && not (eqb t c.args.gone.y))) (sym (c.of_once.ensures ∙ c.remove_code.ensures)) listed
+pub returns-clause-once : goal.returns-clause-once
+returns-clause-once c =
+    let listed : ListsOnce c.remove_code.new.list.items (λ t. arrow (slice_complex c.args.slice.now.slice) c.args.gone.x t && not (eqb t c.args.gone.y)) =
+    c.remove_code.ensures (arrow (slice_complex c.args.slice.now.slice) c.args.gone.x) c.in_ok-targets_of.ensures.all in
+    IfOk-weaker c.placed.result _ (λ list. AllPairs (λ b c. b ≢ c) list.now) (λ list e.
+    subst (AllPairs (λ b c. b ≢ c)) (sym (e ∙ c.deref.ensures.value)) listed.once) c.placed.ensures

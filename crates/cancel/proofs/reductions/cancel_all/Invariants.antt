@@ -1,6 +1,6 @@
 -- The entries so far lead to the slice as it stands; two live codes leave each time.
 use Rattle.cancel.proofs.ReductionLemmas.{LeadsTo, live_count}
-use Rattle.cancel.proofs.reductions.reduce.Given as goal
+use Rattle.cancel.proofs.reductions.cancel_all.Given as goal
 
 abbrev pub invariant-loop-arrow : goal.invariant-loop-arrow
 invariant-loop-arrow l = LeadsTo l.initial.slice.slice l.slice.slice l.entries.items
