@@ -1,7 +1,7 @@
 -- Building a slice: its cells, code by code; their keys; and the arrows, cell by cell.
-use Rattle.std.proofs.Common.{◌≡◌, ℕ, zero, suc, ℤ, pos, ◌+ℤ◌, ◌+◌, ◌*◌, ◌^◌, add-one, ◌<◌, ◌≤◌, Bool, true, false, not, cond, ◌&&◌, ◌||◌, eqb, ltb, List, [], ◌∷◌, ◌++◌, map, length, length-append, take, le_trans, get_or, set, length-set, replicate, Option, Some, None, is_some, ◌⊎◌, inl, inr, refl, sym, ap, ap₂, subst, ◌∙◌, arith}
+use Rattle.std.proofs.Common.{◌≡◌, ℕ, zero, suc, ℤ, pos, ◌+ℤ◌, ◌+◌, ◌*◌, ◌^◌, ◌<◌, ◌≤◌, Bool, true, false, not, cond, ◌&&◌, ◌||◌, eqb, ltb, List, [], ◌∷◌, ◌++◌, map, length, length-append, take, le_trans, get_or, set, length-set, replicate, Option, Some, None, is_some, ◌⊎◌, inl, inr, refl, sym, ap, ap₂, subst, ◌∙◌, arith}
+use Rattle.std.specs.Prelude.{IsTrue, ◌↔◌}
 use Rattle.std.specs.List.Sorted.{IsPermutation}
-use Rattle.std.proofs.Math.Nat.{mul_comm}
 use Rattle.std.proofs.lemmas.List.{length-replicate, take_more, map-append}
 use Rattle.std.proofs.lemmas.Bool.{eq-eqb, eqb-true, ne_eqb, lt-ltb, ltb-true, ltb-false, true≢false, and_parts, and_from}
 use Rattle.std.proofs.lemmas.List.Elements.{All-nil, All-push}
@@ -20,6 +20,7 @@ use Rattle.torus_geom.specs.Marks.{Marks, size, IsGrid}
 use Rattle.torus_geom.specs.Border.{border_of_state}
 use Rattle.torus_geom.specs.GridComplex.{grid_complex}
 use Rattle.state_rank.proofs.LehmerLemmas.{factorial_grows}
+use Rattle.state_rank.proofs.RankLemmas.{length-unrank, rank-unrank}
 use Rattle.sparse_complex.specs.declared.links.Links.{Links}
 use Rattle.sparse_complex.specs.declared.slices.Cell.{Cell}
 use Rattle.sparse_complex.specs.Inner.Lists.{among, AreDistinct, linked_heads}
@@ -33,20 +34,31 @@ use Rattle.sparse_complex.proofs.KeptLemmas.{degree-slice_of, arrow-stored, live
 use Rattle.sparse_complex.proofs.CancelLemmas.{key_of-set}
 use Rattle.sparse_complex.proofs.GridPartLemmas.{targets-live, no_cell_past, part_rules}
 
--- ---- the number of states
--- one more factor
-pub factorial-next : (k : ℕ) → factorial (k + 1) ≡ factorial k * (k + 1)
-unfolding factorial
-factorial-next k = ap factorial (add-one k) ∙ mul_comm (suc k) (factorial k) ∙ ap (λ m. factorial k * m) (sym (add-one k))
-
--- no factorial is too large on the way
-pub factorial_fits-next : (k n : ℕ) → k < n → n ≤ MAX_SIZE → factorial k * (k + 1) < 2 ^ 31
-unfolding factorial
-factorial_fits-next k n l m = let grown = factorial_grows (k + 1) MAX_SIZE (omega arith) in let next = factorial-next k in omega arith
-
+-- ---- the visit of the states
+-- the number of states is not large
 pub factorial_fits : (n : ℕ) → n ≤ MAX_SIZE → factorial n < 2 ^ 31
 unfolding factorial
 factorial_fits n m = let grown = factorial_grows n MAX_SIZE m in omega arith
+
+-- while states are left, x is the state of the rank `code`
+abbrev pub IsVisited : ℕ → ℕ → List ℕ → Type 0
+IsVisited n code x = code < factorial n → x ≡ unrank n code
+
+-- the state after a step, or the last state, where there is no step
+pub visited-next : (n code : ℕ) (old new : List ℕ) (went : Bool) → code < factorial n → IsVisited n code old
+    → (IsTrue went → new ≡ unrank (length old) (rank old + 1)) → (IsTrue (not went) ↔ (rank old + 1 ≡ factorial (length old))) → IsVisited n (code + 1) new
+visited-next n code old new went below visited steps last more =
+    let old_is = visited below in
+    let long : length old ≡ n = ap length old_is ∙ length-unrank n code below in
+    let place : rank old ≡ code = ap rank old_is ∙ rank-unrank n code below in
+    steps (by went last long place) ∙ (λ i. unrank (long i) (place i + 1))
+  where
+    by : (b : Bool) → (IsTrue (not b) ↔ (rank old + 1 ≡ factorial (length old))) → length old ≡ n → rank old ≡ code → IsTrue b
+    by true last long place = refl
+    by false last long place =
+        let end : rank old + 1 ≡ factorial (length old) = last.0 refl in
+        let bound : factorial (length old) ≡ factorial n = ap factorial long in
+        absurd (omega arith)
 
 -- ---- cells of a code
 ltb-next : (c n : ℕ) → ltb c (n + 1) ≡ (ltb c n || eqb c n)

@@ -2,7 +2,7 @@
 ghost use Rattle.std.specs.Prelude.{◌≡◌, ◌≤◌, ◌<◌, ◌+◌, length, IfOk, OnOk};
 ghost use Rattle.f2_algebra.specs.Bigraded.{at_second};
 ghost use Rattle.f2_algebra.specs.Slice.{slice_complex};
-ghost use Rattle.state_rank.specs.States.{factorial};
+ghost use Rattle.state_rank.specs.States.{factorial, unrank};
 ghost use Rattle.torus_geom.specs.Marks.{size};
 ghost use Rattle.torus_geom.specs.GridComplex.{grid_complex};
 ghost use Rattle.sparse_complex.specs.Inner.Graph.{code_at, width};
@@ -10,10 +10,10 @@ ghost use Rattle.sparse_complex.specs.Inner.Built.{AreCells, AreKeys, AreLinksBe
 
 use crate::links::Links;
 use crate::slices::{AlexSlice, Cell, NO_KEY};
-use gradings::degree;
+use gradings::DegreeTables;
 use grid_ports::NoMemory;
 use rectangles::targets;
-use state_rank::{MAX_SIZE, State};
+use state_rank::{State, state_count};
 use std::alloc::Global;
 use torus_geom::Grid;
 
@@ -23,7 +23,8 @@ impl AlexSlice {
     /// Live are the ranks of the states of this Alexander degree, each with its Maslov degree by the O;
     /// a state has arrows to the states of its border, all of which have the same Alexander degree
     /// (Ozsváth, Stipsicz and Szabó, "Grid Homology for Knots and Links", chapter 4). Where no state has
-    /// the degree, no code is live. All n! states are visited, where n is the size of `g`.
+    /// the degree, no code is live. All n! states are visited, where n is the size of `g`, each by a step
+    /// from the one before.
     ///
     /// # Errors
     ///
@@ -39,42 +40,41 @@ impl AlexSlice {
     }
 }
 
-// The number of states of size `n`.
-fn state_count(n: u8) -> u32
-    requires { n ≤ MAX_SIZE }
-    ensures { result ≡ factorial n }
-{
-    let mut count = 1;
-    for k in 0..n {
-        count *= u32::from(k) + 1;
-    }
-    count
-}
-
 // The cells of the degree `a`, by Maslov degree, and by code among those of one degree.
 fn cells_of(alloc: Global, g: &Grid, a: i32) -> Result<Vec<Cell>, NoMemory>
     ensures { IfOk result (λ cells. AreCells (at_second a (grid_complex g.now)) (factorial (size g.now)) cells.items) }
 {
+    let tables = DegreeTables::of(g);
     let mut cells = Vec::new(alloc);
+    let mut x = State::unrank(g.size(), 0);
     for code in 0..state_count(g.size()) {
-        push_cell(g, a, code, &mut cells)?;
+        push_cell(&tables, a, code, &x, &mut cells)?;
+        x.advance();
     }
     cells.sort_by_key(|cell| cell.maslov)?;
     Ok(cells)
 }
 
-// Appends the cell of the state of rank `code`, if its Alexander degree is `a`.
-fn push_cell(g: &Grid, a: i32, code: u32, cells: &mut Vec<Cell>) -> Result<(), NoMemory>
-    requires rank { code < factorial (size g.now) }
-    requires below { AreCells (at_second a (grid_complex g.now)) code cells.old.items }
-    ensures { OnOk result (AreCells (at_second a (grid_complex g.now)) (code + 1) cells.new.items) }
+// Appends the cell of `x`, the state of rank `code`, if its Alexander degree is `a`.
+fn push_cell(
+    tables: &DegreeTables,
+    a: i32,
+    code: u32,
+    x: &State,
+    cells: &mut Vec<Cell>,
+) -> Result<(), NoMemory>
+    requires rank { code < factorial (size tables.now) }
+    requires state { x.now ≡ unrank (size tables.now) code }
+    requires below { AreCells (at_second a (grid_complex tables.now)) code cells.old.items }
+    ensures { OnOk result (AreCells (at_second a (grid_complex tables.now)) (code + 1) cells.new.items) }
 {
-    let x = State::unrank(g.size(), code);
-    let d = degree(g, &x);
-    if d.a != a {
+    if tables.alexander(x) != a {
         return Ok(());
     }
-    cells.push(Cell { code, maslov: d.m })?;
+    cells.push(Cell {
+        code,
+        maslov: tables.maslov(x),
+    })?;
     Ok(())
 }
 
