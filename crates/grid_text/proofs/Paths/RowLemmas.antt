@@ -5,7 +5,7 @@ use Rattle.std.proofs.Common.{◌≡◌, ◌≢◌, ℕ, zero, suc, ◌+◌, ◌
 use Rattle.std.specs.Prelude.{is_none}
 use Rattle.std.specs.List.{list_any, zip, Contains, All}
 use Rattle.std.specs.Fmt.{decimal}
-use Rattle.std.proofs.lemmas.Bool.{cases_Bool}
+use Rattle.std.proofs.lemmas.Bool.{cases_Bool, or_parts}
 use Rattle.std.proofs.lemmas.List.{length-map, length-replicate, map-append, take_more_set}
 use Rattle.std.proofs.lemmas.List.Elements.{All-push, All-contains, Contains-get_or}
 use Rattle.std.proofs.Math.Bool.{or-false}
@@ -22,7 +22,7 @@ use Rattle.grid_text.specs.Faults.{Kind, Form, exactly, number_between, is_bad, 
 use Rattle.grid_text.specs.Inner.Reading.{IsRowPlace, AreNumerals}
 use Rattle.grid_text.specs.declared.faults.TextFault.TheVariants as fault
 use Rattle.grid_text.proofs.Lines.WordLemmas.{is_word-same, same_word, is_word-other}
-use Rattle.grid_text.proofs.Lines.KindLemmas.{or_parts, list_any-never, count-other, count-same, count-right, one_word, number_of_word, number-good}
+use Rattle.grid_text.proofs.Lines.KindLemmas.{list_any-never, count-other, count-same, count-right, one_word, number_of_word, number-good}
 use Rattle.grid_text.proofs.Lines.SeenLemmas.{seen, seen-more, seen-all}
 use Rattle.grid_text.proofs.States.RepeatedLemmas.{has_repeated-bijection, bijection-has_repeated, below-IsBijection}
 use Rattle.grid_text.proofs.Lines.FaultLemmas.{NoRowHolds, NoRowHolds-from_none, fault_at-no_word, fault_at-bad_word, fault_at-last, fault_at-count, fault_at-number, fault_at-permutation, fault_at-square}

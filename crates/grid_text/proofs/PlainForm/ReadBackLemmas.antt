@@ -6,7 +6,7 @@ use Rattle.std.specs.Prelude.{nat_le}
 use Rattle.std.specs.List.{filter, flat_map}
 use Rattle.std.proofs.lemmas.List.Sorted.{IsPermutation-refl}
 use Rattle.std.specs.Fmt.{decimal}
-use Rattle.std.proofs.lemmas.Bool.{ne_eqb}
+use Rattle.std.proofs.lemmas.Bool.{and_parts, ne_eqb}
 use Rattle.std.proofs.lemmas.Fmt.{decimal_digit}
 use Rattle.state_rank.specs.States.{state_word}
 use Rattle.state_rank.proofs.MemberLemmas.{member_head, member_tail}
@@ -139,10 +139,6 @@ clean_high (b ∷ w) e =
     let high : 33 ≤ b = grind (arith, nat_tests) in
     let other = other_byte b high in
     (other.0, other.1, clean_high w (and_parts (nat_le 33 b) (list_all (λ b. nat_le 33 b) w) e).1)
-  where
-    and_parts : (a b : Bool) → (a && b) ≡ true → (a ≡ true) × (b ≡ true)
-    and_parts true b e = (refl, e)
-    and_parts false b e = absurd (true≢false (sym e))
 
 closed : (w : Word) → list_all (λ b. nat_le 33 b) w ≡ true → 0 < length w → IsPlainWord w
 closed w e some = (clean_high w e, some)
