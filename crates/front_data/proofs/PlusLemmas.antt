@@ -9,7 +9,7 @@ use Rattle.f2_algebra.proofs.Tables.{and-true}
 use Rattle.state_rank.specs.Bijection.{column_of}
 use Rattle.state_rank.proofs.BijectionLemmas.{IsOneToOne, column_of-one_to_one, column_of-below, row-column_of, column_of-is}
 use Rattle.torus_geom.specs.Counts.{one_if, sum_below, count_below}
-use Rattle.torus_geom.specs.Front.{one_up, one_down}
+use Rattle.torus_geom.specs.Range.{one_up, one_down}
 use Rattle.torus_geom.proofs.SumLemmas.{sum_below_same, sum_below_vanishes, balanced_sum, sum_below_but_two, sum_below-at_only, at_only, sum_below_reindex}
 use Rattle.torus_geom.proofs.PairLemmas.{pairs, maslov_by_pairs, lower_left, count_below-ltb, count_below-rows}
 use Rattle.torus_geom.proofs.RowPairLemmas.{pairs_same, pairs-column_of}

@@ -3,13 +3,10 @@ ghost use Rattle.std.specs.Prelude.{◌≡◌, ◌<◌, pos, ◌+ℤ◌, ◌-ℤ
 ghost use Rattle.f2_algebra.specs.Chain.{nothing};
 ghost use Rattle.torus_geom.specs.Border.{border_of_state};
 ghost use Rattle.torus_geom.specs.Degrees.{maslov_o};
-ghost use Rattle.torus_geom.specs.Front.{thurston_bennequin, rotation, one_up as one_up_of, one_down as one_down_of, plus_state as plus_state_of, minus_state as minus_state_of};
+ghost use Rattle.torus_geom.specs.Front.{thurston_bennequin, rotation, plus_state as plus_state_of, minus_state as minus_state_of};
 
-use state_rank::{MAX_SIZE, State};
-use torus_geom::Grid;
-
-/// The room for the rows of a state of any size.
-const ROOM: usize = MAX_SIZE as usize;
+use state_rank::{ROOM, State};
+use torus_geom::{Grid, one_down, one_up};
 
 /// The state x+ of `g`: the NE corners of the squares with an X.
 ///
@@ -46,25 +43,7 @@ pub fn minus_state(g: &Grid) -> State
     ensures degree { maslov_o g.now (minus_state_of g.now)
         ≡ thurston_bennequin g.now +ℤ rotation g.now +ℤ pos 1 }
 {
-    State::of(g.x_rows()).unwrap()
-}
-
-// The circle after `i`.
-fn one_up(n: u8, i: u8) -> u8
-    requires { i < n }
-    ensures value { result ≡ one_up_of n i }
-    ensures below { result < n }
-{
-    if i + 1 < n { i + 1 } else { 0 }
-}
-
-// The circle before `i`.
-fn one_down(n: u8, i: u8) -> u8
-    requires { i < n }
-    ensures value { result ≡ one_down_of n i }
-    ensures below { result < n }
-{
-    if i == 0 { n - 1 } else { i - 1 }
+    g.x_state()
 }
 
 #[cfg(test)]

@@ -20,7 +20,8 @@ use Rattle.torus_geom.proofs.HalfLemmas.{int_div-double}
 use Rattle.gradings.specs.Inner.Tables.{left_below, pairs_of, entry, half_of_marks, IsTables}
 use Rattle.gradings.specs.declared.tables.DegreeTables.TheInside.{Inside}
 use Rattle.gradings.proofs.MaslovLemmas.{count_below-take, alexander_weight, alexander-linear}
-use Rattle.gradings.proofs.EvennessLemmas.{components-count, doubled_alexander_even, two-alexander}
+use Rattle.torus_geom.proofs.ComponentLemmas.{components-count}
+use Rattle.gradings.proofs.EvennessLemmas.{doubled_alexander_even, two-alexander}
 use Rattle.gradings.proofs.DegreeReads.{IsSmall}
 
 -- ---- filling an array
@@ -127,7 +128,7 @@ module _ (g : Marks) (grid : IsGrid g) where
   -- there are no more components than columns
   pub components_few : pos (components g) ≤ℤ pos (size g)
   components_few =
-      let count = components-count g grid in
+      let count = components-count g in
       let few = count_below_up_to (size g) (is_first g) in
       let high = few.1 in
       omega (arith, ints)

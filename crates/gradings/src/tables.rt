@@ -7,11 +7,9 @@ ghost use Rattle.torus_geom.specs.Degrees.{maslov_o as maslov_o_of, alexander as
 ghost use Rattle.gradings.specs.Inner.Tables.{left_below, pairs_of, weight};
 
 use crate::degrees::{Bidegree, GREATEST_DEGREE, below, half};
-use state_rank::{MAX_SIZE, State};
+use state_rank::{MAX_SIZE, ROOM, State};
 use std::marker::Model;
 use torus_geom::Grid;
-
-const LENGTH: usize = MAX_SIZE as usize;
 
 // What is added to each weight, so that none is below 0.
 const SHIFT: i32 = MAX_SIZE as i32;
@@ -25,9 +23,9 @@ const SHIFT: i32 = MAX_SIZE as i32;
 pub struct DegreeTables {
     grid: Grid,
     // how many O are left of and below the point of a state at each column and row
-    o_below: [[u8; LENGTH]; LENGTH],
+    o_below: [[u8; ROOM]; ROOM],
     // how many X are there less how many O, and `MAX_SIZE` more
-    weights: [[u8; LENGTH]; LENGTH],
+    weights: [[u8; ROOM]; ROOM],
     maslov_of_marks: i32,
     alexander_of_marks: i32,
 }
@@ -103,12 +101,12 @@ impl DegreeTables {
 }
 
 // How many O are left of each column and below each row.
-fn o_table(o: &[u8]) -> [[u8; LENGTH]; LENGTH]
+fn o_table(o: &[u8]) -> [[u8; ROOM]; ROOM]
     requires { length o.now ≤ MAX_SIZE }
     ensures { (c r : ℕ) → c < length o.now → r < MAX_SIZE
         → pos (slice_index (slice_index_or result c []) r) ≡ left_below (length o.now) o.now c r }
 {
-    let mut table = [[0; LENGTH]; LENGTH];
+    let mut table = [[0; ROOM]; ROOM];
     for c in 0..o.len() {
         table[c] = counts_below(&o[..c]);
     }
@@ -116,13 +114,13 @@ fn o_table(o: &[u8]) -> [[u8; LENGTH]; LENGTH]
 }
 
 // How many X are left of each column and below each row less how many O, and `MAX_SIZE` more.
-fn weight_table(o: &[u8], x: &[u8]) -> [[u8; LENGTH]; LENGTH]
+fn weight_table(o: &[u8], x: &[u8]) -> [[u8; ROOM]; ROOM]
     requires room { length o.now ≤ MAX_SIZE }
     requires one_size { length x.now ≡ length o.now }
     ensures { (c r : ℕ) → c < length o.now → r < MAX_SIZE
         → pos (slice_index (slice_index_or result c []) r) ≡ weight (length o.now) o.now x.now c r }
 {
-    let mut table = [[0; LENGTH]; LENGTH];
+    let mut table = [[0; ROOM]; ROOM];
     for c in 0..o.len() {
         table[c] = column_weights(&o[..c], &x[..c]);
     }
@@ -130,12 +128,12 @@ fn weight_table(o: &[u8], x: &[u8]) -> [[u8; LENGTH]; LENGTH]
 }
 
 // How many of the rows are below each row.
-fn counts_below(rows: &[u8]) -> [u8; LENGTH]
+fn counts_below(rows: &[u8]) -> [u8; ROOM]
     requires { length rows.now ≤ MAX_SIZE }
     ensures { (r : ℕ) → r < MAX_SIZE
         → pos (slice_index result r) ≡ count_below (length rows.now) (λ d. nat_lt (slice_index rows.now d) r) }
 {
-    let mut counts = [0; LENGTH];
+    let mut counts = [0; ROOM];
     for r in 0..MAX_SIZE {
         counts[r as usize] = below(rows, r) as u8;
     }
@@ -143,7 +141,7 @@ fn counts_below(rows: &[u8]) -> [u8; LENGTH]
 }
 
 // How many of the rows `x` are below each row, less how many of the rows `o`, and `MAX_SIZE` more.
-fn column_weights(o: &[u8], x: &[u8]) -> [u8; LENGTH]
+fn column_weights(o: &[u8], x: &[u8]) -> [u8; ROOM]
     requires o { length o.now ≤ MAX_SIZE }
     requires x { length x.now ≤ MAX_SIZE }
     ensures { (r : ℕ) → r < MAX_SIZE
@@ -151,7 +149,7 @@ fn column_weights(o: &[u8], x: &[u8]) -> [u8; LENGTH]
         +ℤ (count_below (length x.now) (λ d. nat_lt (slice_index x.now d) r)
         -ℤ count_below (length o.now) (λ d. nat_lt (slice_index o.now d) r)) }
 {
-    let mut weights = [0; LENGTH];
+    let mut weights = [0; ROOM];
     for r in 0..MAX_SIZE {
         weights[r as usize] = (SHIFT + below(x, r) - below(o, r)) as u8;
     }
@@ -175,7 +173,7 @@ fn pairs(rows: &[u8]) -> i32
 
 // The sum of the entries at the points of a state.
 #[inline]
-fn table_sum(table: &[[u8; LENGTH]; LENGTH], rows: &[u8]) -> u32
+fn table_sum(table: &[[u8; ROOM]; ROOM], rows: &[u8]) -> u32
     requires state { IsBijection (length rows.now) rows.now }
     requires room { length rows.now ≤ MAX_SIZE }
     ensures value { pos result ≡ sum_below (length rows.now) (λ c. pos (slice_index (slice_index_or table.now c []) (slice_index rows.now c))) }

@@ -1,11 +1,10 @@
 -- A grid with two columns exchanged is a grid.
-use Rattle.std.proofs.Common.{◌≡◌, ℕ, ◌<◌, ◌≤◌, List, take, length, swap, ap, ◌∙◌, sym, arith, subst}
+use Rattle.std.proofs.Common.{◌≡◌, ℕ, ◌<◌, List, swap, ap, ◌∙◌, sym, arith, subst}
 use Rattle.std.proofs.lemmas.List.Edits.{length-swap}
-use Rattle.std.proofs.lemmas.List.{length-take}
 use Rattle.state_rank.specs.Bijection.{IsBijection, IsSize}
-use Rattle.state_rank.proofs.SwapLemmas.{IsBijection-swap, slice_index-swap, exchanged, exchanged_below, take-swap}
+use Rattle.state_rank.proofs.SwapLemmas.{IsBijection-swap, slice_index-swap, exchanged, exchanged_below}
 use Rattle.torus_geom.specs.Marks.{Marks, size, IsGrid}
-use Rattle.torus_geom.specs.Front.{one_down}
+use Rattle.torus_geom.specs.Range.{one_down}
 use Rattle.grid_moves.specs.Moves.{swapped_columns}
 use Rattle.torus_geom.proofs.TurnLemmas.{one_down_below}
 
@@ -29,26 +28,10 @@ IsGrid-swapped_columns g c grid l = record {
     long : size (swapped_columns g c) ≡ size g
     long = length-swap g.o b c
 
--- an array that begins with a list, with two places exchanged
-pub take-swap_in_front : (rows all : List ℕ) (a b : ℕ) → a < length rows → b < length rows
-    → take (length rows) all ≡ rows → take (length rows) (swap all a b) ≡ swap rows a b
-take-swap_in_front rows all a b la lb e =
-    let long : length (take (length rows) all) ≡ length rows = ap length e in
-    let fits : length rows ≤ length all = omega (arith, length-take (length rows) all) in
-    take-swap (length rows) all a b fits la lb ∙ ap (λ z. swap z a b) e
-
--- two arrays that begin with the exchanged lists of marks
-pub take-swapped_marks : (g : Marks) (c n b : ℕ) (o x : List ℕ) → IsGrid g → n ≡ size g → b ≡ one_down n c
-    → (o_rows x_rows : List ℕ) → o_rows ≡ g.o → x_rows ≡ g.x
-    → take (length o_rows) o ≡ swap o_rows b c → take (length x_rows) x ≡ swap x_rows b c → record { o = take n o; x = take n x } ≡ swapped_columns g c
-take-swapped_marks g c n b o x grid e before o_rows x_rows is_o is_x eo ex =
-    (λ i. record { o = take (long_o i) o; x = take (long_x i) x })
-    ∙ (λ i. record { o = eo i; x = ex i })
+-- the exchanged states of the marks
+pub swapped_marks : (g : Marks) (c n b : ℕ) (o x o_rows x_rows : List ℕ) → n ≡ size g → b ≡ one_down n c → o_rows ≡ g.o → x_rows ≡ g.x
+    → o ≡ swap o_rows b c → x ≡ swap x_rows b c → record { o = o; x = x } ≡ swapped_columns g c
+swapped_marks g c n b o x o_rows x_rows e before is_o is_x eo ex =
+    (λ i. record { o = eo i; x = ex i })
     ∙ (λ i. record { o = swap (is_o i) b c; x = swap (is_x i) b c })
     ∙ ap (λ k. record { o = swap g.o k c; x = swap g.x k c }) (before ∙ ap (λ m. one_down m c) e)
-  where
-    long_o : n ≡ length o_rows
-    long_o = e ∙ sym (ap length is_o)
-
-    long_x : n ≡ length x_rows
-    long_x = e ∙ sym grid.x.long ∙ sym (ap length is_x)

@@ -12,7 +12,7 @@ use Rattle.state_rank.specs.Bijection.{tabulate}
 use Rattle.torus_geom.specs.Marks.{Marks, size}
 use Rattle.torus_geom.specs.Transposed.{transposed}
 use Rattle.torus_geom.specs.Range.{in_range}
-use Rattle.torus_geom.specs.Front.{one_up, one_down}
+use Rattle.torus_geom.specs.Range.{one_up, one_down}
 use Rattle.grid_moves.specs.declared.turns.Side.{Side}
 use Rattle.grid_moves.specs.declared.turns.Side.TheVariants.{Left, Right, Up, Down}
 use Rattle.grid_moves.specs.declared.commutations.Axis.{Axis}

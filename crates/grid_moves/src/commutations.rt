@@ -4,8 +4,7 @@ ghost use Rattle.state_rank.specs.Bijection.{IsBijection};
 ghost use Rattle.torus_geom.specs.Marks.{Marks, IsGrid, size};
 ghost use Rattle.grid_moves.specs.Moves.{are_commuting_columns as are_commuting_columns_of, swapped_columns as swapped_columns_of, are_commuting, swapped};
 
-use crate::turns::{ROOM, one_down};
-use torus_geom::{Grid, in_range};
+use torus_geom::{Grid, in_range, one_down};
 
 /// Whether columns or rows are exchanged.
 #[derive(Clone, Copy, PartialEq, Eq, Debug)]
@@ -29,28 +28,6 @@ fn are_commuting_columns(g: &Grid, c: u8) -> bool
     in_range(n, low, high, o) == in_range(n, low, high, x)
 }
 
-// An array that begins with the list.
-fn in_front(rows: &[u8]) -> [u8; ROOM]
-    requires { length rows.now ≤ ROOM }
-    ensures { take (length rows.now) result ≡ rows.now }
-{
-    let mut all = [0; ROOM];
-    all[..rows.len()].copy_from_slice(rows);
-    all
-}
-
-// An array that begins with the list with two of its places exchanged.
-fn swapped_rows(rows: &[u8], a: u8, b: u8) -> [u8; ROOM]
-    requires fits { length rows.now ≤ ROOM }
-    requires a_below { a < length rows.now }
-    requires b_below { b < length rows.now }
-    ensures { take (length rows.now) result ≡ swap_list rows.now a b }
-{
-    let mut all = in_front(rows);
-    all.swap(a as usize, b as usize);
-    all
-}
-
 // The grid with columns c - 1 and c exchanged.
 fn swapped_columns(g: &Grid, c: u8) -> Grid
     requires { c < size g.now }
@@ -58,9 +35,7 @@ fn swapped_columns(g: &Grid, c: u8) -> Grid
 {
     let n = g.size();
     let b = one_down(n, c);
-    let o = swapped_rows(g.o_rows(), b, c);
-    let x = swapped_rows(g.x_rows(), b, c);
-    Grid::from_marks(&o[..n as usize], &x[..n as usize])
+    Grid::from_states(g.o_state().exchange(b, c), g.x_state().exchange(b, c))
 }
 
 /// Whether columns (or rows) `c - 1` and `c` of `g` commute: their four marks are in four different rows,

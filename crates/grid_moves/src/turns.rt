@@ -1,14 +1,10 @@
 //! Cyclic turns of a grid.
 ghost use Rattle.std.specs.Prelude.{◌≡◌, ℕ, ◌<◌, length, slice_index};
 ghost use Rattle.torus_geom.specs.Marks.{Marks, IsGrid, size};
-ghost use Rattle.torus_geom.specs.Front.{one_up as one_up_of, one_down as one_down_of};
 ghost use Rattle.grid_moves.specs.Moves.{source_column as source_column_of, moved_row as moved_row_of, turned};
 
-use state_rank::MAX_SIZE;
-use torus_geom::Grid;
-
-/// The room for the marks of a grid of any size.
-pub(crate) const ROOM: usize = MAX_SIZE as usize;
+use state_rank::ROOM;
+use torus_geom::{Grid, one_down, one_up};
 
 /// The side to which a grid is turned by one column or row.
 #[derive(Clone, Copy, PartialEq, Eq, Debug)]
@@ -17,24 +13,6 @@ pub enum Side {
     Right,
     Up,
     Down,
-}
-
-// The number after `c` on a circle of `n`.
-pub(crate) fn one_up(n: u8, c: u8) -> u8
-    requires { c < n }
-    ensures value { result ≡ one_up_of n c }
-    ensures below { result < n }
-{
-    if c + 1 < n { c + 1 } else { 0 }
-}
-
-// The number before `c` on a circle of `n`.
-pub(crate) fn one_down(n: u8, c: u8) -> u8
-    requires { c < n }
-    ensures value { result ≡ one_down_of n c }
-    ensures below { result < n }
-{
-    if c > 0 { c - 1 } else { n - 1 }
 }
 
 // The column whose marks come to column `c`.

@@ -11,13 +11,13 @@ pub enum TextFault {
     BadCount,
     /// A sign, side or corner is not one of the words for it.
     BadChoice,
-    /// A word in the place of a number is no numeral in its bounds.
+    /// A word that is to be a number is no numeral in its bounds.
     BadNumber,
     /// The numbers of an O or X line are not all different.
     NotPermutation,
     /// Some column has its O and its X in one square.
     SameSquare,
-    /// A word in the place of a state is no state of the grid's size.
+    /// A word that is to be a state is no state of the grid's size.
     BadState,
     /// Two states of a line are the same.
     RepeatedState,

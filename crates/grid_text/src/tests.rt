@@ -1,5 +1,5 @@
 //! Texts and their first faults.
-use crate::{MAX_TEXT, TextEnd, TextFault, judge};
+use crate::{MAX_TEXT, TextEnd, TextFault, judge, print, print_len};
 use std::test::Fail;
 
 const A: &str = "grid 2\nO 1 0\nX 0 1\n";
@@ -53,5 +53,28 @@ fn a_document(rt: HostRuntime) -> Result<(), Fail> {
         Ok(judged) => assert_eq!(rt; judged.script.commands().len(), 9),
         Err(_) => return Err(Fail::from("refused")),
     }
+    Ok(())
+}
+
+// One space between words, the states of a chain ascending, and each line ended.
+#[test]
+fn the_plain_form(rt: HostRuntime) -> Result<(), Fail> {
+    let text = format!(in rt.alloc();
+        "{A} front\nchain  10 01\nclass - \nborder 10\nturn up\nend"
+    )?;
+    if text.len() > MAX_TEXT {
+        return Err(Fail::from("long"));
+    }
+    let Ok(judged) = judge(rt.alloc(), text.as_bytes()) else {
+        return Err(Fail::from("refused"));
+    };
+    let Ok(plain) = print(rt.alloc(), &judged.script) else {
+        return Err(Fail::from("out of memory"));
+    };
+    let wanted = format!(in rt.alloc();
+        "{A}front\nchain 01 10\nclass -\nborder 10\nturn up\nend\n"
+    )?;
+    assert_eq!(rt; plain.as_slice(), wanted.as_bytes());
+    assert_eq!(rt; print_len(&judged.script), wanted.len() as u128);
     Ok(())
 }

@@ -53,11 +53,11 @@ no_step g y =
     let n : ℕ = size g in
     is_odd-filter (is_step g [] y) (rectangles n) ∙ parity-rectangles (is_step g [] y) n
     ∙ parity_below-none n _ (λ a la. parity_below-none n _ (λ b lb.
-    ap (λ t. differ a b && t) (parity_below-none n _ (λ j lj. parity_below-none n _ (λ k lk. by j k _)))
+    ap (λ t. differ a b && t) (parity_below-none n _ (λ j lj. parity_below-none n _ (λ k lk. by j k _ _)))
     ∙ same 1 (λ d. d && false) (λ d. false) refl (differ a b)))
   where
-    by : (j k : ℕ) (t : Bool) → (not (eqb j k) && ((eqb 0 j && (eqb 0 k && true)) && t)) ≡ false
-    by j k t = grind arith
+    by : (j k : ℕ) (s t : Bool) → (not (eqb j k) && ((eqb 0 j && (eqb 0 k && s)) && t)) ≡ false
+    by j k s t = grind arith
 
 -- no rectangle leaves the empty list
 border_of_state-nil : (g : Marks) → border_of_state g [] ≡ nothing

@@ -17,7 +17,7 @@ use Rattle.state_rank.proofs.SwapLemmas.{slice_index-swap_first, slice_index-swa
 use Rattle.torus_geom.specs.Marks.{Marks, size, IsGrid}
 use Rattle.torus_geom.specs.Rectangle.{is_same, rectangles}
 use Rattle.torus_geom.specs.Border.{is_step}
-use Rattle.rectangles.specs.Open.{is_open, is_odd_pair}
+use Rattle.rectangles.specs.Inner.Open.{is_open, is_odd_pair}
 use Rattle.rectangles.proofs.OpenRectangles as tests
 use Rattle.rectangles.proofs.RectangleTests.{is_empty-corners, is_unmarked-corners}
 use Rattle.rectangles.proofs.RectangleSums.{is_odd-steps, is_same-equal, is_same-self}

@@ -9,10 +9,10 @@ use Rattle.std.proofs.lemmas.List.Concat.{flat_map-append}
 use Rattle.std.proofs.lemmas.Nat.Bits.{shr_and_one, bit_at-lt, bit_at-zero, bit_at_set_same, bit_at_set_other}
 use Rattle.std.specs.Int.{bit_at, w16}
 use Rattle.std.specs.List.{filter, flat_map}
-use Rattle.state_rank.specs.Bijection.{IsBijection, ascending}
+use Rattle.state_rank.specs.Bijection.{IsBijection, ascending, numbers}
 use Rattle.state_rank.proofs.OrderLemmas.{length-tabulate, get_or-tabulate}
 use Rattle.torus_geom.specs.Marks.{Marks}
-use Rattle.rectangles.specs.Open.{is_open, is_odd_pair, odd_bit, numbers, exchanges}
+use Rattle.rectangles.specs.Inner.Open.{is_open, is_odd_pair, odd_bit, exchanges}
 use Rattle.state_rank.specs.declared.TheConstants.{MAX_SIZE}
 use Rattle.rectangles.proofs.TargetLemmas.{length-numbers, get_or-numbers}
 

@@ -123,7 +123,9 @@ module _ (g : Marks) (grid : IsGrid g) (x y : List ℕ) (r : Rect) (from : IsBij
 
   same_rows : (c : ℕ) → c < n → slice_index (swap x r.left r.right) c ≡ slice_index y c
   same_rows c l =
-      let same = (and_parts (eqb (slice_index x r.right) r.high) (is_same (swap x r.left r.right) y) rest).1 in
+      let z : List ℕ = swap x r.left r.right in
+      let same = (and_parts (eqb (length z) (length y)) (all_below (length z) (λ c. eqb (slice_index z c) (slice_index y c)))
+      (and_parts (eqb (slice_index x r.right) r.high) (is_same z y) rest).1).1 in
       let long : length (swap x r.left r.right) ≡ n = length-swap x r.left r.right ∙ from.long in
       eqb-true (slice_index (swap x r.left r.right) c) (slice_index y c)
       (at_all_below (length (swap x r.left r.right)) (λ c. eqb (slice_index (swap x r.left r.right) c) (slice_index y c)) same c (omega arith))

@@ -3,7 +3,7 @@
 use Rattle.std.proofs.Common.{◌≡◌, ℕ, zero, suc, ◌+◌, ◌<◌, Bool, true, not, ◌&&◌, List, [], ◌∷◌, length, map, slice_index, slice_index_or, swap, AllPairs, refl, ap, ap₂, subst, ◌∙◌, sym, eqb, arith, inl, inr}
 use Rattle.std.specs.List.{filter}
 use Rattle.std.specs.List.Sorted.{IsStrictlyIncreasing}
-use Rattle.std.proofs.lemmas.Bool.{cases_eq, eq-eqb, ne_eqb, eqb-true, false_from_ne_true}
+use Rattle.std.proofs.lemmas.Bool.{cases_eq, eq-eqb, ne_eqb, eqb-true, false_from_ne_true, and_parts}
 use Rattle.f2_algebra.specs.Chain.{codes, is_odd}
 use Rattle.f2_algebra.proofs.Tables.{◌⊻◌, same, and_comm}
 use Rattle.f2_algebra.proofs.ParityLemmas.{parity, parity-ext, parity-and, parity-map, parity-filter, parity-flat_map, parity_swap, is_odd-filter, below, parity_below, parity_below-same, parity_below-first, parity_below-one}
@@ -102,7 +102,7 @@ unfolding unrank
 states-unrank n = sym (tabulate-slice (states n) []) ∙ ap (λ m. tabulate m (unrank n)) (length-states n)
 
 pub is_same-self : (x : List ℕ) → is_same x x ≡ true
-is_same-self x = all (length x)
+is_same-self x = ap₂ (λ a b. a && b) (eq-eqb (length x) (length x) refl) (all (length x))
   where
     all : (n : ℕ) → all_below n (λ c. eqb (slice_index x c) (slice_index x c)) ≡ true
     all zero = refl
@@ -111,7 +111,7 @@ is_same-self x = all (length x)
 -- two states of one size that the test finds the same are equal
 pub is_same-equal : (n : ℕ) (x y : List ℕ) → IsBijection n x → IsBijection n y → is_same x y ≡ true → x ≡ y
 is_same-equal n x y sx sy h = same_list n x y sx.long sy.long (λ c l.
-    eqb-true (slice_index x c) (slice_index y c) (at_all_below n (λ c. eqb (slice_index x c) (slice_index y c)) (subst (λ m. all_below m (λ c. eqb (slice_index x c) (slice_index y c)) ≡ true) sx.long h) c l))
+    eqb-true (slice_index x c) (slice_index y c) (at_all_below n (λ c. eqb (slice_index x c) (slice_index y c)) (subst (λ m. all_below m (λ c. eqb (slice_index x c) (slice_index y c)) ≡ true) sx.long (and_parts _ _ h).1) c l))
 
 -- a state is the one of rank k where its rank is k
 is_same-unrank : (n : ℕ) (x : List ℕ) → IsBijection n x → (k : ℕ) → k < factorial n → is_same x (unrank n k) ≡ eqb k (rank x)

@@ -13,7 +13,7 @@ use Rattle.torus_geom.specs.Range.{offset, in_range, is_inside}
 use Rattle.torus_geom.specs.Rectangle.{is_empty, is_unmarked}
 use Rattle.torus_geom.proofs.AllBelowLemmas.{at_all_below, all_below-true}
 use Rattle.torus_geom.proofs.RangeLemmas.{offset-above, offset-below}
-use Rattle.rectangles.specs.Open.{leaving, is_open}
+use Rattle.rectangles.specs.Inner.Open.{leaving, is_open}
 
 -- ---- circles by how far right of a they are
 

@@ -12,7 +12,7 @@ use Rattle.std.proofs.lemmas.List.Sorted.{IsPermutation-reverse, IsPermutation-s
 use Rattle.std.specs.Int.{bit_at}
 use Rattle.std.specs.List.{filter, flat_map}
 use Rattle.f2_algebra.specs.Chain.{codes}
-use Rattle.state_rank.specs.Bijection.{IsSize, IsBijection, ascending, column_of}
+use Rattle.state_rank.specs.Bijection.{IsSize, IsBijection, ascending, column_of, numbers}
 use Rattle.state_rank.specs.States.{IsState, is_before, rank, states, transpose}
 use Rattle.state_rank.specs.declared.TheConstants.{MAX_SIZE}
 use Rattle.state_rank.proofs.Pigeonhole.{no_more}
@@ -22,7 +22,7 @@ use Rattle.state_rank.proofs.OrderLemmas.{is_before-same, is_before-back, is_bef
 use Rattle.state_rank.proofs.SwapLemmas.{slice_index-swap_first, slice_index-swap_other, IsBijection-swap}
 use Rattle.torus_geom.specs.Marks.{Marks, size, IsGrid}
 use Rattle.torus_geom.specs.Border.{border_of_state}
-use Rattle.rectangles.specs.Open.{is_odd_pair, numbers, exchanges, exchanges_below, exchanges_above}
+use Rattle.rectangles.specs.Inner.Open.{is_odd_pair, exchanges, exchanges_below, exchanges_above}
 use Rattle.rectangles.proofs.OddPairLemmas.{IsOddExchange, steps_to, reached, odd_exchange, Contains-reached}
 use Rattle.rectangles.proofs.RectangleSums.{codes-states_where}
 

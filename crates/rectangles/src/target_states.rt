@@ -9,24 +9,21 @@ ghost use Rattle.std.specs.Int.{bit_at};
 ghost use Rattle.std.specs.List.{flat_map};
 ghost use Rattle.smallvec.specs.SmallVec.{HasRoomFor};
 ghost use Rattle.f2_algebra.specs.Chain.{codes};
-ghost use Rattle.state_rank.specs.Bijection.{ascending};
+ghost use Rattle.state_rank.specs.Bijection.{ascending, numbers};
 ghost use Rattle.state_rank.specs.States.{IsState, rank, transpose};
 ghost use Rattle.torus_geom.specs.Border.{border_of_state};
 ghost use Rattle.torus_geom.specs.Marks.{size, IsGrid};
 ghost use Rattle.torus_geom.specs.Degrees.{maslov_o, alexander};
 ghost use Rattle.torus_geom.specs.Range.{offset as offset_of};
-ghost use Rattle.rectangles.specs.Open.{is_open, odd_bit, numbers, exchanges, exchanges_below, exchanges_above};
+ghost use Rattle.rectangles.specs.Inner.Open.{is_open, odd_bit, exchanges, exchanges_below, exchanges_above};
 
 use smallvec::SmallVec;
-use state_rank::{MAX_SIZE, State};
+use state_rank::{MAX_SIZE, ROOM, State};
 use std::alloc::Global;
-use torus_geom::Grid;
+use torus_geom::{Grid, offset};
 
 /// States in ascending order. As many as two circles can be chosen of ten stay inline.
 pub type TargetStates = SmallVec<State, 45>;
-
-// The room for a set of circles or of rows, as bits, for each circle.
-const ROOM: usize = MAX_SIZE as usize;
 
 /// The states of the border of `x`, ascending: those to which an odd number of empty unmarked
 /// rectangles of `g` lead from `x` (Ozsváth, Stipsicz and Szabó, "Grid Homology for Knots and Links",
@@ -110,16 +107,6 @@ fn lowest_mark(g: &Grid, low: u8, c: u8) -> u8
 {
     let n = g.size();
     offset(n, low, g.o(c)).min(offset(n, low, g.x(c)))
-}
-
-// How many steps up it is from `a` to `i`.
-fn offset(n: u8, a: u8, i: u8) -> u8
-    requires size { n ≤ MAX_SIZE }
-    requires a_below { a < n }
-    requires i_below { i < n }
-    ensures { result ≡ offset_of n a i }
-{
-    if a <= i { i - a } else { i + n - a }
 }
 
 // For each circle a, the rows of the circles b right of it for which one of the two rectangles between

@@ -15,3 +15,4 @@ pub mod TransposeLemmas
 pub mod RunningSums
 pub mod TurnLemmas
 pub mod RectangleLemmas
+pub mod ComponentLemmas

@@ -12,7 +12,7 @@ use Rattle.torus_geom.specs.Marks.{Marks, size}
 use Rattle.torus_geom.specs.Range.{in_range}
 use Rattle.torus_geom.specs.Rectangle.{IsProper, pairs_apart, rectangles, is_unmarked}
 use Rattle.torus_geom.specs.Border.{is_step, border_of_state}
-use Rattle.torus_geom.specs.Front.{one_down}
+use Rattle.torus_geom.specs.Range.{one_down}
 use Rattle.torus_geom.specs.declared.rects.Rect.{Rect}
 use Rattle.torus_geom.proofs.AllBelowLemmas.{at_all_below}
 use Rattle.torus_geom.proofs.RangeLemmas.{in_range-plain, in_range-across}

@@ -1,11 +1,8 @@
 -- The transposed grid is a grid.
-use Rattle.std.proofs.Common.{◌≡◌, ◌≢◌, ℕ, ◌+◌, ◌<◌, ◌≤◌, List, take, set, length, slice_index, refl, ap, ◌∙◌, sym, arith, inl, inr, subst}
-use Rattle.std.proofs.lemmas.List.{length-take-le, get_or-take, length-set, get_or-set_same, get_or-set_other}
-use Rattle.std.proofs.lemmas.Bool.{cases_eq}
+use Rattle.std.proofs.Common.{◌≡◌, ◌≢◌, ℕ, ◌<◌, List, length, slice_index, refl, ap, ◌∙◌, sym, arith, subst}
 use Rattle.state_rank.specs.Bijection.{IsBijection, IsSize, column_of}
-use Rattle.state_rank.specs.States.{transpose}
-use Rattle.state_rank.specs.declared.TheConstants.{MAX_SIZE}
-use Rattle.state_rank.proofs.BijectionLemmas.{one_to_one, same_list, row-column_of, column_of-below, column_of-one_to_one}
+use Rattle.state_rank.specs.States.{IsState, transpose}
+use Rattle.state_rank.proofs.BijectionLemmas.{one_to_one, row-column_of, column_of-below, column_of-one_to_one}
 use Rattle.torus_geom.specs.Marks.{Marks, size, IsGrid}
 use Rattle.torus_geom.specs.Transposed.{transposed}
 use Rattle.torus_geom.proofs.TabulateLemmas.{length-tabulate, slice_index-tabulate}
@@ -47,32 +44,15 @@ IsGrid-transposed g grid = record {
         grid.apart (column_of (size g) (slice_index g.o) r) (column_of-below (size g) (slice_index g.o) o_one r l)
         (row-column_of (size g) (slice_index g.o) o_one r l ∙ sym (row-column_of (size g) (slice_index g.x) x_one r l) ∙ ap (slice_index g.x) (sym same))
 
--- the first k elements of an array are those of the transposed list
-pub record HasTransposed (n : ℕ) (rows into : List ℕ) (k : ℕ) : Type 0 where
-  pub long : length into ≡ MAX_SIZE
-  pub each : (r : ℕ) → r < k → slice_index into r ≡ column_of n (slice_index rows) r
+-- the transposed marks, from those of each kind
+pub transposed_marks : (g h : Marks) (o x : List ℕ) → h ≡ g → o ≡ transpose h.o → x ≡ transpose h.x → record { o = o; x = x } ≡ transposed g
+transposed_marks g h o x e at_o at_x = (λ i. record { o = at_o i; x = at_x i }) ∙ ap transposed e
 
--- one more row
-pub HasTransposed-more : (n : ℕ) (rows into : List ℕ) (k v : ℕ) → HasTransposed n rows into k → k < MAX_SIZE
-    → v ≡ column_of n (slice_index rows) k → HasTransposed n rows (set into k v) (k + 1)
-HasTransposed-more n rows into k v h room e = record {
-  long = length-set into k v ∙ h.long;
-  each = λ r l. elim (cases_eq r k) [
-    | inl i ↦ ap (slice_index (set into k v)) i ∙ get_or-set_same into k v 0 (let m = h.long in omega arith) ∙ e ∙ ap (column_of n (slice_index rows)) (sym i)
-    | inr p ↦ get_or-set_other into k r v 0 p ∙ h.each r (omega arith)
-  ];
-}
-
-take-transposed : (n : ℕ) (rows into : List ℕ) (k : ℕ) → length rows ≡ n → n ≤ MAX_SIZE → n ≤ k → HasTransposed n rows into k → take n into ≡ transpose rows
-take-transposed n rows into k e small far h =
-    same_list n (take n into) (transpose rows) (length-take-le n into (let m = h.long in omega arith)) (length-transpose rows ∙ e)
-    (λ r l. get_or-take n into r 0 l ∙ h.each r (omega arith) ∙ sym (slice_index-transpose n rows r e l))
-
--- where both arrays have all rows, they begin with the marks of the transposed grid
-pub take-transposed_marks : (g : Marks) (o x : List ℕ) (n k : ℕ) → IsGrid g → n ≡ size g → n ≤ k
-    → HasTransposed n g.o o k → HasTransposed n g.x x k → record { o = take n o; x = take n x } ≡ transposed g
-take-transposed_marks g o x n k grid e far ho hx =
-    λ i. record { o = take-transposed n g.o o k (sym e) small far ho i; x = take-transposed n g.x x k (grid.x.long ∙ sym e) small far hx i }
-  where
-    small : n ≤ MAX_SIZE
-    small = let m = grid.is_size.greatest in omega arith
+-- the column of a row has its mark there, where the rows were read from a state
+pub marked : (rows x marks : List ℕ) (r column : ℕ) → IsState x → rows ≡ x → x ≡ marks → r < length marks
+    → column ≡ column_of (length rows) (slice_index rows) r → slice_index marks column ≡ r
+marked rows x marks r column state e f l at =
+    let long = ap length f in
+    ap (slice_index marks) (at ∙ ap (λ y. column_of (length y) (slice_index y) r) e)
+    ∙ sym (ap (λ y. slice_index y (column_of (length x) (slice_index x) r)) f)
+    ∙ row-column_of (length x) (slice_index x) (one_to_one (length x) x state.bijection) r (omega arith)

@@ -7,7 +7,7 @@ use Rattle.std.proofs.lemmas.Bool.{cases_eq}
 use Rattle.state_rank.specs.Bijection.{column_of}
 use Rattle.state_rank.proofs.BijectionLemmas.{IsOneToOne, column_of-below, row-column_of, column_of-is}
 use Rattle.torus_geom.specs.Counts.{one_if, sum_below, count_below}
-use Rattle.torus_geom.specs.Front.{one_up, one_down}
+use Rattle.torus_geom.specs.Range.{one_up, one_down}
 use Rattle.torus_geom.proofs.SumLemmas.{sum_below_same, sum_below-add, balanced_sum, balanced_pairs, sum_below_swap, sum_below-at_only, at_only, sum_below_reindex, same_ints, under_test}
 use Rattle.torus_geom.proofs.PairLemmas.{pairs, count_below-all, count_below-rows}
 

@@ -4,6 +4,7 @@
 -- from the X to the O, in each row the horizontal segment from the O to the X. The vertical strand
 -- crosses over; the front is the diagram with its crossings exchanged, and its cusps are the NE and
 -- the SW corners.
+--     o_column g r, x_column g r the columns of the O and of the X in row r
 --     sign g c r                 the sign of the crossing at column c and row r, 0 where there is none
 --     writhe g                   the sum of the signs
 --     north_east g, south_west g the numbers of NE and of SW corners
@@ -11,10 +12,11 @@
 --     rotation g                 the whole number rot with 2 rot = NE at X + SW at O - NE at O - SW at X
 --     plus_state g               the NE corners of the squares with an X, as a state
 --     minus_state g              their SW corners
-use Rattle.std.specs.Prelude.{ℕ, ◌+◌, ◌-◌, ◌%◌, Bool, ◌&&◌, ◌||◌, nat_lt, List, slice_index, ℤ, pos, neg_ℤ, ◌+ℤ◌, ◌-ℤ◌, int_div, if◌then◌else◌}
+use Rattle.std.specs.Prelude.{ℕ, Bool, ◌&&◌, ◌||◌, nat_lt, List, slice_index, ℤ, pos, neg_ℤ, ◌+ℤ◌, ◌-ℤ◌, int_div, if◌then◌else◌}
 use Rattle.state_rank.specs.Bijection.{tabulate, column_of}
 use Rattle.torus_geom.specs.Counts.{sum_below, count_below}
 use Rattle.torus_geom.specs.Marks.{Marks, size}
+use Rattle.torus_geom.specs.Range.{one_up, one_down}
 
 -- the columns of the O and of the X in row r
 abbrev pub o_column : Marks → ℕ → ℕ
@@ -76,13 +78,6 @@ doubled_rotation g =
 
 unfoldable pub rotation : Marks → ℤ
 rotation g = int_div (doubled_rotation g) (pos 2)
-
--- the number after i, and the number before it, mod n
-abbrev pub one_up : ℕ → ℕ → ℕ
-one_up n i = (i + 1) % n
-
-abbrev pub one_down : ℕ → ℕ → ℕ
-one_down n i = (i + (n - 1)) % n
 
 -- at circle c + 1 the row of the X of column c, plus one
 abbrev pub plus_state : Marks → List ℕ

@@ -1,6 +1,6 @@
 pub mod Counts
 pub mod Marks
-pub mod Kept
+pub mod Inner
 pub mod Transposed
 pub mod Components
 pub mod Range

@@ -26,7 +26,7 @@ pub record IsProper (n : ℕ) (r : Rect) : Type 0 where
 
 -- whether two states are the same
 abbrev pub is_same : List ℕ → List ℕ → Bool
-is_same x y = all_below (length x) (λ c. slice_index x c == slice_index y c)
+is_same x y = (length x == length y) && all_below (length x) (λ c. slice_index x c == slice_index y c)
 
 abbrev pub leads : Rect → List ℕ → List ℕ → Bool
 leads r x y = (slice_index x r.left == r.low) && ((slice_index x r.right == r.high) && is_same (swap x r.left r.right) y)

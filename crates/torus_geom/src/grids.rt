@@ -2,16 +2,12 @@
 ghost use Rattle.std.specs.Prelude.{◌≡◌, ◌≤◌, ◌<◌, ◌↔◌, length, slice_index, IfOk, OnOk, IsTrue};
 ghost use Rattle.state_rank.specs.Bijection.{column_of as column_of_row};
 ghost use Rattle.torus_geom.specs.Marks.{AreBijections, SharesSquare, IsGrid, size};
-ghost use Rattle.torus_geom.specs.Components.{is_first, components};
-ghost use Rattle.torus_geom.specs.Kept.{padded as padded_list};
+ghost use Rattle.torus_geom.specs.Components.{HasOneOfEachCycle, is_first, components};
 ghost use Rattle.torus_geom.specs.Front.{o_column, x_column};
 ghost use Rattle.torus_geom.specs.Transposed.{transposed};
 
 use state_rank::{MAX_SIZE, State};
 use std::marker::Model;
-
-/// The room for the marks of a grid of any size.
-const ROOM: usize = MAX_SIZE as usize;
 
 /// A grid diagram: in each column and in each row one O and one X, in different squares.
 ///
@@ -19,41 +15,28 @@ const ROOM: usize = MAX_SIZE as usize;
 /// from 0 (Ozsváth, Stipsicz and Szabó, "Grid Homology for Knots and Links", chapter 3).
 #[derive(Clone, Copy, PartialEq, Eq, Debug)]
 pub struct Grid {
-    size: u8,
-    o: [u8; ROOM],
-    x: [u8; ROOM],
+    o: State,
+    x: State,
     components: u8,
 }
 
-// Clauses see the rows of the marks. Past the size the arrays hold zeros. The number of components is
-// kept too, since each Alexander degree asks for it.
+// Clauses see the rows of the marks. The number of components is kept too, since each Alexander degree
+// asks for it.
 impl Model for Grid {
-    ghost use Rattle.std.specs.Prelude.{length};
-    ghost use Rattle.std.proofs.Common.{length-take-le, sym};
+    ghost use Rattle.std.proofs.Common.{sym};
     ghost use Rattle.torus_geom.specs.Marks.{Marks};
+    ghost use Rattle.torus_geom.specs.Components.{components as number_of_components};
+    ghost use Rattle.torus_geom.specs.Inner.Stored.{marks, IsStored};
 
     ghost Value = { Marks };
 
-    ghost use Rattle.torus_geom.specs.Components.{components as number_of_components};
-    ghost use Rattle.torus_geom.specs.Kept.{marks, IsKept, padded};
-
     ghost view = { marks };
 
-    ghost invariant = { IsKept };
+    ghost invariant = { IsStored };
 
-    ghost inverse = { λ g. record {
-      size = length g.o;
-      o = padded g.o;
-      x = padded g.x;
-      components = number_of_components g;
-    } };
+    ghost inverse = { λ g. record { o = g.o; x = g.x; components = number_of_components g } };
 
-    ghost inverse_ok = { λ g kept i. record {
-      size = length-take-le g.size g.o kept.fits_o i;
-      o = sym kept.padded_o i;
-      x = sym kept.padded_x i;
-      components = sym kept.counted i;
-    } };
+    ghost inverse_ok = { λ g stored i. record { o = g.o; x = g.x; components = sym stored.counted i } };
 }
 
 /// Why two lists are not the marks of a grid.
@@ -81,18 +64,28 @@ impl Grid {
             ↔ (AreBijections (record { o = o.now; x = x.now })
             × SharesSquare (record { o = o.now; x = x.now })) }
     {
-        if !are_bijections(o, x) {
+        let Some(o) = State::of(o) else {
+            return Err(GridFault::NotPermutation);
+        };
+        let Some(x) = State::of(x) else {
+            return Err(GridFault::NotPermutation);
+        };
+        if o.size() != x.size() {
             return Err(GridFault::NotPermutation);
         }
-        if shares_square(o, x) {
+        if shares_square(o.rows(), x.rows()) {
             return Err(GridFault::SameSquare);
         }
-        Ok(Grid {
-            size: o.len() as u8,
-            o: padded(o),
-            x: padded(x),
-            components: components(o, x),
-        })
+        Ok(Grid::from_states(o, x))
+    }
+
+    /// The grid whose O are in the rows of the state `o`, and whose X are in those of the state `x`.
+    pub fn from_states(o: State, x: State) -> Grid
+        requires { IsGrid (record { o = o; x = x }) }
+        ensures { result ≡ record { o = o; x = x } }
+    {
+        let components = components(o.rows(), x.rows());
+        Grid { o, x, components }
     }
 
     /// The grid with these marks, where they are those of a grid.
@@ -112,7 +105,7 @@ impl Grid {
         ensures size { result ≡ size self.now }
         ensures grid { IsGrid self.now }
     {
-        self.size
+        self.o.size()
     }
 
     /// The row of the O of column `c`.
@@ -122,7 +115,7 @@ impl Grid {
         ensures row { result ≡ slice_index self.now.o c }
         ensures below { result < size self.now }
     {
-        self.o[usize::from(c)]
+        self.o.row(c)
     }
 
     /// The row of the X of column `c`.
@@ -132,49 +125,73 @@ impl Grid {
         ensures row { result ≡ slice_index self.now.x c }
         ensures below { result < size self.now }
     {
-        self.x[usize::from(c)]
+        self.x.row(c)
     }
 
     /// The rows of the O, from column 0 on.
+    #[inline]
     pub fn o_rows(&self) -> &[u8]
         ensures rows { result.now ≡ self.now.o }
         ensures grid { IsGrid self.now }
     {
-        &self.o[..usize::from(self.size)]
+        self.o.rows()
     }
 
     /// The rows of the X, from column 0 on.
+    #[inline]
     pub fn x_rows(&self) -> &[u8]
         ensures rows { result.now ≡ self.now.x }
         ensures grid { IsGrid self.now }
     {
-        &self.x[..usize::from(self.size)]
+        self.x.rows()
+    }
+
+    /// The rows of the O, as a state.
+    pub fn o_state(&self) -> State
+        ensures rows { result ≡ self.now.o }
+        ensures grid { IsGrid self.now }
+    {
+        self.o
+    }
+
+    /// The rows of the X, as a state.
+    pub fn x_state(&self) -> State
+        ensures rows { result ≡ self.now.x }
+        ensures grid { IsGrid self.now }
+    {
+        self.x
     }
 
     /// The column of the O in row `r`.
     pub fn o_column(&self, r: u8) -> u8
         requires { r < size self.now }
         ensures column { result ≡ o_column self.now r }
+        ensures marked { slice_index self.now.o result ≡ r }
         ensures below { result < size self.now }
     {
-        column_of(&self.o[..usize::from(self.size)], r)
+        column_of(self.o.rows(), r)
     }
 
     /// The column of the X in row `r`.
     pub fn x_column(&self, r: u8) -> u8
         requires { r < size self.now }
         ensures column { result ≡ x_column self.now r }
+        ensures marked { slice_index self.now.x result ≡ r }
         ensures below { result < size self.now }
     {
-        column_of(&self.x[..usize::from(self.size)], r)
+        column_of(self.x.rows(), r)
     }
 
     /// The number of components of the link of the grid.
     ///
     /// They are the cycles of the walk from a column to the row of its X, and from there to the column
     /// whose O is in that row (the same book, chapters 3 and 11).
+    #[inline]
     pub fn components(&self) -> u8
-        ensures { result ≡ components self.now }
+        ensures number { result ≡ components self.now }
+
+        // What is counted is one column of each cycle.
+        ensures cycles { HasOneOfEachCycle self.now (is_first self.now) }
     {
         self.components
     }
@@ -184,14 +201,7 @@ impl Grid {
     pub fn transpose(&self) -> Grid
         ensures { result ≡ transposed self.now }
     {
-        let n = self.size();
-        let mut o = [0; ROOM];
-        let mut x = [0; ROOM];
-        for r in 0..n {
-            o[r as usize] = self.o_column(r);
-            x[r as usize] = self.x_column(r);
-        }
-        Grid::from_marks(&o[..n as usize], &x[..n as usize])
+        Grid::from_states(self.o.transpose(), self.x.transpose())
     }
 }
 
@@ -226,13 +236,6 @@ fn is_first(o: &[u8], x: &[u8], c: u8) -> bool
     true
 }
 
-// Whether each list is a bijection of one size that a grid may have.
-fn are_bijections(o: &[u8], x: &[u8]) -> bool
-    ensures { IsTrue result ↔ AreBijections (record { o = o.now; x = x.now }) }
-{
-    o.len() == x.len() && State::of(o).is_some() && State::of(x).is_some()
-}
-
 // Whether the two lists agree at some place.
 fn shares_square(o: &[u8], x: &[u8]) -> bool
     requires { length o.now ≡ length x.now }
@@ -259,16 +262,6 @@ fn column_of(rows: &[u8], r: u8) -> u8
         }
     }
     column
-}
-
-// The list with zeros after it.
-fn padded(rows: &[u8]) -> [u8; ROOM]
-    requires { length rows.now ≤ MAX_SIZE }
-    ensures { result ≡ padded_list rows.now }
-{
-    let mut all = [0; ROOM];
-    all[..rows.len()].copy_from_slice(rows);
-    all
 }
 
 #[cfg(test)]

@@ -6,6 +6,7 @@ ghost use Rattle.torus_geom.specs.Range.{in_range as in_range_of, is_inside as i
 ghost use Rattle.torus_geom.specs.Rectangle.{IsProper, is_empty as is_empty_of, is_unmarked as is_unmarked_of};
 
 use crate::Grid;
+use crate::ranges::{in_range, is_inside};
 use state_rank::State;
 
 /// A rectangle on the torus: its columns are the range from `left` up to `right`, its rows the range
@@ -39,22 +40,6 @@ impl Rect {
     }
 }
 
-/// Whether `i` is in the range from `a` up to `b`, mod `n`: met on the way up from `a`, `a` included,
-/// before `b`.
-pub fn in_range(n: u8, a: u8, b: u8, i: u8) -> bool
-    requires a_below { a < n }
-    requires b_below { b < n }
-    requires i_below { i < n }
-    requires proper { a ≢ b }
-    ensures { result ≡ in_range_of n a b i }
-{
-    if a < b {
-        a <= i && i < b
-    } else {
-        a <= i || i < b
-    }
-}
-
 /// Whether no point of `x` is strictly inside the rectangle `r`.
 pub fn is_empty(x: &State, r: &Rect) -> bool
     requires { IsProper (length x.now) r.now }
@@ -79,17 +64,6 @@ pub fn is_unmarked(g: &Grid, r: &Rect) -> bool
         }
     }
     true
-}
-
-// Whether `i` is in the range from `a` up to `b`, and is not `a`.
-fn is_inside(n: u8, a: u8, b: u8, i: u8) -> bool
-    requires a_below { a < n }
-    requires b_below { b < n }
-    requires i_below { i < n }
-    requires proper { a ≢ b }
-    ensures { result ≡ is_inside_of n a b i }
-{
-    in_range(n, a, b, i) && i != a
 }
 
 // Whether the point of `x` on the circle `c` is strictly inside `r`.
@@ -119,28 +93,6 @@ fn is_marked_column(g: &Grid, r: &Rect, c: u8) -> bool
 #[cfg(test)]
 mod tests {
     use super::*;
-
-    #[test]
-    fn ranges(rt: HostRuntime) {
-        // from, up to, and the circles of size five that are met
-        let cases: [(u8, u8, &[u8]); 4] = [
-            (0, 4, &[0, 1, 2, 3]),
-            (2, 3, &[2]),
-            (3, 1, &[0, 3, 4]),
-            (4, 0, &[4]),
-        ];
-        for (a, b, met) in cases {
-            for i in 0..5u8 {
-                if a < 5 && b < 5 && a != b {
-                    assert_eq!(rt;
-                        in_range(5, a, b, i),
-                        met.contains(&i),
-                        "{i} from {a} to {b}"
-                    );
-                }
-            }
-        }
-    }
 
     // The two rectangles that leave the state 201 at the circles 0 and 2, of which one is empty.
     #[test]

@@ -6,7 +6,7 @@ use Rattle.std.specs.Prelude.{is_none, ◌==◌}
 use Rattle.std.specs.List.{list_any, find, zip}
 use Rattle.std.specs.Fmt.{decimal}
 use Rattle.std.proofs.Math.Bool.{and-false}
-use Rattle.std.proofs.lemmas.Bool.{cases_Bool, eq-eqb, cases_eq, ne_eqb}
+use Rattle.std.proofs.lemmas.Bool.{cases_Bool, eq-eqb, cases_eq, ne_eqb, not-false}
 use Rattle.std.proofs.lemmas.List.{length-map}
 use Rattle.state_rank.specs.States.{state_word}
 use Rattle.state_rank.specs.Bijection.{IsBijection}
@@ -54,16 +54,6 @@ two_words (v ∷ w ∷ u ∷ words) e = absurd (omega arith)
 
 -- ---- tests
 
--- of two tests that both fail each fails
-pub or_parts : (a b : Bool) → (a || b) ≡ false → (a ≡ false) × (b ≡ false)
-or_parts true b e = absurd (true≢false e)
-or_parts false b e = (refl, e)
-
--- the word where a negated test fails
-pub not_false : (b : Bool) → not b ≡ false → b ≡ true
-not_false true e = refl
-not_false false e = absurd (true≢false e)
-
 -- a list has no element that passes a test that never does
 pub list_any-never : {A : Type 0} (p : A → Bool) (xs : List A) → ((x : A) → p x ≡ false) → list_any p xs ≡ false
 list_any-never p [] never = refl
@@ -96,7 +86,7 @@ module _ {A : Type 0} (word : A → Word) where
   -- a good word is that of a value
   pub value_of_word : (values : List A) (w : Word) → is_bad (choice_of (map word values)) w ≡ false
       → (v : A) × (w ≡ word v)
-  value_of_word values w good = among values (not_false (list_any (λ u. is_word u w) (map word values)) good)
+  value_of_word values w good = among values (not-false (list_any (λ u. is_word u w) (map word values)) good)
     where
       among : (vs : List A) → list_any (λ u. is_word u w) (map word vs) ≡ true → (v : A) × (w ≡ word v)
       among [] t = absurd (true≢false (sym t))

@@ -7,7 +7,7 @@ use Rattle.std.specs.Option.{option_map_or}
 use Rattle.std.specs.List.{list_any, Contains}
 use Rattle.std.proofs.lemmas.List.Sorted.{IsPermutation-refl, All-permutation}
 use Rattle.std.proofs.lemmas.List.Elements.{Contains-get_or}
-use Rattle.std.proofs.lemmas.Bool.{cases_lt, le-leb}
+use Rattle.std.proofs.lemmas.Bool.{cases_lt, le-leb, or_parts, not-false}
 use Rattle.std.proofs.Math.Bool.{or-false}
 use Rattle.std.proofs.lemmas.List.{nil_from_length}
 use Rattle.state_rank.specs.States.{state_word}
@@ -30,7 +30,7 @@ use Rattle.grid_text.specs.declared.commands.Command.{Command}
 use Rattle.grid_text.specs.declared.commands.Command.TheVariants as command
 use Rattle.grid_text.specs.declared.faults.TextFault.TheVariants as fault
 use Rattle.grid_text.proofs.Lines.WordLemmas.{numeral-decimal}
-use Rattle.grid_text.proofs.Lines.KindLemmas.{or_parts, not_false, count-same, one_word, two_words, value_of_word, number_of_word, state_of_word}
+use Rattle.grid_text.proofs.Lines.KindLemmas.{count-same, one_word, two_words, value_of_word, number_of_word, state_of_word}
 use Rattle.grid_text.proofs.Lines.KeywordLemmas.{keyword_cases, form_at-keyword, keyword_of_axis}
 use Rattle.grid_text.proofs.Lines.ScriptLemmas.{IsGridOf-grid_in_force}
 use Rattle.grid_text.proofs.Lines.FaultLemmas.{NoRowHolds, NoRowHolds-from_none, fault_at-no_word, fault_at-bad_word}
@@ -136,7 +136,7 @@ module _ (s : GridScript) (h : IsScript s) where
         command.Commute axis c.0 v.0,
         (
           ap (λ a. axis_word axis ∷ a) words.2 ∙ (λ i. axis_word axis ∷ c.1.0 i ∷ v.1 i ∷ []),
-          (omega arith, not_false (are_commuting axis (grid_in_force s) c.0) fails),
+          (omega arith, not-false (are_commuting axis (grid_in_force s) c.0) fails),
           room,
         ),
       )

@@ -3,7 +3,7 @@
 use Rattle.std.proofs.Common.{◌≡◌, ℕ, ◌<◌, List, [], ◌∷◌, ◌++◌, length, refl, ap, subst, ◌∙◌, sym, arith, length-append}
 use Rattle.torus_geom.specs.Marks.{Marks, IsGrid, size}
 use Rattle.torus_geom.specs.Transposed.{transposed}
-use Rattle.torus_geom.specs.Front.{one_down}
+use Rattle.torus_geom.specs.Range.{one_down}
 use Rattle.torus_geom.proofs.TransposeLemmas.{IsGrid-transposed, length-transpose}
 use Rattle.std.proofs.lemmas.List.Edits.{length-swap}
 use Rattle.grid_moves.specs.Moves.{swapped, swapped_columns}

@@ -2,6 +2,7 @@
 -- length, its first words, its fronts and tests of its words are those of the list of references.
 use Rattle.std.proofs.Common.{◌≡◌, ◌≢◌, ℕ, zero, suc, ◌+◌, ◌-◌, ◌<◌, ◌≤◌, Bool, true, false, ◌||◌, List, [], ◌∷◌, ◌++◌, length, map, take, drop, get_or, Bor, refl, ap, ◌∙◌, sym, arith, true≢false}
 use Rattle.std.proofs.lemmas.List.{take_all, take_more, map-append, length-map}
+use Rattle.std.proofs.lemmas.Bool.{or_right}
 use Rattle.std.specs.List.{list_any}
 use Rattle.grid_text.specs.Words.{Word, is_word}
 use Rattle.grid_text.proofs.Lines.WordLemmas.{same_word, is_word-same}
@@ -81,8 +82,4 @@ pub seen-any : (p : Word → Bool) (words : List (Bor (List ℕ))) (i : ℕ) (d 
 seen-any p [] i d within passes = absurd (omega (arith, within))
 seen-any p (w ∷ words) zero d within passes = ap (λ b. b || list_any p (seen words)) passes
 seen-any p (w ∷ words) (suc i) d within passes =
-    ap (λ b. p w.now || b) (seen-any p words i d (omega (arith, within)) passes) ∙ or_true (p w.now)
-  where
-    or_true : (b : Bool) → (b || true) ≡ true
-    or_true true = refl
-    or_true false = refl
+    ap (λ b. p w.now || b) (seen-any p words i d (omega (arith, within)) passes) ∙ or_right (p w.now) true refl

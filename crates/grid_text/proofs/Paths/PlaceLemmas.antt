@@ -1,7 +1,7 @@
 -- At a place that lines lead to, a line is allowed exactly where no row of the table holds, and then it leads to one
 -- place. Both are shown place by place: the head and the O and X lines by their words, the body by its commands. What
 -- is known of the place (`IsPlace`) is handed on along the path.
-use Rattle.std.proofs.Common.{◌≡◌, ◌≢◌, ℕ, ◌<◌, ◌^◌, false, cond, List, [], ◌∷◌, length, slice_index, map, None, Some, refl, ap, subst, ◌∙◌, sym, arith, inl, inr, codes}
+use Rattle.std.proofs.Common.{◌≡◌, ◌≢◌, ℕ, ◌<◌, ◌^◌, false, cond, List, [], ◌∷◌, length, slice_index, map, None, Some, refl, ap, subst, ◌∙◌, sym, arith, inl, inr}
 use Rattle.std.specs.Prelude.{nat_le}
 use Rattle.std.specs.List.{Contains}
 use Rattle.std.specs.Fmt.{decimal}
@@ -11,7 +11,7 @@ use Rattle.state_rank.proofs.MemberLemmas.{member_head, member_tail}
 use Rattle.torus_geom.specs.Marks.{IsGrid}
 use Rattle.grid_text.specs.Words.{Word}
 use Rattle.grid_text.specs.Script.{with_command}
-use Rattle.grid_text.specs.Document.{Place, head, o_line, x_line, body, ended, Leads, Path}
+use Rattle.grid_text.specs.Document.{Place, head, o_line, x_line, body, ended, Leads, Path, grid_word, o_word, x_word}
 use Rattle.grid_text.specs.Faults.{fault_at}
 use Rattle.grid_text.specs.Inner.Reading.{IsPlace}
 use Rattle.grid_text.specs.Limits.{max_commands}
@@ -107,18 +107,18 @@ pub one_place : (p q r : Place) (words : List Word) → IsPlace p → Leads p wo
 one_place head q r words h l m =
     let small = l.1.greatest in
     let small_m = m.1.greatest in
-    let whole : codes "grid" ∷ decimal l.0 ∷ [] ≡ codes "grid" ∷ decimal m.0 ∷ [] = sym l.2 ∙ m.2 in
+    let whole : grid_word ∷ decimal l.0 ∷ [] ≡ grid_word ∷ decimal m.0 ∷ [] = sym l.2 ∙ m.2 in
     let forms : decimal l.0 ≡ decimal m.0 = cc in
     l.3 ∙ ap o_line (decimal_injective l.0 m.0 (omega arith) (omega arith) forms) ∙ sym m.3
 one_place (o_line n) q r words h l m =
     let small = h.greatest in
     let same = same_rows n l.0 m.0 (omega arith) (below-IsBijection n l.0 l.1) (below-IsBijection n m.0 m.1)
-    (tails_of (codes "O") (map decimal l.0) (map decimal m.0) (sym l.2 ∙ m.2)) in
+    (tails_of o_word (map decimal l.0) (map decimal m.0) (sym l.2 ∙ m.2)) in
     l.3 ∙ ap (x_line n) same ∙ sym m.3
 one_place (x_line n o) q r words h l m =
     let small = h.0.greatest in
     let same = same_rows n l.0 m.0 (omega arith) (below-IsBijection n l.0 l.1) (below-IsBijection n m.0 m.1)
-    (tails_of (codes "X") (map decimal l.0) (map decimal m.0) (sym l.3 ∙ m.3)) in
+    (tails_of x_word (map decimal l.0) (map decimal m.0) (sym l.3 ∙ m.3)) in
     l.4 ∙ ap (λ x. body (record { grid = record { o = o; x = x }; commands = [] })) same ∙ sym m.4
 one_place (body s) q r words h (inl l) (inl m) = l.1 ∙ sym m.1
 one_place (body s) q r words h (inl l) (inr m) = absurd (command-not_end s h words m.0 m.1 m.2 l.0)

@@ -1,11 +1,11 @@
 -- The lines of the head: the line `grid`, and the O and X lines. An O or X line has a fault by the first of: another
 -- first word, another number of words, a word that is no row, a row that stands twice, and, on the X line, a square
 -- with both marks (`row-word` to `row-square`); without a fault its words are those of a bijection (`row-read`).
-use Rattle.std.proofs.Common.{◌≡◌, ◌≢◌, ℕ, zero, suc, ◌+◌, ◌-◌, ◌<◌, ◌^◌, Bool, true, false, ◌||◌, cond, List, [], ◌∷◌, ◌++◌, length, map, replicate, take, set, Bor, get_or, slice_index, Option, None, Some, refl, ap, subst, ◌∙◌, sym, arith, inl, inr, true≢false, codes}
+use Rattle.std.proofs.Common.{◌≡◌, ◌≢◌, ℕ, zero, suc, ◌+◌, ◌-◌, ◌<◌, ◌^◌, Bool, true, false, ◌||◌, cond, List, [], ◌∷◌, ◌++◌, length, map, replicate, take, set, Bor, get_or, slice_index, Option, None, Some, refl, ap, subst, ◌∙◌, sym, arith, inl, inr, true≢false}
 use Rattle.std.specs.Prelude.{is_none}
 use Rattle.std.specs.List.{list_any, zip, Contains, All}
 use Rattle.std.specs.Fmt.{decimal}
-use Rattle.std.proofs.lemmas.Bool.{cases_Bool}
+use Rattle.std.proofs.lemmas.Bool.{cases_Bool, or_parts}
 use Rattle.std.proofs.lemmas.List.{length-map, length-replicate, map-append, take_more_set}
 use Rattle.std.proofs.lemmas.List.Elements.{All-push, All-contains, Contains-get_or}
 use Rattle.std.proofs.Math.Bool.{or-false}
@@ -17,12 +17,12 @@ use Rattle.torus_geom.specs.Marks.{AreBijections, SharesSquare}
 use Rattle.torus_geom.specs.declared.grids.GridFault.{GridFault}
 use Rattle.torus_geom.specs.declared.grids.GridFault.TheVariants.{NotPermutation, SameSquare}
 use Rattle.std.proofs.lemmas.Fmt.{decimal_injective}
-use Rattle.grid_text.specs.Document.{Place, head, o_line, x_line}
+use Rattle.grid_text.specs.Document.{Place, head, o_line, x_line, grid_word, o_word, x_word}
 use Rattle.grid_text.specs.Faults.{Kind, Form, exactly, number_between, is_bad, is_bad_by, form_at, form_among, row_form, is_after_end, is_not_commuting, has_same_square, has_repeated, is_bad_count, has_bad, fault_at}
 use Rattle.grid_text.specs.Inner.Reading.{IsRowPlace, AreNumerals}
 use Rattle.grid_text.specs.declared.faults.TextFault.TheVariants as fault
 use Rattle.grid_text.proofs.Lines.WordLemmas.{is_word-same, same_word, is_word-other}
-use Rattle.grid_text.proofs.Lines.KindLemmas.{or_parts, list_any-never, count-other, count-same, count-right, one_word, number_of_word, number-good}
+use Rattle.grid_text.proofs.Lines.KindLemmas.{list_any-never, count-other, count-same, count-right, one_word, number_of_word, number-good}
 use Rattle.grid_text.proofs.Lines.SeenLemmas.{seen, seen-more, seen-all}
 use Rattle.grid_text.proofs.States.RepeatedLemmas.{has_repeated-bijection, bijection-has_repeated, below-IsBijection}
 use Rattle.grid_text.proofs.Lines.FaultLemmas.{NoRowHolds, NoRowHolds-from_none, fault_at-no_word, fault_at-bad_word, fault_at-last, fault_at-count, fault_at-number, fault_at-permutation, fault_at-square}
@@ -45,22 +45,22 @@ form_at-expected p expected form forms = forms expected ∙ ap (λ b. cond b (So
 
 -- ---- the line `grid`
 
-pub grid-word : (words : List Word) → ((rest : List Word) → words ≢ codes "grid" ∷ rest)
+pub grid-word : (words : List Word) → ((rest : List Word) → words ≢ grid_word ∷ rest)
     → fault_at head words ≡ Some fault.BadWord
 grid-word words other =
-    fault_at-other_word head (codes "grid") (exactly (number_between 2 9 ∷ [])) refl (λ w. refl) words other
+    fault_at-other_word head grid_word (exactly (number_between 2 9 ∷ [])) refl (λ w. refl) words other
 
-pub grid-count : (words arguments : List Word) → words ≡ codes "grid" ∷ arguments → length arguments ≢ 1
+pub grid-count : (words arguments : List Word) → words ≡ grid_word ∷ arguments → length arguments ≢ 1
     → fault_at head words ≡ Some fault.BadCount
 grid-count words arguments e other =
-    ap (fault_at head) e ∙ fault_at-count head (exactly (number_between 2 9 ∷ [])) (codes "grid") arguments refl refl
+    ap (fault_at head) e ∙ fault_at-count head (exactly (number_between 2 9 ∷ [])) grid_word arguments refl refl
     (count-other 1 arguments other)
 
-pub grid-number : (words arguments : List Word) (w : Word) → words ≡ codes "grid" ∷ arguments → arguments ≡ w ∷ []
+pub grid-number : (words arguments : List Word) (w : Word) → words ≡ grid_word ∷ arguments → arguments ≡ w ∷ []
     → numeral 2 9 w ≡ None → fault_at head words ≡ Some fault.BadNumber
 grid-number words arguments w e one bad =
-    ap (fault_at head) (e ∙ ap (λ a. codes "grid" ∷ a) one)
-    ∙ fault_at-number head (exactly (number_between 2 9 ∷ [])) (codes "grid") (w ∷ []) refl refl refl refl
+    ap (fault_at head) (e ∙ ap (λ a. grid_word ∷ a) one)
+    ∙ fault_at-number head (exactly (number_between 2 9 ∷ [])) grid_word (w ∷ []) refl refl refl refl
     (ap (λ o. is_none o || false) bad)
 
 -- what the reader has read of it
@@ -68,11 +68,11 @@ pub grid-numeral : (m : ℕ) (w : Word) (r o : Option ℕ) → m ≡ 9 → r ≡
 grid-numeral m w r o same value is = ap (λ k. numeral 2 k w) (sym same) ∙ sym value ∙ is
 
 -- a right one has no fault
-pub grid-right : (words : List Word) (n : ℕ) → words ≡ codes "grid" ∷ decimal n ∷ [] → IsSize n
+pub grid-right : (words : List Word) (n : ℕ) → words ≡ grid_word ∷ decimal n ∷ [] → IsSize n
     → fault_at head words ≡ None
 grid-right words n e small =
     ap (fault_at head) e
-    ∙ fault_at-last head (exactly (number_between 2 9 ∷ [])) (codes "grid") (decimal n ∷ []) refl refl (record {
+    ∙ fault_at-last head (exactly (number_between 2 9 ∷ [])) grid_word (decimal n ∷ []) refl refl (record {
       count = refl;
       choice = refl;
       number = ap (λ b. b || false) (number-good 2 9 n small.least small.greatest (omega arith));
@@ -85,12 +85,12 @@ grid-right words n e small =
 
 -- and the other way round
 pub grid-read : (words : List Word) → fault_at head words ≡ None
-    → (n : ℕ) × (IsSize n × (words ≡ codes "grid" ∷ decimal n ∷ []))
+    → (n : ℕ) × (IsSize n × (words ≡ grid_word ∷ decimal n ∷ []))
 grid-read [] e = let none : Some fault.BadWord ≡ None = sym (fault_at-no_word head refl) ∙ e in cc
-grid-read (w ∷ arguments) e = elim (cases_Bool (is_word (codes "grid") w)) [
+grid-read (w ∷ arguments) e = elim (cases_Bool (is_word grid_word w)) [
   | inl t ↦
-      let same = same_word (codes "grid") w t in
-      let rows = NoRowHolds-from_none head (exactly (number_between 2 9 ∷ [])) (codes "grid") arguments refl refl
+      let same = same_word grid_word w t in
+      let rows = NoRowHolds-from_none head (exactly (number_between 2 9 ∷ [])) grid_word arguments refl refl
       (ap (λ v. fault_at head (v ∷ arguments)) same ∙ e) in
       let one = one_word arguments (count-same 1 arguments rows.0.count) in
       let good = subst (λ a. has_bad fault.BadNumber (exactly (number_between 2 9 ∷ [])) a ≡ false) one.1
@@ -100,7 +100,7 @@ grid-read (w ∷ arguments) e = elim (cases_Bool (is_word (codes "grid") w)) [
         (
           record { least = n.1.1; greatest = n.1.2 },
           (λ i. sym same i ∷ one.1 i)
-              ∙ ap (λ v. codes "grid" ∷ v ∷ []) n.1.0,
+              ∙ ap (λ v. grid_word ∷ v ∷ []) n.1.0,
         ),
       )
   | inr f ↦
@@ -268,10 +268,10 @@ module _ (n : ℕ) (rows : List ℕ) (words : List Word) (h : AreNumerals n rows
 -- ---- the X line
 
 -- the places of O and X lines
-pub IsRowPlace-o_line : (n : ℕ) → IsRowPlace (codes "O") n (o_line n)
+pub IsRowPlace-o_line : (n : ℕ) → IsRowPlace o_word n (o_line n)
 IsRowPlace-o_line n = record { not_ended = refl; form = λ w. refl; permutation = λ a. refl }
 
-pub IsRowPlace-x_line : (n : ℕ) (o : List ℕ) → IsRowPlace (codes "X") n (x_line n o)
+pub IsRowPlace-x_line : (n : ℕ) (o : List ℕ) → IsRowPlace x_word n (x_line n o)
 IsRowPlace-x_line n o = record { not_ended = refl; form = λ w. refl; permutation = λ a. refl }
 
 -- no O is in the square of an X
@@ -312,12 +312,12 @@ apart-squares o x same none c within e = true≢false (sym (squares-shared o x s
 
 -- the fault of an X line whose rows are right but for a square
 pub square-read : (o x : List ℕ) (words : List Word) → IsState o → IsBijection (length o) x
-    → words ≡ codes "X" ∷ map decimal x → SharesSquare (record { o = o; x = x })
+    → words ≡ x_word ∷ map decimal x → SharesSquare (record { o = o; x = x })
     → fault_at (x_line (length o) o) words ≡ Some fault.SameSquare
 square-read o x words state_o bijection e shares =
     let small = state_o.size.greatest in
     let same : length o ≡ length x = sym bijection.long in
-    row-square (x_line (length o) o) (codes "X") (length o) (IsRowPlace-x_line (length o) o) words (map decimal x) e
+    row-square (x_line (length o) o) x_word (length o) (IsRowPlace-x_line (length o) o) words (map decimal x) e
     (length-map x decimal ∙ bijection.long) (rows-good (length o) x (omega arith)
     (below-IsBijection (length o) x bijection))
     (has_repeated-bijection (length o) x (omega arith) bijection) (squares-shared o x same shares.0 shares.1 shares.2)
@@ -387,29 +387,29 @@ module _ (p : Place) (letter : Word) (n : ℕ) (place : IsRowPlace letter n p) w
 
 -- O lines
 pub o_line-right : (n : ℕ) (o : List ℕ) (words : List Word) → IsSize n → IsBijection n o
-    → words ≡ codes "O" ∷ map decimal o → fault_at (o_line n) words ≡ None
+    → words ≡ o_word ∷ map decimal o → fault_at (o_line n) words ≡ None
 o_line-right n o words small bijection e =
     ap (fault_at (o_line n)) e
-    ∙ fault_at-last (o_line n) (row_form n) (codes "O") (map decimal o) refl
-    (row-known (o_line n) (codes "O") n (IsRowPlace-o_line n))
-    (row-right (o_line n) (codes "O") n (IsRowPlace-o_line n) small o bijection refl refl)
+    ∙ fault_at-last (o_line n) (row_form n) o_word (map decimal o) refl
+    (row-known (o_line n) o_word n (IsRowPlace-o_line n))
+    (row-right (o_line n) o_word n (IsRowPlace-o_line n) small o bijection refl refl)
 
 pub o_line-read : (n : ℕ) (words : List Word) → IsSize n → fault_at (o_line n) words ≡ None
-    → (o : List ℕ) × (IsBijection n o × (words ≡ codes "O" ∷ map decimal o))
+    → (o : List ℕ) × (IsBijection n o × (words ≡ o_word ∷ map decimal o))
 o_line-read n words small none =
-    let r = row-read (o_line n) (codes "O") n (IsRowPlace-o_line n) small words none in (r.0, (r.1.0, r.1.1))
+    let r = row-read (o_line n) o_word n (IsRowPlace-o_line n) small words none in (r.0, (r.1.0, r.1.1))
 
 -- X lines
 pub x_line-right : (n : ℕ) (o x : List ℕ) (words : List Word) → IsSize n → IsBijection n o → IsBijection n x
-    → ((c : ℕ) → c < n → slice_index o c ≢ slice_index x c) → words ≡ codes "X" ∷ map decimal x
+    → ((c : ℕ) → c < n → slice_index o c ≢ slice_index x c) → words ≡ x_word ∷ map decimal x
     → fault_at (x_line n o) words ≡ None
 x_line-right n o x words small bijection_o bijection apart e =
     let most = small.greatest in
     let long = bijection_o.long in
     ap (fault_at (x_line n o)) e
-    ∙ fault_at-last (x_line n o) (row_form n) (codes "X") (map decimal x) refl
-    (row-known (x_line n o) (codes "X") n (IsRowPlace-x_line n o))
-    (row-right (x_line n o) (codes "X") n (IsRowPlace-x_line n o) small x bijection
+    ∙ fault_at-last (x_line n o) (row_form n) x_word (map decimal x) refl
+    (row-known (x_line n o) x_word n (IsRowPlace-x_line n o))
+    (row-right (x_line n o) x_word n (IsRowPlace-x_line n o) small x bijection
     (squares-apart o x (bijection_o.long ∙ sym bijection.long) (λ c l. apart c (omega arith))
     (λ r m. let b = below-IsBijection n o bijection_o r m in omega arith)
     (λ r m. let b = below-IsBijection n x bijection r m in omega arith)) refl)
@@ -417,8 +417,8 @@ x_line-right n o x words small bijection_o bijection apart e =
 pub x_line-read : (n : ℕ) (o : List ℕ) (words : List Word) → IsSize n → IsBijection n o
     → fault_at (x_line n o) words ≡ None
     → (x : List ℕ) × (IsBijection n x × ((c : ℕ) → c < n → slice_index o c ≢ slice_index x c)
-    × (words ≡ codes "X" ∷ map decimal x))
+    × (words ≡ x_word ∷ map decimal x))
 x_line-read n o words small bijection_o none =
-    let r = row-read (x_line n o) (codes "X") n (IsRowPlace-x_line n o) small words none in
+    let r = row-read (x_line n o) x_word n (IsRowPlace-x_line n o) small words none in
     let long = bijection_o.long in
     (r.0, (r.1.0, (λ c l. apart-squares o r.0 (bijection_o.long ∙ sym r.1.0.long) r.1.2 c (omega arith)), r.1.1))

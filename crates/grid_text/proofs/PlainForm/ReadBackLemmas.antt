@@ -6,7 +6,7 @@ use Rattle.std.specs.Prelude.{nat_le}
 use Rattle.std.specs.List.{filter, flat_map}
 use Rattle.std.proofs.lemmas.List.Sorted.{IsPermutation-refl}
 use Rattle.std.specs.Fmt.{decimal}
-use Rattle.std.proofs.lemmas.Bool.{ne_eqb}
+use Rattle.std.proofs.lemmas.Bool.{and_parts, ne_eqb}
 use Rattle.std.proofs.lemmas.Fmt.{decimal_digit}
 use Rattle.state_rank.specs.States.{state_word}
 use Rattle.state_rank.proofs.MemberLemmas.{member_head, member_tail}
@@ -24,7 +24,7 @@ use Rattle.grid_text.specs.declared.commands.Sign.TheVariants.{Plus, Minus}
 use Rattle.grid_text.specs.declared.commands.Command.TheVariants as command
 use Rattle.grid_text.specs.Limits.{max_commands}
 use Rattle.grid_text.specs.Script.{GridScript, IsScript, AreAllowed, grid_after_all}
-use Rattle.grid_text.specs.Document.{head, o_line, x_line, body, ended, end_word, Path, IsDocument}
+use Rattle.grid_text.specs.Document.{head, o_line, x_line, body, ended, end_word, Path, IsDocument, grid_word, o_word, x_word}
 use Rattle.grid_text.proofs.Lines.KindLemmas.{IsGood, AreGood}
 use Rattle.grid_text.proofs.Lines.CommandLemmas.{arguments-allowed}
 use Rattle.grid_text.proofs.Lines.ScriptLemmas.{IsGridOf-grid_in_force, IsScript-with_command, IsScript-no_command, grid_after_all-push}
@@ -139,10 +139,6 @@ clean_high (b ∷ w) e =
     let high : 33 ≤ b = grind (arith, nat_tests) in
     let other = other_byte b high in
     (other.0, other.1, clean_high w (and_parts (nat_le 33 b) (list_all (λ b. nat_le 33 b) w) e).1)
-  where
-    and_parts : (a b : Bool) → (a && b) ≡ true → (a ≡ true) × (b ≡ true)
-    and_parts true b e = (refl, e)
-    and_parts false b e = absurd (true≢false (sym e))
 
 closed : (w : Word) → list_all (λ b. nat_le 33 b) w ≡ true → 0 < length w → IsPlainWord w
 closed w e some = (clean_high w e, some)
@@ -232,21 +228,21 @@ IsDocument-plain_form s h =
     let o = s.grid.o in
     let x = s.grid.x in
     let tail = flat_map command_line s.commands ++ line_of (end_word ∷ []) in
-    let l1 = line_of (codes "grid" ∷ decimal n ∷ []) in
-    let l2 = line_of (codes "O" ∷ map decimal o) in
-    let l3 = line_of (codes "X" ∷ map decimal x) in
+    let l1 = line_of (grid_word ∷ decimal n ∷ []) in
+    let l2 = line_of (o_word ∷ map decimal o) in
+    let l3 = line_of (x_word ∷ map decimal x) in
     let whole : plain_form s ≡ l1 ++ (l2 ++ (l3 ++ tail)) =
     append_assoc (l1 ++ l2 ++ l3) (flat_map command_line s.commands) (line_of (end_word ∷ []))
     ∙ append_assoc (l1 ++ l2) l3 tail ∙ append_assoc l1 l2 (l3 ++ tail) in
     let plain_o = plain_decimals o (λ r m. let b = below-IsBijection n o h.grid.o r m in omega arith) in
     let plain_x = plain_decimals x (λ r m. let b = below-IsBijection n x h.grid.x r m in omega arith) in
     let lines = ap (λ t. map words_of (lines_of t)) whole
-    ∙ lines-plain (codes "grid") (decimal n ∷ []) (l2 ++ (l3 ++ tail)) (closed (codes "grid") refl (omega arith))
+    ∙ lines-plain grid_word (decimal n ∷ []) (l2 ++ (l3 ++ tail)) (closed grid_word refl (omega arith))
     (plain_decimal n (omega arith), tt)
-    ∙ ap (λ ls. (codes "grid" ∷ decimal n ∷ []) ∷ ls)
-    (lines-plain (codes "O") (map decimal o) (l3 ++ tail) (closed (codes "O") refl (omega arith)) plain_o
-    ∙ ap (λ ls. (codes "O" ∷ map decimal o) ∷ ls)
-    (lines-plain (codes "X") (map decimal x) tail (closed (codes "X") refl (omega arith)) plain_x)) in
+    ∙ ap (λ ls. (grid_word ∷ decimal n ∷ []) ∷ ls)
+    (lines-plain o_word (map decimal o) (l3 ++ tail) (closed o_word refl (omega arith)) plain_o
+    ∙ ap (λ ls. (o_word ∷ map decimal o) ∷ ls)
+    (lines-plain x_word (map decimal x) tail (closed x_word refl (omega arith)) plain_x)) in
     subst (λ ls. Path head ls (ended s)) (sym lines) (
       o_line n,
       (n, h.grid.is_size, refl, refl),

@@ -7,14 +7,14 @@ use Rattle.std.proofs.lemmas.List.Sorted.{sum_by-IsPermutation}
 use Rattle.std.specs.List.{list_any, sum_by, Contains, All, AllPairs}
 use Rattle.std.specs.Fmt.{decimal}
 use Rattle.std.proofs.lemmas.Fmt.{decimal_injective}
-use Rattle.std.proofs.lemmas.Bool.{cases_Bool, cases_order}
+use Rattle.std.proofs.lemmas.Bool.{cases_Bool, cases_order, or_parts}
 use Rattle.std.proofs.lemmas.List.{get_or_default}
 use Rattle.state_rank.specs.Bijection.{IsBijection}
 use Rattle.state_rank.proofs.MemberLemmas.{member_cases, member_head, member_tail, no_member, Contains-map, member_of_map, pairs_cons, pairs_head, pairs_tail}
 use Rattle.grid_text.specs.Words.{Word, is_word}
 use Rattle.grid_text.specs.Faults.{has_repeated}
 use Rattle.grid_text.proofs.Lines.WordLemmas.{same_word, is_word-same, is_word-other}
-use Rattle.grid_text.proofs.Lines.KindLemmas.{or_parts}
+
 
 -- ---- a list has no element that passes a test
 

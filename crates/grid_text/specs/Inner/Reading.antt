@@ -1,14 +1,15 @@
 -- What the parts of the reader of documents say of lines.
---     example k          a command whose lines begin with the keyword, but for `end`
---     keyword_word k     the word of a keyword
---     keyword_form n k   the form of the lines that begin with it, for a grid of size n
---     is_empty_form form the form of a line of one word
---     stands_alone k     no word may follow the keyword
---     IsPlace p          what is known of a place that lines lead to
---     IsReadLine s words line   the words are those of the command, which may stand there, or of `end`
---     IsRead s words r   what a line of the body of a script is: a command that may stand there, or `end`,
---                        or a line with a fault before `TooMany`
---     IsRowPlace letter n p, AreNumerals n rows words   what O and X lines share
+--     example k                   a command whose lines begin with the keyword, but for `end`
+--     keyword_word k              the word of a keyword
+--     keyword_form n k            the form of the lines that begin with it, for a grid of size n
+--     is_empty_form form          the form of a line of one word
+--     stands_alone k              no word may follow the keyword
+--     IsPlace p                   what is known of a place that lines lead to
+--     IsReadLine s words line     the words are those of the command, which may stand there, or of `end`
+--     IsRead s words r            what a line of the body of a script is: a command that may stand there, or
+--                                 `end`, or a line with a fault before `TooMany`
+--     IsRowPlace letter n p       a line of n rows that begins with the letter stands at the place
+--     AreNumerals n rows words    the words are the decimal forms of rows below n
 use Rattle.std.specs.Prelude.{◌≡◌, ℕ, ◌<◌, Bool, true, false, List, [], ◌∷◌, map}
 use Rattle.std.specs.List.{All}
 use Rattle.std.specs.Fmt.{decimal}
@@ -75,13 +76,11 @@ abbrev pub IsRead : GridScript → List Word → Result (Option Command) TextFau
 IsRead s words (Ok line) = IsReadLine s words line
 IsRead s words (Err f) = fault_at (body s) words ≡ Some f
 
--- a line of n rows that begins with the letter stands at the place
 pub record IsRowPlace (letter : Word) (n : ℕ) (p : Place) : Type 0 where
   pub not_ended : is_after_end p ≡ false
   pub form : (word : Word) → form_at p word ≡ form_among ((letter, row_form n) ∷ []) word
   pub permutation : (arguments : List Word) → is_not_permutation p arguments ≡ has_repeated arguments
 
--- the words are the decimal forms of rows below n
 pub record AreNumerals (n : ℕ) (rows : List ℕ) (words : List Word) : Type 0 where
   pub forms : words ≡ map decimal rows
   pub below : All (λ r. r < n) rows

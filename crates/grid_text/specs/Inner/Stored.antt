@@ -1,5 +1,5 @@
--- How a script is kept: beside its grid and its commands, the grid in force after them.
---     script s    the script that is seen
+-- How a script is stored: beside its grid and its commands, the grid in force after them.
+--     script s      the script that is seen
 --     IsStored s    the parts are those of a script
 use Rattle.std.specs.Prelude.{◌≡◌}
 use Rattle.grid_text.specs.Script.{GridScript, IsScript, grid_in_force}

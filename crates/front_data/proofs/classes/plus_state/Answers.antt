@@ -2,7 +2,8 @@ use Rattle.std.proofs.Common.{◌≡◌, ℕ, ◌≤◌, List, slice_index, take
 use Rattle.state_rank.specs.declared.TheConstants.{MAX_SIZE}
 use Rattle.state_rank.specs.States.{IsState}
 use Rattle.torus_geom.specs.Marks.{Marks, size}
-use Rattle.torus_geom.specs.Front.{one_up, one_down, plus_state}
+use Rattle.torus_geom.specs.Front.{plus_state}
+use Rattle.torus_geom.specs.Range.{one_up, one_down}
 use Rattle.front_data.proofs.FilledRows.{IsFilled, IsFilled-more}
 use Rattle.front_data.proofs.FrontLemmas.{take-plus_state, plus_state_IsState, border_of_state-plus_state, maslov-plus_state}
 use Rattle.front_data.proofs.classes.plus_state.Goals as goal

@@ -1,7 +1,7 @@
 use Rattle.std.proofs.Common.{slice_index}
 use Rattle.state_rank.specs.declared.TheConstants.{MAX_SIZE}
 use Rattle.torus_geom.specs.Marks.{size}
-use Rattle.torus_geom.specs.Front.{one_up, one_down}
+use Rattle.torus_geom.specs.Range.{one_up, one_down}
 use Rattle.front_data.proofs.FilledRows.{IsFilled}
 use Rattle.front_data.proofs.classes.plus_state.Given as goal
 

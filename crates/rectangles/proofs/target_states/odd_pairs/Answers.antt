@@ -2,7 +2,7 @@
 use Rattle.std.proofs.Common.{◌≡◌, ℕ, ◌<◌, length, slice_index, refl, ◌∙◌, arith}
 use Rattle.std.proofs.lemmas.List.{length-set}
 use Rattle.std.specs.Int.{bit_at}
-use Rattle.rectangles.specs.Open.{odd_bit}
+use Rattle.rectangles.specs.Inner.Open.{odd_bit}
 use Rattle.rectangles.proofs.PushLemmas.{filled_more}
 use Rattle.rectangles.proofs.target_states.odd_pairs.Goals as goal
 

@@ -1,6 +1,6 @@
 use Rattle.std.proofs.Common.{◌≡◌, ℕ, ◌<◌, length, slice_index}
 use Rattle.std.specs.Int.{bit_at}
-use Rattle.rectangles.specs.Open.{odd_bit}
+use Rattle.rectangles.specs.Inner.Open.{odd_bit}
 use Rattle.state_rank.specs.declared.TheConstants.{MAX_SIZE}
 use Rattle.rectangles.proofs.target_states.odd_pairs.Given as goal
 

@@ -1,6 +1,6 @@
 use Rattle.std.proofs.Common.{◌≡◌, ℕ, ◌<◌, length, slice_index, if◌then◌else◌}
 use Rattle.std.specs.Int.{bit_at}
-use Rattle.rectangles.specs.Open.{is_open}
+use Rattle.rectangles.specs.Inner.Open.{is_open}
 use Rattle.state_rank.specs.declared.TheConstants.{MAX_SIZE}
 use Rattle.rectangles.proofs.target_states.open_rectangles.Given as goal
 

@@ -2,8 +2,8 @@
 use Rattle.std.proofs.Common.{◌≡◌, ℕ, List, ◌+◌, ◌-◌, ◌<◌, ◌≤◌, ◌++◌, length, take, reverse, slice_index, refl, ap, ◌∙◌, sym, arith}
 use Rattle.std.proofs.lemmas.List.{append-nil, take_all}
 use Rattle.std.specs.List.{flat_map}
-use Rattle.state_rank.specs.Bijection.{ascending}
-use Rattle.rectangles.specs.Open.{numbers, exchanges, exchanges_above}
+use Rattle.state_rank.specs.Bijection.{ascending, numbers}
+use Rattle.rectangles.specs.Inner.Open.{exchanges, exchanges_above}
 use Rattle.rectangles.proofs.PushLemmas.{circle_more, circle_room, slice_index-descending, length-descending}
 use Rattle.rectangles.proofs.target_states.push_above.Goals as goal
 

@@ -2,8 +2,8 @@
 use Rattle.std.proofs.Common.{◌≡◌, ◌++◌, length, slice_index, ap, ◌∙◌, sym, arith}
 use Rattle.std.proofs.lemmas.List.{take_all}
 use Rattle.std.specs.List.{flat_map}
-use Rattle.state_rank.specs.Bijection.{ascending}
-use Rattle.rectangles.specs.Open.{numbers, exchanges, exchanges_below}
+use Rattle.state_rank.specs.Bijection.{ascending, numbers}
+use Rattle.rectangles.specs.Inner.Open.{exchanges, exchanges_below}
 use Rattle.rectangles.proofs.PushLemmas.{circle_more, circle_room, slice_index-ascending, length-ascending}
 use Rattle.rectangles.proofs.target_states.push_below.Goals as goal
 

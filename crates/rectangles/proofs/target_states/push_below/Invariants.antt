@@ -1,7 +1,7 @@
 use Rattle.std.proofs.Common.{◌≡◌, ◌++◌, length, take}
 use Rattle.std.specs.List.{flat_map}
 use Rattle.state_rank.specs.Bijection.{ascending}
-use Rattle.rectangles.specs.Open.{exchanges_below}
+use Rattle.rectangles.specs.Inner.Open.{exchanges_below}
 use Rattle.rectangles.proofs.target_states.push_below.Given as goal
 
 abbrev pub invariant-loop-a : goal.invariant-loop-a

@@ -1,5 +1,6 @@
 use Rattle.std.proofs.Common.{◌≡◌, ◌-◌, ◌++◌, take}
-use Rattle.rectangles.specs.Open.{numbers, exchanges}
+use Rattle.state_rank.specs.Bijection.{numbers}
+use Rattle.rectangles.specs.Inner.Open.{exchanges}
 use Rattle.rectangles.proofs.target_states.push_exchanges.Given as goal
 
 abbrev pub invariant-loop-r : goal.invariant-loop-r

@@ -12,7 +12,7 @@ use Rattle.torus_geom.specs.Degrees.{bidegree}
 use Rattle.f2_algebra.specs.Bigraded.{up_m}
 use Rattle.rectangles.proofs.GridComplexLemmas.{bidegree-listed}
 use Rattle.std.proofs.Math.IntN.{ℤ}
-use Rattle.rectangles.specs.Open.{is_open, odd_bit, exchanges_below, exchanges_above}
+use Rattle.rectangles.specs.Inner.Open.{is_open, odd_bit, exchanges_below, exchanges_above}
 use Rattle.rectangles.proofs.PushLemmas.{odd_bit-open}
 use Rattle.rectangles.proofs.TargetLemmas.{targets_border, targets_few, targets_states}
 use Rattle.rectangles.proofs.target_states.targets.Goals as goal

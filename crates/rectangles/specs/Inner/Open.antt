@@ -5,15 +5,14 @@
 --     is_odd_pair g x a b                exactly one of the two rectangles between the circles a and b is open
 --     odd_bit opens a b                  1 where b is right of a and exactly one of the two is open by the sets of bits
 --                                        `opens`, else 0
---     numbers from to                    the numbers from `from` up to `to`
 --     exchanges x columns a odd rows     the exchanges of circle a with the circles of those of the rows whose bit is
 --                                        set in `odd`
 --     exchanges_below, exchanges_above   those with lower rows, which are before x, and those with higher rows, which
 --                                        are after x, where `odds` has the bits for each circle
-use Rattle.std.specs.Prelude.{ℕ, ◌+◌, ◌-◌, ◌%◌, Bool, nat_lt, if◌then◌else◌, ◌&&◌, ◌||◌, not, List, length, map, slice_index, swap, ◌==◌}
+use Rattle.std.specs.Prelude.{ℕ, ◌+◌, ◌%◌, Bool, nat_lt, if◌then◌else◌, ◌&&◌, ◌||◌, not, List, length, map, slice_index, swap, ◌==◌}
 use Rattle.std.specs.Int.{bit_at}
 use Rattle.std.specs.List.{filter}
-use Rattle.state_rank.specs.Bijection.{tabulate}
+use Rattle.state_rank.specs.Bijection.{numbers}
 use Rattle.torus_geom.specs.Marks.{Marks}
 use Rattle.torus_geom.specs.Rectangle.{is_empty, is_unmarked}
 use Rattle.torus_geom.specs.declared.rects.Rect.{Rect}
@@ -29,9 +28,6 @@ is_odd_pair g x a b = (is_open g x a b && not (is_open g x b a)) || (not (is_ope
 
 abbrev pub odd_bit : List ℕ → ℕ → ℕ → ℕ
 odd_bit opens a b = if nat_lt a b then (bit_at (slice_index opens a) b + bit_at (slice_index opens b) a) % 2 else 0
-
-abbrev pub numbers : ℕ → ℕ → List ℕ
-numbers from to = tabulate (to - from) (λ i. from + i)
 
 abbrev pub exchanges : List ℕ → List ℕ → ℕ → ℕ → List ℕ → List (List ℕ)
 exchanges x columns a odd rows = map (λ r. swap x a (slice_index columns r)) (filter (λ r. bit_at odd r == 1) rows)

@@ -2,7 +2,7 @@
 use Rattle.std.proofs.Common.{◌&&◌, ◌||◌, ap, ◌∙◌, sym, ltb, arith}
 use Rattle.std.proofs.lemmas.Bool.{le-leb, lt-leb}
 use Rattle.torus_geom.proofs.RangeLemmas.{in_range-plain, in_range-across}
-use Rattle.torus_geom.proofs.rects.in_range.Goals as goal
+use Rattle.torus_geom.proofs.ranges.in_range.Goals as goal
 
 pub returns-then-a-i : goal.returns-then-a-i
 returns-then-a-i c =
