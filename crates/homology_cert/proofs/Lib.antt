@@ -1,5 +1,6 @@
-pub mod CellCounts
-pub mod RowsBefore
 pub mod SliceRanks
+pub mod CellLemmas
+pub mod CountLemmas
+pub mod DegreeLemmas
 pub mod TableLemmas
-pub mod LoopLemmas
+pub mod LawLemmas

@@ -1,8 +1,8 @@
 -- The ranks of homology are the numbers of cells that are left of the slices.
-use Rattle.std.proofs.Common.{◌≡◌, ℕ, ◌<◌, ℤ, Bool, true, false, if◌then◌else◌, None, Some, is_some, List, refl, sym, ap, subst, ◌∙◌}
+use Rattle.std.proofs.Common.{◌≡◌, ℕ, ◌<◌, ℤ, Bool, true, false, if◌then◌else◌, None, Some, is_some, List, length, refl, sym, ap, subst, ◌∙◌}
 use Rattle.std.proofs.lemmas.Bool.{false≢true, ltb-true}
-use Rattle.f2_algebra.specs.Chain.{nothing}
-use Rattle.f2_algebra.specs.Complex.{Complex, IsComplex, IsRank}
+use Rattle.f2_algebra.specs.Chain.{Chain, codes, nothing}
+use Rattle.f2_algebra.specs.Complex.{Complex, IsComplex}
 use Rattle.f2_algebra.specs.Cancel.{Entry, IsLog, after}
 use Rattle.f2_algebra.specs.Certificate.{IsAllCells}
 use Rattle.f2_algebra.specs.Slice.{Slice, slice_complex, IsReduced}
@@ -16,8 +16,6 @@ use Rattle.torus_geom.specs.Degrees.{bidegree}
 use Rattle.torus_geom.specs.GridComplex.{grid_complex}
 use Rattle.torus_geom.specs.Homology.{IsHomologyRank}
 use Rattle.rectangles.proofs.GridComplexLemmas.{grid_complex_rules}
-use Rattle.homology_cert.specs.Places.{is_at, cell_count}
-use Rattle.homology_cert.proofs.CellCounts.{chain_to, chain_to-all, length-chain_to}
 
 -- the slice of the grid at a
 abbrev pub slice_of : Marks → ℤ → Complex ℤ
@@ -51,16 +49,11 @@ module _ (g : Marks) (grid : IsGrid g) (a : ℤ) where
   left-below left log r s h = slice-below g a s (sym (ap is_some (left-slice left log r s h)) ∙ h)
 
   -- the rank in degree (m, a) is the number of cells of degree m that are left of the slice
-  pub rank_of_reduction : (left : Complex ℤ) (log : List Entry) → IsReduction g a left log → (m : ℤ) → IsHomologyRank g m a (cell_count left (factorial (size g)) m)
-  rank_of_reduction left log r m =
-      let n = factorial (size g) in
-      let cells = chain_to (λ s. is_at m (left.degree s)) n in
-      let all = chain_to-all left n m (left-below left log r) in
+  pub rank_of_reduction : (left : Complex ℤ) (log : List Entry) → IsReduction g a left log → (m : ℤ) (cells : Chain) → IsAllCells left m cells → IsHomologyRank g m a (length (codes cells))
+  rank_of_reduction left log r m cells all =
       let all_after = subst (λ C. IsAllCells C m cells) r.is_after all in
       let bare = λ (s : ℕ). sym (ap (λ C. C.targets s) r.is_after) ∙ r.no_arrow s in
-      let rank = rank_of_log (slice_of g a) rules log r.stands bare m cells all_after in
-      (rank_at_second a (grid_complex g) refl m (cell_count left n m)).0
-      (subst (IsRank (slice_of g a) m) (length-chain_to (λ s. is_at m (left.degree s)) n) rank)
+      (rank_at_second a (grid_complex g) refl m (length (codes cells))).0 (rank_of_log (slice_of g a) rules log r.stands bare m cells all_after)
 
 -- a slice that was built and reduced
 pub reduction_of : (g : Marks) (a : ℤ) (old new : Slice) (log : List Entry) → slice_complex old ≡ slice_of g a → IsReduced old new log → IsReduction g a (slice_complex new) log

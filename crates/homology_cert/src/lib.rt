@@ -1,12 +1,14 @@
 //! The table of the ranks of grid homology.
 //!
 //! Read `rank_table` first. Its contract says that the answer is the table: all bidegrees with a rank
-//! above 0, each with its rank, in the order of a table; and that no bidegree has two ranks.
+//! above 0, each with its rank, in the order of a table; that each bidegree has a rank, and no two; and
+//! that a grid has one table.
 //! Stands on `sparse_complex` and `cancel`: a slice at each Alexander degree is built and its arrows
-//! are cancelled, and the cells that are left are counted.
+//! are cancelled, and the cells that are left are counted, in a map from bidegrees to ranks.
 #![tactic(auto)]
 
-mod counts;
+mod degrees;
+mod ranks;
 mod tables;
 
 pub use tables::rank_table;

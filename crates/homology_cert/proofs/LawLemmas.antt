@@ -1,0 +1,107 @@
+-- Laws of the ranks and the tables of a grid: in each bidegree there is a rank, and a grid has one table.
+use Rattle.std.proofs.Common.{◌≡◌, ℕ, zero, suc, ◌<◌, ℤ, Bool, true, false, ◌&&◌, ◌||◌, eqb, List, [], ◌∷◌, Contains, AllPairs, Some, None, if◌then◌else◌, is_some, ◌↔◌, ◌⊎◌, inl, inr, refl, sym, ap, ap₂, subst, ◌∙◌, arith}
+use Rattle.std.specs.Prelude.{◌<ℤ◌}
+use Rattle.std.specs.Ordering.{int_eq}
+use Rattle.std.proofs.lemmas.Bool.{cases_eq, eq-eqb, ltb-true, false≢true, and_parts, and_from}
+use Rattle.std.proofs.lemmas.Bool.Decides.{Decides-int_eq}
+use Rattle.std.proofs.lemmas.Int.{ints}
+use Rattle.f2_algebra.proofs.Existence.{exists_rank}
+use Rattle.f2_algebra.proofs.Sets.{any}
+use Rattle.state_rank.specs.States.{factorial, unrank}
+use Rattle.state_rank.proofs.MemberLemmas.{member_cases, member_head, member_tail, no_member, pairs_head, pairs_tail}
+use Rattle.torus_geom.specs.Marks.{Marks, size, IsGrid}
+use Rattle.torus_geom.specs.Degrees.{bidegree}
+use Rattle.torus_geom.specs.GridComplex.{grid_complex}
+use Rattle.torus_geom.specs.Homology.{IsHomologyRank, IsHomologyTable, Row, StandsBefore}
+use Rattle.rectangles.proofs.GridComplexLemmas.{grid_complex_rules}
+use Rattle.homology_cert.proofs.TableLemmas.{state_degree}
+
+-- ---- each bidegree has a rank
+same_bidegree : ℤ × ℤ → ℤ × ℤ → Bool
+same_bidegree p q = int_eq p.0 q.0 && int_eq p.1 q.1
+
+same_bidegree-is : (p q : ℤ × ℤ) → (same_bidegree p q ≡ true) ↔ (p ≡ q)
+unfolding same_bidegree
+same_bidegree-is p q = (
+  λ h.
+      let (first, second) = and_parts (int_eq p.0 q.0) (int_eq p.1 q.1) h in
+      let e = (Decides-int_eq p.0 q.0).0 first in
+      let f = (Decides-int_eq p.1 q.1).0 second in
+      λ i. (e i, f i),
+  λ e. and_from (int_eq p.0 q.0) (int_eq p.1 q.1) ((Decides-int_eq p.0 q.0).1 (ap (λ (t : ℤ × ℤ). t.0) e)) ((Decides-int_eq p.1 q.1).1 (ap (λ (t : ℤ × ℤ). t.1) e)),
+)
+
+-- the codes below n
+codes_below : ℕ → List ℕ
+codes_below zero = []
+codes_below (suc n) = n ∷ codes_below n
+
+any-codes_below : (n s : ℕ) → s < n → any s (codes_below n) ≡ true
+unfolding codes_below
+any-codes_below zero s l = absurd (omega arith)
+any-codes_below (suc n) s l = elim (cases_eq s n) [
+  | inl same ↦ ap (λ b. b || any s (codes_below n)) (eq-eqb s n same)
+  | inr other ↦ ap (λ b. eqb s n || b) (any-codes_below n s (below other)) ∙ either (eqb s n)
+]
+  where
+    below : (s ≡ n → ⊥) → s < n
+    below other = grind arith
+
+    either : (b : Bool) → (b || true) ≡ true
+    either true = refl
+    either false = refl
+
+pub some_homology_rank : (g : Marks) → IsGrid g → (m a : ℤ) → (d : ℕ) × IsHomologyRank g m a d
+some_homology_rank g grid m a =
+    exists_rank same_bidegree same_bidegree-is (grid_complex g) (grid_complex_rules g grid) (codes_below (factorial (size g)))
+    (λ s live. any-codes_below (factorial (size g)) s (below s live)) (m, a)
+  where
+    of_state : (s : ℕ) (b : Bool) → is_some (if b then Some (bidegree g (unrank (size g) s)) else None) ≡ true → b ≡ true
+    of_state s true h = refl
+    of_state s false h = h
+
+    below : (s : ℕ) → is_some ((grid_complex g).degree s) ≡ true → s < factorial (size g)
+    below s live = ltb-true s (factorial (size g)) (of_state s _ live)
+
+-- ---- lists in order with the same elements
+module _ {A : Type 0} (R : A → A → Type 0) (one_way : (x y : A) → R x y → R y x → ⊥) where
+  -- the first elements are the same
+  same_head : (x y : A) (xs ys : List A) → AllPairs R (x ∷ xs) → AllPairs R (y ∷ ys) → ((z : A) → Contains (x ∷ xs) z ↔ Contains (y ∷ ys) z) → x ≡ y
+  same_head x y xs ys p q same = elim (member_cases y ys x ((same x).0 (member_head x xs))) [
+    | inl is ↦ sym is
+    | inr later ↦ elim (member_cases x xs y ((same y).1 (member_head y ys))) [
+      | inl is ↦ is
+      | inr too ↦ absurd (one_way x y (pairs_head R x xs p y too) (pairs_head R y ys q x later))
+    ]
+  ]
+
+  -- what stands after the first element of one list stands after that of the other
+  in_tail : (x y z : A) (xs ys : List A) → AllPairs R (x ∷ xs) → x ≡ y → (Contains (x ∷ xs) z → Contains (y ∷ ys) z) → Contains xs z → Contains ys z
+  in_tail x y z xs ys p e goes inside = elim (member_cases y ys z (goes (member_tail x xs z inside))) [
+    | inl is ↦ let loop = subst (R x) (sym is ∙ sym e) (pairs_head R x xs p z inside) in absurd (one_way x x loop loop)
+    | inr later ↦ later
+  ]
+
+  same_list : (xs ys : List A) → AllPairs R xs → AllPairs R ys → ((z : A) → Contains xs z ↔ Contains ys z) → xs ≡ ys
+  same_list [] [] p q same = refl
+  same_list [] (y ∷ ys) p q same = absurd (no_member y ((same y).1 (member_head y ys)))
+  same_list (x ∷ xs) [] p q same = absurd (no_member x ((same x).0 (member_head x xs)))
+  same_list (x ∷ xs) (y ∷ ys) p q same =
+      let first = same_head x y xs ys p q same in
+      let tails = same_list xs ys (pairs_tail R x xs p) (pairs_tail R y ys q)
+      (λ z. (in_tail x y z xs ys p first (same z).0, in_tail y x z ys xs q (sym first) (same z).1)) in
+      λ i. first i ∷ tails i
+
+-- ---- a grid has one table
+one_way : (p q : Row) → StandsBefore p q → StandsBefore q p → ⊥
+one_way p q (inl a) (inl b) = omega (arith, ints, a, b)
+one_way p q (inl a) (inr b) = omega (arith, ints, a, b.0)
+one_way p q (inr a) (inl b) = omega (arith, ints, a.0, b)
+one_way p q (inr a) (inr b) = omega (arith, ints, a.1, b.1)
+
+pub one_homology_table : (g : Marks) (s t : List Row) → IsHomologyTable g s → IsHomologyTable g t → s ≡ t
+one_homology_table g s t p q =
+    same_list StandsBefore one_way s t p.ordered q.ordered (λ z. (
+      λ inside. (q.complete z.0 z.1 z.2).1 ((p.complete z.0 z.1 z.2).0 inside),
+      λ inside. (p.complete z.0 z.1 z.2).1 ((q.complete z.0 z.1 z.2).0 inside),
+    ))

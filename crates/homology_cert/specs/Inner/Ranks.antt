@@ -1,0 +1,90 @@
+-- What is kept while the table of a grid is made: the Alexander degrees of its states, and a map from
+-- bidegrees, the Alexander degree first, to ranks.
+--     degree_cmp p q                the order of the keys: by the Alexander degree, then by the Maslov degree
+--     Ranks                         such a map
+--     rank_in ranks a m             what the map has at (a, m), or 0
+--     row_of e                      the row of an entry of the map
+--     AreSmall g                    each state of the grid has degrees that are not great
+--     HasHomology g row             the row is one of the table of the grid
+--     HasDegrees g n degrees        each state with a rank below n has degrees that are not great, and its
+--                                   Alexander degree is in the set
+--     degree_count m cells          how many of the cells have the Maslov degree m
+--     HasRanks g a cells            at a, the number of cells of each Maslov degree is the rank in that degree
+--     AreCounted a cells old new    the map has the numbers of the cells at a, and at other degrees what it had
+--     IsTold g ranks a              the map has the ranks at a
+--     IsDone g left ranks           it has the ranks but at the degrees of the list, where it has nothing
+--     AreReversed xs ys             ys is xs in the other order
+--     AreRows g rows                the rows are those of the table of the grid, in order
+use Rattle.std.specs.Prelude.{◌≡◌, ◌↔◌, ℕ, ◌^◌, ◌<◌, true, List, length, map, IsTrue, ℤ}
+use Rattle.std.specs.List.{All, AllPairs, Contains, ReversedBelow, filter}
+use Rattle.std.specs.Option.{unwrap_or, IfSome}
+use Rattle.std.specs.Ordering.{int_cmp, int_eq, ordering_then}
+use Rattle.std.specs.declared.cmp.Ordering.{Ordering}
+use Rattle.std.specs.declared.option.Option.TheVariants.{None}
+use Rattle.std.specs.BTreeMap as tree
+use Rattle.std.specs.BTreeMap.{BTreeMap}
+use Rattle.std.specs.BTreeSet as sorted
+use Rattle.std.specs.BTreeSet.{BTreeSet}
+use Rattle.state_rank.specs.States.{factorial, unrank}
+use Rattle.torus_geom.specs.Marks.{Marks, size}
+use Rattle.torus_geom.specs.Degrees.{maslov_o, alexander}
+use Rattle.torus_geom.specs.Homology.{IsHomologyRank}
+use Rattle.sparse_complex.specs.declared.slices.Cell.{Cell}
+use Rattle.hat_division.specs.Table.{comes_before}
+use Rattle.hat_division.specs.declared.tables.TableRow.{TableRow}
+use Rattle.homology_cert.specs.Tables.{IsSmallDegree, HasSmallRank}
+
+abbrev pub degree_cmp : ℤ × ℤ → ℤ × ℤ → Ordering
+degree_cmp p q = ordering_then (int_cmp p.0 q.0) (int_cmp p.1 q.1)
+
+abbrev pub Ranks : Type 0
+Ranks = BTreeMap (ℤ × ℤ) ℕ
+
+abbrev pub rank_in : Ranks → ℤ → ℤ → ℕ
+rank_in ranks a m = unwrap_or (tree.get degree_cmp ranks (a, m)) 0
+
+abbrev pub row_of : (ℤ × ℤ) × ℕ → TableRow
+row_of e = record { m = e.0.1; a = e.0.0; rank = e.1 }
+
+pub record AreSmall (g : Marks) : Type 0 where
+  pub maslov : (s : ℕ) → s < factorial (size g) → IsSmallDegree (maslov_o g (unrank (size g) s))
+  pub alexander : (s : ℕ) → s < factorial (size g) → IsSmallDegree (alexander g (unrank (size g) s))
+
+pub record HasHomology (g : Marks) (row : TableRow) : Type 0 where
+  pub positive : 0 < row.rank
+  pub rank : IsHomologyRank g row.m row.a row.rank
+
+pub record HasDegrees (g : Marks) (n : ℕ) (degrees : BTreeSet ℤ) : Type 0 where
+  pub small_maslov : (s : ℕ) → s < n → IsSmallDegree (maslov_o g (unrank (size g) s))
+  pub small_alexander : (s : ℕ) → s < n → IsSmallDegree (alexander g (unrank (size g) s))
+  pub found : (s : ℕ) → s < n → sorted.contains int_cmp degrees (alexander g (unrank (size g) s)) ≡ true
+
+abbrev pub degree_count : ℤ → List Cell → ℕ
+degree_count m cells = length (filter (λ c. int_eq c.maslov m) cells)
+
+pub record HasRanks (g : Marks) (a : ℤ) (cells : List Cell) : Type 0 where
+  pub ranks : (m : ℤ) → IsHomologyRank g m a (degree_count m cells)
+  pub few : length cells < 2 ^ 32
+
+pub record AreCounted (a : ℤ) (cells : List Cell) (old new : Ranks) : Type 0 where
+  pub counts : (m : ℤ) → rank_in new a m ≡ degree_count m cells
+  pub others : (b m : ℤ) → (b ≡ a → ⊥) → tree.get degree_cmp new (b, m) ≡ tree.get degree_cmp old (b, m)
+  pub positive : (b m : ℤ) → IfSome (tree.get degree_cmp new (b, m)) (λ d. 0 < d)
+
+pub record IsTold (g : Marks) (ranks : Ranks) (a : ℤ) : Type 0 where
+  pub told : (m : ℤ) → IsHomologyRank g m a (rank_in ranks a m)
+  pub small : (m : ℤ) → rank_in ranks a m < 2 ^ 32
+
+pub record IsDone (g : Marks) (left : List ℤ) (ranks : Ranks) : Type 0 where
+  pub done : (a : ℤ) → (Contains left a → ⊥) → IsTold g ranks a
+  pub fresh : (a m : ℤ) → Contains left a → tree.get degree_cmp ranks (a, m) ≡ None
+  pub positive : (a m : ℤ) → IfSome (tree.get degree_cmp ranks (a, m)) (λ d. 0 < d)
+
+pub record AreReversed {X : Type 0} (xs ys : List X) : Type 0 where
+  pub long : length ys ≡ length xs
+  pub places : ReversedBelow xs ys (length xs)
+
+pub record AreRows (g : Marks) (rows : List TableRow) : Type 0 where
+  pub ordered : AllPairs (λ p q. IsTrue (comes_before p q)) rows
+  pub complete : (row : TableRow) → Contains rows row ↔ HasHomology g row
+  pub ranks : All HasSmallRank rows
