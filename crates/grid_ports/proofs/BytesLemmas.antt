@@ -53,6 +53,12 @@ TakesAtMost-append a b c xs buffer n k most long first second bounded =
     let taken = Consumes-append a b c xs (take k buffer) first second in
     (length (xs ++ take k buffer), omega (arith, length-append xs (take k buffer), length-take k buffer), Takes-from_consumed a c (xs ++ take k buffer) _ taken refl)
 
+-- the same, for all of the part of the buffer
+pub Takes-append : (a b c : Option (List ℕ)) (xs buffer : List ℕ) (n k most : ℕ) → n ≡ length xs → Consumes a b xs → Consumes b c (take k buffer) → k ≤ length buffer → n + k ≡ most → Takes most a c
+Takes-append a b c xs buffer n k most long first second within whole =
+    Takes-from_consumed a c (xs ++ take k buffer) most (Consumes-append a b c xs (take k buffer) first second)
+    (omega (arith, length-append xs (take k buffer), length-take k buffer))
+
 -- where a write failed, what was written before is a prefix
 pub AppendsPrefix-keep : (a b c : Option (List ℕ)) (n : ℕ) (bs : List ℕ) → Appends a b (take n bs) → Keeps b c → AppendsPrefix a c bs
 AppendsPrefix-keep a b c n bs written kept =

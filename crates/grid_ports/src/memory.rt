@@ -3,7 +3,7 @@
 ghost use Rattle.std.specs.Prelude.{◌≡◌, ◌↔◌, ◌≤◌, [], ◌++◌, length, take, drop, IfOk, OnErr, IsErr};
 ghost use Rattle.std.specs.Prelude.{ℕ, ◌<◌, Some, OnOk, IsSome};
 ghost use Rattle.std.specs.Io.KnownBytes.{Consumes, Appends, Keeps, IsAtEnd};
-ghost use Rattle.grid_ports.specs.Faults.{count_up, Rose, StaysLast};
+ghost use Rattle.grid_ports.specs.Faults.{count_up};
 ghost use Rattle.grid_ports.specs.Memory.{SourceState, SinkState, read_count, write_count, ReadFails, WriteFails};
 
 use crate::errors::{Failed, NoMemory};

@@ -1,7 +1,7 @@
 //! Where bytes come from, and where they go.
-ghost use Rattle.std.specs.Prelude.{◌≡◌, ℕ, ◌<◌, ◌≤◌, List, Option, length, take, drop, IfOk, OnOk, OnErr, IsSome};
+ghost use Rattle.std.specs.Prelude.{◌≡◌, ℕ, ◌<◌, ◌≤◌, List, Option, length, take, IfOk, OnOk, OnErr};
 ghost use Rattle.std.specs.Io.KnownBytes.{Consumes, Appends, Keeps, IsAtEnd};
-ghost use Rattle.grid_ports.specs.Faults.{Rose, StaysLast};
+ghost use Rattle.grid_ports.specs.Faults.{count_up};
 
 use crate::errors::Failed;
 
@@ -18,24 +18,20 @@ pub trait Source {
     ///
     /// # Errors
     ///
-    /// `Failed` if the source failed. No byte is taken then, and the count of faults is greater, unless
-    /// it was 2^64 - 1.
+    /// `Failed` if the source failed. No byte is taken then, and the count of faults is greater by
+    /// one, unless it was 2^64 - 1.
     fn read(&mut self, buf: &mut [u8]) -> Result<usize, Failed>
         ensures bound { IfOk result (λ k. k ≤ length buf.old) }
         ensures moved { IfOk result (λ k. Consumes (left self.old) (left self.new) (take k buf.new)) }
 
-        // A source that tells its bytes leaves the rest of the buffer alone.
-        ensures rest { IfOk result
-            (λ k. IsSome (left self.old) → drop k buf.new ≡ drop k buf.old) }
         ensures end { IfOk result (λ k. k ≡ 0 → 0 < length buf.old → IsAtEnd (left self.new)) }
         ensures no_fault { OnOk result (faults self.new ≡ faults self.old) }
 
-        ensures failed { OnErr result (Rose (faults self.old) (faults self.new)) }
+        ensures failed { OnErr result (faults self.new ≡ count_up (faults self.old)) }
         ensures nothing_taken { OnErr result (Keeps (left self.old) (left self.new)) }
 
         // The count never falls.
-        ensures count { faults self.old ≤ faults self.new }
-        ensures last_count { StaysLast (faults self.old) (faults self.new) };
+        ensures count { faults self.old ≤ faults self.new };
 }
 
 /// A sink for bytes.
@@ -51,8 +47,8 @@ pub trait Sink {
     ///
     /// # Errors
     ///
-    /// `Failed` if the sink failed. Nothing is written then, and the count of faults is greater, unless
-    /// it was 2^64 - 1.
+    /// `Failed` if the sink failed. Nothing is written then, and the count of faults is greater by
+    /// one, unless it was 2^64 - 1.
     fn write(&mut self, piece: &[u8]) -> Result<usize, Failed>
         ensures bound { IfOk result (λ k. k ≤ length piece.now) }
         ensures moved { IfOk result
@@ -60,10 +56,9 @@ pub trait Sink {
         ensures some { IfOk result (λ k. 0 < length piece.now → 0 < k) }
         ensures no_fault { OnOk result (faults self.new ≡ faults self.old) }
 
-        ensures failed { OnErr result (Rose (faults self.old) (faults self.new)) }
+        ensures failed { OnErr result (faults self.new ≡ count_up (faults self.old)) }
         ensures nothing_written { OnErr result (Keeps (written self.old) (written self.new)) }
 
         // The count never falls.
-        ensures count { faults self.old ≤ faults self.new }
-        ensures last_count { StaysLast (faults self.old) (faults self.new) };
+        ensures count { faults self.old ≤ faults self.new };
 }

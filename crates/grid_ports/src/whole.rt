@@ -2,7 +2,7 @@
 ghost use Rattle.std.specs.Prelude.{◌≡◌, ◌+◌, ◌^◌, ◌≤◌, length, IfOk, OnOk, OnErr, IsErrOf, vec_len};
 ghost use Rattle.std.specs.Io.KnownBytes.{Consumes, Appends, IsAtEnd};
 ghost use Rattle.grid_ports.specs.Bytes.{Takes, TakesAtMost, AppendsPrefix};
-ghost use Rattle.grid_ports.specs.Faults.{Rose};
+ghost use Rattle.grid_ports.specs.Faults.{count_up};
 
 use crate::errors::{ReadEnd, WriteFault};
 use crate::ports::{Sink, Source};
@@ -29,9 +29,9 @@ pub fn read_all<S: Source>(alloc: Global, src: &mut S, limit: usize) -> Result<V
     ensures within { IfOk result (λ v. vec_len v ≤ limit) }
     ensures no_fault { OnOk result (S.faults src.new ≡ S.faults src.old) }
 
-    // A read that failed in this call is the only cause.
+    // One read that failed in this call is the only cause, and no other answer tells of it.
     ensures fault { IsErrOf result ReadEnd.ReadFault
-        → Rose (S.faults src.old) (S.faults src.new) }
+        → S.faults src.new ≡ count_up (S.faults src.old) }
     ensures fault_takes { IsErrOf result ReadEnd.ReadFault
         → TakesAtMost limit (S.left src.old) (S.left src.new) }
 
@@ -42,6 +42,8 @@ pub fn read_all<S: Source>(alloc: Global, src: &mut S, limit: usize) -> Result<V
 
     ensures no_memory_takes { IsErrOf result ReadEnd.NoMemory
         → TakesAtMost (limit + 1) (S.left src.old) (S.left src.new) }
+    ensures no_memory_no_fault { IsErrOf result ReadEnd.NoMemory
+        → S.faults src.new ≡ S.faults src.old }
     ensures count { S.faults src.old ≤ S.faults src.new }
 {
     let mut bytes = Vec::new(alloc);
@@ -68,8 +70,8 @@ pub fn write_all<K: Sink>(out: &mut K, piece: &[u8]) -> Result<(), WriteFault>
     ensures all { OnOk result (Appends (K.written out.old) (K.written out.new) piece.now) }
     ensures no_fault { OnOk result (K.faults out.new ≡ K.faults out.old) }
 
-    // A write that failed in this call is the only cause.
-    ensures fault { OnErr result (Rose (K.faults out.old) (K.faults out.new)) }
+    // One write that failed in this call is the only cause.
+    ensures fault { OnErr result (K.faults out.new ≡ count_up (K.faults out.old)) }
     ensures prefix { AppendsPrefix (K.written out.old) (K.written out.new) piece.now }
     ensures count { K.faults out.old ≤ K.faults out.new }
 {
