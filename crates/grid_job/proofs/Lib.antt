@@ -1,3 +1,4 @@
-pub mod BuiltLemmas
-pub mod JobLemmas
 pub mod ReportLemmas
+pub mod OutcomeLemmas
+pub mod ModeLemmas
+pub mod WrittenLemmas

@@ -1,95 +1,164 @@
--- A report written text by text.
-use Rattle.std.proofs.Common.{◌≡◌, ℕ, ◌+◌, ◌<◌, ◌≤◌, List, [], ◌∷◌, ◌++◌, length, get_or, take, drop, Option, refl, sym, ap, subst, ◌∙◌, inl, inr, append_assoc, append-nil, drop-cons}
+-- A report written answer by answer.
+-- Each script that is built has a report: a front line and a border line are given, and each grid has a table. So
+-- what was written after the first k commands can be completed to a report at any place.
+use Rattle.std.proofs.Common.{◌≡◌, ℕ, zero, suc, ◌+◌, ◌<◌, ◌≤◌, List, [], ◌∷◌, ◌++◌, map, length, get_or, take, drop, All, Option, refl, sym, ap, subst, ◌∙◌, append_assoc, append-nil, drop-cons}
 use Rattle.std.specs.Io.KnownBytes.{Appends}
 use Rattle.std.proofs.lemmas.List.{take-append-drop, take_more, take_all}
-use Rattle.torus_geom.specs.Marks.{Marks}
-use Rattle.grid_job.specs.Headline.{AppendsReport, AppendsReportPart}
-use Rattle.grid_job.specs.Report.{IsAnswerTo, AreAnswers, IsStart}
+use Rattle.std.proofs.lemmas.List.Elements.{All-head, All-tail}
+use Rattle.hat_division.specs.declared.tables.TableRow.{TableRow}
+use Rattle.homology_cert.specs.Tables.{homology_row}
+use Rattle.homology_cert.proofs.ExistenceLemmas.{exists_homology_table}
+use Rattle.report_text.specs.Lines.{table_lines}
+use Rattle.torus_geom.specs.Homology.{IsHomologyTable, Row}
+use Rattle.torus_geom.specs.Marks.{Marks, size, IsGrid}
+use Rattle.grid_text.specs.Commands.{IsAllowed, grid_after}
+use Rattle.grid_text.specs.Script.{AreAllowed}
 use Rattle.grid_text.specs.declared.commands.Command.{Command}
+use Rattle.grid_text.specs.declared.commands.Command.TheVariants as command
+use Rattle.grid_text.proofs.Lines.ScriptLemmas.{IsGridOf-grid_after}
 use Rattle.grid_ports.specs.Bytes.{AppendsPrefix}
 use Rattle.grid_ports.proofs.BytesLemmas.{Appends-none, Appends-append}
+use Rattle.grid_job.specs.InForce.{InForce, after, after_all}
+use Rattle.grid_job.specs.Report.{IsBuiltCommand, IsTableText, IsAnswer, AreAnswers}
 
--- texts for all of these commands were written
-abbrev pub AppendsAnswers : Marks → List Command → Option (List ℕ) → Option (List ℕ) → Type 0
-AppendsAnswers g cs before after = (whole : List ℕ) × AreAnswers g cs whole × Appends before after whole
+-- ---- each command that is built has an answer
+table_row : Row → TableRow
+table_row row = record { m = row.0; a = row.1; rank = row.2 }
 
--- the text for a command, where both are told otherwise
-pub IsAnswerTo-same : (g : Marks) (c d : Command) (a b : List ℕ) → c ≡ d → a ≡ b → IsAnswerTo g c a → IsAnswerTo g d b
-IsAnswerTo-same g c d a b same_command same_text answer =
-    subst (λ e. IsAnswerTo g e b) same_command (subst (IsAnswerTo g c) same_text answer)
+homology_rows : (rows : List Row) → map homology_row (map table_row rows) ≡ rows
+unfolding table_row
+homology_rows [] = refl
+homology_rows (row ∷ rows) = ap (λ rs. row ∷ rs) (homology_rows rows)
 
--- texts for some commands and then for others
-AreAnswers-append : (g : Marks) (cs ds : List Command) (a b : List ℕ) → AreAnswers g cs a → AreAnswers g ds b → AreAnswers g (cs ++ ds) (a ++ b)
-AreAnswers-append g [] ds a b first second = subst (λ t. AreAnswers g ds (t ++ b)) (sym first) second
-AreAnswers-append g (c ∷ cs) ds a b first second = (
+exists_table : (g : Marks) → IsGrid g → (text : List ℕ) × IsTableText g text
+exists_table g grid =
+    let found = exists_homology_table g grid in
+    let rows = map table_row found.0 in
+    (table_lines rows, record { rows = rows; table = subst (IsHomologyTable g) (sym (homology_rows found.0)) found.1; lines = refl })
+
+exists_answer : (p : InForce) (c : Command) → IsGrid p.grid → IsBuiltCommand c → (text : List ℕ) × IsAnswer p c text
+exists_answer p command.Front grid built = (_, refl)
+exists_answer p command.Ranks grid built = exists_table p.grid grid
+exists_answer p command.Hat grid built = absurd built
+exists_answer p (command.Class sign) grid built = absurd built
+exists_answer p (command.Border x) grid built = (_, refl)
+exists_answer p (command.Chain z) grid built = absurd built
+exists_answer p command.Show grid built = absurd built
+exists_answer p command.Bounds grid built = absurd built
+exists_answer p (command.Turn side) grid built = absurd built
+exists_answer p (command.Commute axis c corner) grid built = absurd built
+
+grid-after : (g : Marks) (c : Command) → IsGrid g → IsAllowed g c → IsGrid (grid_after g c)
+grid-after g c grid allowed = (IsGridOf-grid_after (size g) g c (record { grid = grid; same_size = refl }) allowed).grid
+
+pub exists_answers : (p : InForce) (cs : List Command) → IsGrid p.grid → All IsBuiltCommand cs → AreAllowed p.grid cs → (text : List ℕ) × AreAnswers p cs text
+exists_answers p [] grid built allowed = ([], refl)
+exists_answers p (c ∷ cs) grid built allowed =
+    let first = exists_answer p c grid (All-head IsBuiltCommand c cs built) in
+    let later = exists_answers (after p c) cs (grid-after p.grid c grid allowed.0) (All-tail IsBuiltCommand c cs built) allowed.1 in
+    (first.0 ++ later.0, (first.0, later.0, first.1, later.1, refl))
+
+-- ---- answers in order
+-- the answer to a command, where all three are told otherwise
+pub IsAnswer-same : (p q : InForce) (c d : Command) (a b : List ℕ) → p ≡ q → c ≡ d → a ≡ b → IsAnswer p c a → IsAnswer q d b
+IsAnswer-same p q c d a b same_pair same_command same_text answer =
+    subst (λ r. IsAnswer r d b) same_pair (subst (λ e. IsAnswer p e b) same_command (subst (IsAnswer p c) same_text answer))
+
+-- answers to some commands and then to others
+AreAnswers-append : (p : InForce) (cs ds : List Command) (a b : List ℕ) → AreAnswers p cs a → AreAnswers (after_all p cs) ds b → AreAnswers p (cs ++ ds) (a ++ b)
+AreAnswers-append p [] ds a b first second = subst (λ t. AreAnswers p ds (t ++ b)) (sym first) second
+AreAnswers-append p (c ∷ cs) ds a b first second = (
   first.0,
   first.1 ++ b,
   first.2,
-  AreAnswers-append g cs ds first.1 b first.3 second,
+  AreAnswers-append (after p c) cs ds first.1 b first.3 second,
   ap (λ t. t ++ b) first.4 ∙ append_assoc first.0 first.1 b,
 )
 
--- a text for one command
-AreAnswers-single : (g : Marks) (c : Command) (a : List ℕ) → IsAnswerTo g c a → AreAnswers g (c ∷ []) a
-AreAnswers-single g c a answer = (a, [], answer, refl, sym (append-nil a))
+AreAnswers-single : (p : InForce) (c : Command) (a : List ℕ) → IsAnswer p c a → AreAnswers p (c ∷ []) a
+AreAnswers-single p c a answer = (a, [], answer, refl, sym (append-nil a))
 
--- a start may be nothing
-IsStart-nothing : (g : Marks) (cs : List Command) → IsStart g cs []
-IsStart-nothing g [] = refl
-IsStart-nothing g (c ∷ cs) = inl refl
+after_all-append : (p : InForce) (cs ds : List Command) → after_all p (cs ++ ds) ≡ after_all (after_all p cs) ds
+after_all-append p [] ds = refl
+after_all-append p (c ∷ cs) ds = after_all-append (after p c) cs ds
 
--- at first nothing was written
-pub AppendsAnswers-none : (g : Marks) (a : Option (List ℕ)) → AppendsAnswers g [] a a
-AppendsAnswers-none g a = ([], refl, Appends-none a)
+-- what is in force after the first k commands is a grid, and what stands there is allowed
+record StandsAt (p : InForce) (cs : List Command) : Type 0 where
+  pub grid : IsGrid p.grid
+  pub built : All IsBuiltCommand cs
+  pub allowed : AreAllowed p.grid cs
 
-module _ (g : Marks) (cs : List Command) (k : ℕ) where
-  -- a text for the next command makes them the texts of one more
-  pub AppendsAnswers-next : (d : Command) (text : List ℕ) (a b c : Option (List ℕ)) → k < length cs → IsAnswerTo g (get_or cs k d) text → AppendsAnswers g (take k cs) a b → Appends b c text → AppendsAnswers g (take (k + 1) cs) a c
-  AppendsAnswers-next d text a b c within answer written next =
-      let whole = written.0 in
-      let more = AreAnswers-append g (take k cs) (get_or cs k d ∷ []) whole text written.1 (AreAnswers-single g (get_or cs k d) text answer) in (
-        whole ++ text,
-        subst (λ ds. AreAnswers g ds (whole ++ text)) (sym (take_more cs k d within)) more,
-        Appends-append a b c whole text written.2 next,
+StandsAt-drop : (k : ℕ) (p : InForce) (cs : List Command) → StandsAt p cs → StandsAt (after_all p (take k cs)) (drop k cs)
+StandsAt-drop zero p cs h = h
+StandsAt-drop (suc k) p [] h = h
+StandsAt-drop (suc k) p (c ∷ cs) h =
+    StandsAt-drop k (after p c) cs
+    (record { grid = grid-after p.grid c h.grid h.allowed.0; built = All-tail IsBuiltCommand c cs h.built; allowed = h.allowed.1 })
+
+-- ---- the writer's place
+-- answers to the first k commands were written, and this is in force after them
+pub record IsPast (p : InForce) (cs : List Command) (k : ℕ) (now : InForce) (before written : Option (List ℕ)) : Type 0 where
+  pub in_force : now ≡ after_all p (take k cs)
+  pub whole : List ℕ
+  pub answers : AreAnswers p (take k cs) whole
+  pub appended : Appends before written whole
+
+pub IsPast-none : (p now : InForce) (cs : List Command) (a : Option (List ℕ)) → now ≡ p → IsPast p cs 0 now a a
+IsPast-none p now cs a e = record { in_force = e; whole = []; answers = refl; appended = Appends-none a }
+
+module _ (p : InForce) (cs : List Command) (k : ℕ) where
+  -- the command that stands next may stand there
+  pub IsAllowed-next : (now : InForce) (d : Command) (a b : Option (List ℕ)) → IsGrid p.grid → All IsBuiltCommand cs → AreAllowed p.grid cs → k < length cs
+      → IsPast p cs k now a b → IsAllowed now.grid (get_or cs k d)
+  IsAllowed-next now d a b grid built allowed within past =
+      let here = StandsAt-drop k p cs (record { grid = grid; built = built; allowed = allowed }) in
+      let first = subst (AreAllowed (after_all p (take k cs)).grid) (drop-cons cs k d within) here.allowed in
+      subst (λ q. IsAllowed q.grid (get_or cs k d)) (sym past.in_force) first.0
+
+  -- an answer to the next command was written too
+  pub IsPast-next : (now next : InForce) (d : Command) (text : List ℕ) (a b c : Option (List ℕ)) → k < length cs → IsAnswer now (get_or cs k d) text
+      → next ≡ after now (get_or cs k d) → IsPast p cs k now a b → Appends b c text → IsPast p cs (k + 1) next a c
+  IsPast-next now next d text a b c within answer followed past more = record {
+    in_force = followed ∙ ap (λ q. after q (get_or cs k d)) past.in_force ∙ sym (after_all-append p (take k cs) (get_or cs k d ∷ [])) ∙ ap (after_all p) (sym (take_more cs k d within));
+    whole = past.whole ++ text;
+    answers = subst (λ ds. AreAnswers p ds (past.whole ++ text)) (sym (take_more cs k d within))
+        (AreAnswers-append p (take k cs) (get_or cs k d ∷ []) past.whole text past.answers
+        (AreAnswers-single (after_all p (take k cs)) (get_or cs k d) text (subst (λ q. IsAnswer q (get_or cs k d) text) past.in_force answer)));
+    appended = Appends-append a b c past.whole text past.appended more;
+  }
+
+  -- past all commands, what was written is a report
+  pub IsPast-all : (now : InForce) (a b : Option (List ℕ)) → length cs ≤ k → IsPast p cs k now a b → (text : List ℕ) × AreAnswers p cs text × Appends a b text
+  IsPast-all now a b past_all past = (past.whole, subst (λ ds. AreAnswers p ds past.whole) (take_all k cs past_all) past.answers, past.appended)
+
+  -- anywhere, it is a prefix of a report
+  pub IsPast-prefix : (now : InForce) (a b : Option (List ℕ)) → IsGrid p.grid → All IsBuiltCommand cs → AreAllowed p.grid cs → IsPast p cs k now a b
+      → (text : List ℕ) × AreAnswers p cs text × AppendsPrefix a b text
+  IsPast-prefix now a b grid built allowed past =
+      let here = StandsAt-drop k p cs (record { grid = grid; built = built; allowed = allowed }) in
+      let rest = exists_answers (after_all p (take k cs)) (drop k cs) here.grid here.built here.allowed in
+      let all = AreAnswers-append p (take k cs) (drop k cs) past.whole rest.0 past.answers rest.1 in (
+        past.whole ++ rest.0,
+        subst (λ ds. AreAnswers p ds (past.whole ++ rest.0)) (take-append-drop k cs) all,
+        (past.whole, (rest.0, refl), past.appended),
       )
 
-  -- the texts of all commands are a report
-  pub AppendsReport-whole : (a b : Option (List ℕ)) → length cs ≤ k → AppendsAnswers g (take k cs) a b → AppendsReport a b (record { grid = g; commands = cs })
-  AppendsReport-whole a b past written =
-      (written.0, subst (λ ds. AreAnswers g ds written.0) (take_all k cs past) written.1, written.2)
-
-  -- whole texts are a part of a report
-  pub AppendsReportPart-whole : (a b : Option (List ℕ)) → AppendsAnswers g (take k cs) a b → AppendsReportPart a b (record { grid = g; commands = cs })
-  AppendsReportPart-whole a b written = (
-    written.0,
-    record {
-      done = take k cs;
-      later = drop k cs;
-      commands = sym (take-append-drop k cs);
-      whole = written.0;
-      answers = written.1;
-      more = [];
-      start = IsStart-nothing g (drop k cs);
-      together = sym (append-nil written.0);
-    },
-    written.2,
-  )
-
-  -- so are they with a prefix of a text for the next command
-  pub AppendsReportPart-next : (d : Command) (text : List ℕ) (a b c : Option (List ℕ)) → k < length cs → IsAnswerTo g (get_or cs k d) text → AppendsAnswers g (take k cs) a b → AppendsPrefix b c text → AppendsReportPart a c (record { grid = g; commands = cs })
-  AppendsReportPart-next d text a b c within answer written part =
-      let whole = written.0 in
-      let front = part.0 in (
-        whole ++ front,
-        record {
-          done = take k cs;
-          later = drop k cs;
-          commands = sym (take-append-drop k cs);
-          whole = whole;
-          answers = written.1;
-          more = front;
-          start = subst (λ ds. IsStart g ds front) (sym (drop-cons cs k d within)) (inr (text, part.1.0, answer, part.1.1));
-          together = refl;
-        },
-        Appends-append a b c whole front written.2 part.2,
+  -- so it is where a prefix of an answer to the next command was written too
+  pub IsPast-prefix_of_next : (now : InForce) (d : Command) (text : List ℕ) (a b c : Option (List ℕ)) → IsGrid p.grid → All IsBuiltCommand cs → AreAllowed p.grid cs → k < length cs
+      → IsAnswer now (get_or cs k d) text → IsPast p cs k now a b → AppendsPrefix b c text → (report : List ℕ) × AreAnswers p cs report × AppendsPrefix a c report
+  IsPast-prefix_of_next now d text a b c grid built allowed within answer past part =
+      let here = StandsAt-drop (k + 1) p cs (record { grid = grid; built = built; allowed = allowed }) in
+      let at_next = after_all p (take k cs) in
+      let rest = exists_answers (after_all p (take (k + 1) cs)) (drop (k + 1) cs) here.grid here.built here.allowed in
+      let up_to = AreAnswers-append p (take k cs) (get_or cs k d ∷ []) past.whole text past.answers
+      (AreAnswers-single at_next (get_or cs k d) text (subst (λ q. IsAnswer q (get_or cs k d) text) past.in_force answer)) in
+      let first = subst (λ ds. AreAnswers p ds (past.whole ++ text)) (sym (take_more cs k d within)) up_to in
+      let all = AreAnswers-append p (take (k + 1) cs) (drop (k + 1) cs) (past.whole ++ text) rest.0 first rest.1 in
+      let front = part.0 in
+      let back = part.1.0 in
+      let whole : (past.whole ++ front) ++ (back ++ rest.0) ≡ (past.whole ++ text) ++ rest.0 =
+      sym (append_assoc (past.whole ++ front) back rest.0) ∙ ap (λ t. t ++ rest.0) (append_assoc past.whole front back ∙ ap (λ t. past.whole ++ t) part.1.1) in (
+        (past.whole ++ text) ++ rest.0,
+        subst (λ ds. AreAnswers p ds ((past.whole ++ text) ++ rest.0)) (take-append-drop (k + 1) cs) all,
+        (past.whole ++ front, (back ++ rest.0, whole), Appends-append a b c past.whole front past.appended part.2),
       )

@@ -1,3 +1,5 @@
+pub mod InForce
 pub mod Report
-pub mod Headline
 pub mod Status
+pub mod Outcome
+pub mod Inner

@@ -7,11 +7,14 @@
 //! `homology_cert`, which answer the commands, and on `report_text`, which prints their answers.
 #![tactic(auto)]
 
+mod in_force;
 mod jobs;
+mod modes;
 mod reports;
 mod statuses;
 
 pub use jobs::gridhom;
+pub use modes::Mode;
 pub use statuses::Status;
 
 #[cfg(test)]

@@ -1,12 +1,17 @@
 //! The writer of reports, one command at a time.
-ghost use Rattle.std.specs.Prelude.{◌≡◌, ◌^◌, ◌<◌, ◌-◌, ◌↔◌, length, IfOk, OnOk, IsErrOf, IsTrue, All, codes};
+ghost use Rattle.std.specs.Prelude.{◌≡◌, ◌↔◌, ℕ, List, length, IfOk, OnOk, IsErrOf, IsTrue, All, codes};
+ghost use Rattle.std.specs.Io.KnownBytes.{Appends};
+ghost use Rattle.grid_ports.specs.Bytes.{AppendsPrefix};
+ghost use Rattle.grid_ports.specs.Faults.{count_up};
 ghost use Rattle.report_text.specs.Lines.{set_line as set_line_of};
 ghost use Rattle.torus_geom.specs.Border.{border_of_state as border_of};
 ghost use Rattle.torus_geom.specs.Marks.{size};
 ghost use Rattle.grid_text.specs.Commands.{IsAllowed};
-ghost use Rattle.grid_job.specs.Headline.{IsBuiltCommand, AppendsReport, AppendsReportPart};
-ghost use Rattle.grid_job.specs.Report.{IsAnswerTo, IsTableText};
+ghost use Rattle.grid_text.specs.Script.{AreAllowed};
+ghost use Rattle.grid_job.specs.InForce.{at_start};
+ghost use Rattle.grid_job.specs.Report.{IsBuiltCommand, IsAnswer, AreAnswers, IsTableText};
 
+use crate::in_force::InForce;
 use front_data::front;
 use grid_ports::{NoMemory, Sink, WriteFault, write_all};
 use grid_text::Command;
@@ -68,36 +73,41 @@ fn is_built(command: &Command) -> bool
     }
 }
 
-/// Writes a report of the commands on the grid. Where it ends early, a part of a report is written.
+/// Writes a report of the commands on the grid. Where it ends early, a prefix of a report is written.
 pub fn write_report<K: Sink>(
     alloc: Global,
     g: &Grid,
     commands: &[Command],
     out: &mut K,
 ) -> Result<(), ReportEnd>
-    requires count { K.faults out.old < 2 ^ 64 - 1 }
     requires built { All IsBuiltCommand commands.now }
-    requires allowed { All (IsAllowed g.now) commands.now }
-    ensures report { OnOk result (AppendsReport (K.written out.old) (K.written out.new)
-        (record { grid = g.now; commands = commands.now })) }
+    requires allowed { AreAllowed g.now commands.now }
+    ensures report { OnOk result ((text : List ℕ) × AreAnswers (at_start g.now) commands.now text
+        × Appends (K.written out.old) (K.written out.new) text) }
+    ensures part { (text : List ℕ) × AreAnswers (at_start g.now) commands.now text
+        × AppendsPrefix (K.written out.old) (K.written out.new) text }
+    ensures fault { IsErrOf result ReportEnd.WriteFault
+        → K.faults out.new ≡ count_up (K.faults out.old) }
     ensures no_fault { OnOk result (K.faults out.new ≡ K.faults out.old) }
-    ensures fault { IsErrOf result ReportEnd.WriteFault → K.faults out.old < K.faults out.new }
-    ensures part { AppendsReportPart (K.written out.old) (K.written out.new)
-        (record { grid = g.now; commands = commands.now }) }
+    ensures no_memory { IsErrOf result ReportEnd.NoMemory → K.faults out.new ≡ K.faults out.old }
 {
+    let _ = g.size();
+    let mut in_force = InForce::at_start(alloc, g);
     for command in commands {
-        let text = answer_to(alloc, g, command)?;
+        let text = answer_to(alloc, &in_force, command)?;
         write_all(out, &text)?;
+        in_force.follow(command);
     }
     Ok(())
 }
 
-// A text for a command.
-fn answer_to(alloc: Global, g: &Grid, command: &Command) -> Result<Vec<u8>, NoMemory>
+// An answer to a command.
+fn answer_to(alloc: Global, p: &InForce, command: &Command) -> Result<Vec<u8>, NoMemory>
     requires built { IsBuiltCommand command.now }
-    requires allowed { IsAllowed g.now command.now }
-    ensures { IfOk result (λ text. IsAnswerTo g.now command.now text.items) }
+    requires allowed { IsAllowed p.now.grid command.now }
+    ensures { IfOk result (λ text. IsAnswer p.now command.now text.items) }
 {
+    let g = p.grid();
     match command {
         Command::Front => front_line(alloc, &front(g)),
         Command::Ranks => ranks_lines(alloc, g),

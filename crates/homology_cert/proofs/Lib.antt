@@ -4,3 +4,4 @@ pub mod CountLemmas
 pub mod DegreeLemmas
 pub mod TableLemmas
 pub mod LawLemmas
+pub mod ExistenceLemmas

@@ -1,14 +1,19 @@
-use Rattle.grid_text.proofs.JudgementLemmas.{one_script, no_document}
+use Rattle.grid_text.proofs.Paths.JudgementLemmas.{one_script, no_document}
+use Rattle.grid_text.proofs.Paths.OutcomeLemmas.{one_fault}
+use Rattle.grid_job.proofs.OutcomeLemmas.{some_outcome, one_status}
 use Rattle.grid_job.proofs.jobs.gridhom.Goals as goal
 
-pub returns-then-is_run-clause-one_script : goal.returns-then-is_run-clause-one_script
-returns-then-is_run-clause-one_script g c = one_script
+pub returns-clause-some_outcome : goal.returns-clause-some_outcome
+returns-clause-some_outcome g c = some_outcome
 
-pub returns-else-is_run-clause-one_script : goal.returns-else-is_run-clause-one_script
-returns-else-is_run-clause-one_script g c = one_script
+pub returns-clause-one_status : goal.returns-clause-one_status
+returns-clause-one_status g c = one_status
 
-pub returns-then-is_run-clause-no_document : goal.returns-then-is_run-clause-no_document
-returns-then-is_run-clause-no_document g c = no_document
+pub returns-clause-one_script : goal.returns-clause-one_script
+returns-clause-one_script g c = one_script
 
-pub returns-else-is_run-clause-no_document : goal.returns-else-is_run-clause-no_document
-returns-else-is_run-clause-no_document g c = no_document
+pub returns-clause-no_document : goal.returns-clause-no_document
+returns-clause-no_document g c = no_document
+
+pub returns-clause-one_fault : goal.returns-clause-one_fault
+returns-clause-one_fault g c = one_fault

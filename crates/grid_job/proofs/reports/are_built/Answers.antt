@@ -2,7 +2,7 @@ use Rattle.std.proofs.Common.{refl, subst, arith}
 use Rattle.std.specs.List.{All}
 use Rattle.std.proofs.lemmas.List.{take_all}
 use Rattle.std.proofs.lemmas.List.Elements.{All-more}
-use Rattle.grid_job.specs.Headline.{IsBuiltCommand}
+use Rattle.grid_job.specs.Report.{IsBuiltCommand}
 use Rattle.grid_job.proofs.reports.are_built.Goals as goal
 
 pub loop-command-preserved : goal.loop-command-preserved

@@ -1,27 +1,40 @@
-use Rattle.std.proofs.Common.{sym, ◌∙◌}
-use Rattle.grid_job.proofs.ReportLemmas.{IsAnswerTo-same, AppendsAnswers-next, AppendsReportPart-whole, AppendsReportPart-next}
+use Rattle.std.proofs.Common.{refl, sym, ap, subst, ◌∙◌}
+use Rattle.grid_text.specs.Commands.{IsAllowed}
+use Rattle.grid_job.specs.InForce.{at_start, after}
+use Rattle.grid_job.proofs.ReportLemmas.{IsAnswer-same, IsAllowed-next, IsPast-next, IsPast-prefix, IsPast-prefix_of_next}
 use Rattle.grid_job.proofs.reports.write_report.Goals as goal
+
+pub answer_to-requires-clause-allowed : goal.answer_to-requires-clause-allowed
+answer_to-requires-clause-allowed g c =
+    let command = c.command-item in
+    subst (IsAllowed c.loop-command.in_force.grid) (sym command.is)
+    (IsAllowed-next (at_start c.args.g.now) c.args.commands.now c.loop-command.command-index c.loop-command.in_force command.result _ _
+    c.size.ensures.grid c.requires.built c.requires.allowed c.loop-command-test.true c.loop-command.invariant.0)
 
 pub returns-in_err-text-clause-part : goal.returns-in_err-text-clause-part
 returns-in_err-text-clause-part g c =
-    AppendsReportPart-whole c.args.g.now c.args.commands.now c.loop-command.command-index _ _ c.loop-command.invariant.0
+    IsPast-prefix (at_start c.args.g.now) c.args.commands.now c.loop-command.command-index c.loop-command.in_force _ _
+    c.size.ensures.grid c.requires.built c.requires.allowed c.loop-command.invariant.0
 
 pub returns-in_err-write_all-clause-part : goal.returns-in_err-write_all-clause-part
 returns-in_err-write_all-clause-part g c =
-    let grid = c.args.g.now in
     let command = c.command-item in
-    let answer = IsAnswerTo-same grid command.result _ c.in_ok-text.text.items c.deref.result.now command.is (sym c.deref.ensures.value) c.in_ok-text.ensures in
-    AppendsReportPart-next grid c.args.commands.now c.loop-command.command-index command.result c.deref.result.now _ _ _ c.loop-command-test.true answer c.loop-command.invariant.0 c.write_all.ensures.prefix
+    let now = c.loop-command.in_force in
+    let answer = IsAnswer-same now now command.result _ c.in_ok-text.text.items c.deref.result.now refl command.is (sym c.deref.ensures.value) c.in_ok-text.ensures in
+    IsPast-prefix_of_next (at_start c.args.g.now) c.args.commands.now c.loop-command.command-index now command.result c.deref.result.now _ _ _
+    c.size.ensures.grid c.requires.built c.requires.allowed c.loop-command-test.true answer c.loop-command.invariant.0 c.write_all.ensures.prefix
 
 pub loop-command-preserved : goal.loop-command-preserved
 loop-command-preserved g c =
-    let grid = c.args.g.now in
     let command = c.command-item in
-    let answer = IsAnswerTo-same grid command.result _ c.in_ok-text.text.items c.deref.result.now command.is (sym c.deref.ensures.value) c.in_ok-text.ensures in (
-      AppendsAnswers-next grid c.args.commands.now c.loop-command.command-index command.result c.deref.result.now _ _ _ c.loop-command-test.true answer c.loop-command.invariant.0 c.in_ok-write_all.ensures.all,
+    let now = c.loop-command.in_force in
+    let answer = IsAnswer-same now now command.result _ c.in_ok-text.text.items c.deref.result.now refl command.is (sym c.deref.ensures.value) c.in_ok-text.ensures in (
+      IsPast-next (at_start c.args.g.now) c.args.commands.now c.loop-command.command-index now c.follow.new.self command.result c.deref.result.now _ _ _
+          c.loop-command-test.true answer (c.follow.ensures ∙ ap (after now) command.is) c.loop-command.invariant.0 (c.in_ok-write_all.ensures.all),
       c.in_ok-write_all.ensures.no_fault ∙ c.loop-command.invariant.1,
     )
 
 pub returns-clause-part : goal.returns-clause-part
 returns-clause-part g c =
-    AppendsReportPart-whole c.args.g.now c.args.commands.now c.loop-command.command-index _ _ c.loop-command.invariant.0
+    IsPast-prefix (at_start c.args.g.now) c.args.commands.now c.loop-command.command-index c.loop-command.in_force _ _
+    c.size.ensures.grid c.requires.built c.requires.allowed c.loop-command.invariant.0

@@ -1,11 +1,11 @@
 use Rattle.std.proofs.Common.{ap, map, string_bytes, Global, codes, ◌∙◌}
 use Rattle.std.specs.Str.{bytes_eq}
-use Rattle.grid_job.proofs.JobLemmas.{single-item, IsRun-single}
-use Rattle.grid_job.proofs.jobs.is_run.Goals as goal
+use Rattle.grid_job.proofs.ModeLemmas.{single-item, run_alone}
+use Rattle.grid_job.proofs.modes.is_run.Goals as goal
 
 pub returns-in-len1 : goal.returns-in-len1
 returns-in-len1 c =
     let one = single-item c.args.words.now c.word-item.result c.in-len1.len_at_least c.in-len1.len_below c.word-item.is in
-    IsRun-single (map (string_bytes {Z = Global}) c.args.words.now) (string_bytes c.word-item.result) c.eq.result
+    run_alone (map (string_bytes {Z = Global}) c.args.words.now) (string_bytes c.word-item.result) c.eq.result
     (ap (map (string_bytes {Z = Global})) one)
     (c.eq.ensures ∙ ap (λ s. bytes_eq s (codes "run")) c.as_str.ensures.value)

@@ -1,0 +1,6 @@
+-- What the program tells where its words ask for nothing.
+--     usage_line    the line that tells which words the program knows
+use Rattle.std.specs.Prelude.{ℕ, List, [], ◌∷◌, ◌++◌, codes}
+
+abbrev pub usage_line : List ℕ
+usage_line = codes "usage: gridhom run" ++ 10 ∷ []

@@ -1,0 +1,215 @@
+-- From function to function: what was written, and which outcomes it belongs to.
+use Rattle.std.proofs.Common.{◌≡◌, ◌≢◌, ◌⊎◌, ℕ, ◌+◌, ◌-◌, ◌^◌, ◌<◌, ◌≤◌, Bool, true, false, List, [], ◌++◌, length, drop, codes, Option, None, Some, IfSome, refl, sym, ap, subst, ◌∙◌, inl, inr, arith, append-nil}
+use Rattle.std.specs.Io.KnownBytes.{Consumes, IsAtEnd}
+use Rattle.std.proofs.lemmas.List.{drop_all}
+use Rattle.grid_ports.specs.Bytes.{Takes}
+use Rattle.grid_ports.specs.Faults.{count_up}
+use Rattle.grid_ports.proofs.BytesLemmas.{Appends-none}
+use Rattle.grid_text.specs.Document.{IsDocument}
+use Rattle.grid_text.specs.Faults.{IsFirstFault}
+use Rattle.grid_text.specs.FaultWords.{fault_word}
+use Rattle.grid_text.specs.Limits.{max_text}
+use Rattle.grid_text.specs.Script.{GridScript}
+use Rattle.grid_text.specs.declared.faults.TextFault.{TextFault}
+use Rattle.report_text.specs.Lines.{refused_line}
+use Rattle.grid_job.specs.Report.{IsBuilt, IsReport}
+use Rattle.grid_job.specs.Outcome.{IsForm, IsOutcome, IsEnd, HasEnded, HasBegun}
+use Rattle.grid_job.specs.Inner.Written.{HasWritten, Tells}
+use Rattle.grid_job.specs.declared.modes.Mode.{Mode}
+use Rattle.grid_job.specs.declared.modes.Mode.TheVariants.{Run}
+use Rattle.grid_job.specs.declared.statuses.Status.{Status}
+use Rattle.grid_job.specs.declared.statuses.Status.TheVariants.{Done, Usage, Refused, ReadFault, WriteFault, NoMemory, No}
+use Rattle.grid_job.proofs.OutcomeLemmas.{all_built_or_not, one_status, some_outcome}
+
+-- what is an outcome of one kind is one of another
+pub HasWritten-weaker : (O P : Status → List ℕ → Type 0) (result : Status) (f g : ℕ) (a b : Option (List ℕ)) → ((s : Status) (t : List ℕ) → O s t → P s t)
+    → HasWritten O result f g a b → HasWritten P result f g a b
+HasWritten-weaker O P result f g a b weaker h = record {
+  whole = λ is_end. let w = h.whole is_end in (w.0, weaker result w.0 w.1, w.2);
+  part = (h.part.0, h.part.1, weaker h.part.0 h.part.1 h.part.2, h.part.3);
+  results = h.results;
+  fault = h.fault;
+  no_fault = h.no_fault;
+}
+
+-- out of memory before anything was written
+pub HasWritten-nothing : (O : Status → List ℕ → Type 0) (f : ℕ) (a : Option (List ℕ)) (s : Status) (t : List ℕ) → O s t → HasWritten O NoMemory f f a a
+HasWritten-nothing O f a s t outcome = record {
+  whole = λ is_end. absurd is_end;
+  part = (s, t, outcome, ([], (t, refl), Appends-none a));
+  results = inr (inr refl);
+  fault = λ e. absurd (not_fault e);
+  no_fault = λ e. refl;
+}
+  where
+    not_fault : NoMemory ≡ WriteFault → ⊥
+    not_fault e = cc
+
+-- ---- the text that was left
+-- what holds of the bytes that were read to the end holds of the text that was left
+pub IfSome-read : (left left' : Option (List ℕ)) (bytes : List ℕ) (P : List ℕ → Type 0) → Consumes left left' bytes → IsAtEnd left' → P bytes → IfSome left P
+IfSome-read None left' bytes P taken at_end known = tt
+IfSome-read (Some text) None bytes P taken at_end known = absurd taken
+IfSome-read (Some text) (Some rest) bytes P taken at_end known =
+    subst P (sym (taken ∙ ap (λ r. bytes ++ r) at_end ∙ append-nil bytes)) known
+
+-- all of it was read
+pub read_to_the_end : (left left' : Option (List ℕ)) (bytes : List ℕ) → Consumes left left' bytes → IsAtEnd left' → length bytes ≤ max_text
+    → IfSome left (λ text. left' ≡ Some (drop (max_text + 1) text))
+read_to_the_end None left' bytes taken at_end within = tt
+read_to_the_end (Some text) None bytes taken at_end within = absurd taken
+read_to_the_end (Some text) (Some rest) bytes taken at_end within =
+    let whole : text ≡ bytes = taken ∙ ap (λ r. bytes ++ r) at_end ∙ append-nil bytes in
+    ap Some (at_end ∙ sym (ap (drop (max_text + 1)) whole ∙ drop_all (max_text + 1) bytes (omega (arith, within))))
+
+-- more was left than is judged
+pub IfSome-long : (left left' : Option (List ℕ)) (P : List ℕ → Type 0) → Takes (max_text + 1) left left' → ((text : List ℕ) → max_text < length text → P text) → IfSome left P
+IfSome-long None left' P taken known = tt
+IfSome-long (Some text) None P taken known = absurd taken
+IfSome-long (Some text) (Some rest) P taken known = known text (omega (arith, taken.0))
+
+pub read_past_the_limit : (left left' : Option (List ℕ)) → Takes (max_text + 1) left left' → IfSome left (λ text. left' ≡ Some (drop (max_text + 1) text))
+read_past_the_limit None left' taken = tt
+read_past_the_limit (Some text) None taken = absurd taken
+read_past_the_limit (Some text) (Some rest) taken = ap Some taken.1
+
+-- ---- the top call
+count-up : (n : ℕ) → n < 2 ^ 64 - 1 → count_up n ≡ n + 1
+count-up n below = grind arith
+
+-- the words of a run
+pub form_of_run : (words : List (List ℕ)) (mode : Mode) → IsForm words mode → IsForm words Run
+form_of_run words Run form = form
+
+-- where the source tells the text, a call that ended has ended so
+pub HasEnded-written : (words : List (List ℕ)) (result : Status) (left left' : Option (List ℕ)) (f g : ℕ) (a b : Option (List ℕ)) → IsForm words Run → IsEnd result
+    → IfSome left (λ text. left' ≡ Some (drop (max_text + 1) text)) → HasWritten (Tells left (IsOutcome Run)) result f g a b
+    → IfSome left (λ text. HasEnded words text result left' a b)
+HasEnded-written words result None left' f g a b form is_end read h = tt
+HasEnded-written words result (Some text) left' f g a b form is_end read h =
+    let w = h.whole is_end in
+    record { mode = Run; form = form; answer = w.0; outcome = w.1; read = read; written = w.2 }
+
+pub HasBegun-written : (words : List (List ℕ)) (result : Status) (left : Option (List ℕ)) (f g : ℕ) (a b : Option (List ℕ)) → IsForm words Run
+    → HasWritten (Tells left (IsOutcome Run)) result f g a b → IfSome left (λ text. HasBegun words text a b)
+HasBegun-written words result None f g a b form h = tt
+HasBegun-written words result (Some text) f g a b form h =
+    record { mode = Run; form = form; status = h.part.0; answer = h.part.1; outcome = h.part.2; written = h.part.3 }
+
+-- where no write failed, the answer is the status of the outcomes, memory aside
+pub status_of_outcomes : (result : Status) (left : Option (List ℕ)) (f g : ℕ) (a b : Option (List ℕ)) → f < 2 ^ 64 - 1 → g ≡ f
+    → HasWritten (Tells left (IsOutcome Run)) result f g a b
+    → IfSome left (λ text. (status : Status) (answer : List ℕ) → IsOutcome Run text status answer → (result ≡ status) ⊎ (result ≡ NoMemory))
+status_of_outcomes result None f g a b below kept h = tt
+status_of_outcomes result (Some text) f g a b below kept h = λ status answer outcome. elim h.results [
+  | inl is_end ↦ let w = h.whole is_end in inl (one_status Run text result status w.0 answer w.1 outcome)
+  | inr (inl fault) ↦ absurd (rose (h.fault fault))
+  | inr (inr memory) ↦ inr memory
+]
+  where
+    rose : g ≡ count_up f → ⊥
+    rose e = let up = count-up f below in omega (arith, up, e, kept)
+
+-- a run of a text does not end so
+pub not_others : (text : List ℕ) (result : Status) (f g : ℕ) (a b : Option (List ℕ)) → HasWritten (IsOutcome Run text) result f g a b → (result ≢ Usage) × (result ≢ No)
+not_others text result f g a b h = (λ e. not_usage (subst Ended e h.results), λ e. let w = h.whole (subst IsEnd (sym e) tt) in subst (λ s. IsOutcome Run text s w.0) e w.1)
+  where
+    Ended : Status → Type 0
+    Ended s = IsEnd s ⊎ (s ≡ WriteFault) ⊎ (s ≡ NoMemory)
+
+    not_usage : Ended Usage → ⊥
+    not_usage (inl is_end) = is_end
+    not_usage (inr (inl e)) = cc
+    not_usage (inr (inr e)) = cc
+
+-- ---- the text is judged
+-- a document, whose script was answered
+pub HasWritten-script : (text : List ℕ) (s : GridScript) (result : Status) (f g : ℕ) (a b : Option (List ℕ)) → length text ≤ max_text → IsDocument text s
+    → (IsBuilt s → HasWritten (λ status answer. (status ≡ Done) × IsReport s answer) result f g a b)
+    → ((IsBuilt s → ⊥) → HasWritten (λ status answer. (status ≡ Refused) × (answer ≡ refused_line (codes "NotBuilt") 0)) result f g a b)
+    → HasWritten (IsOutcome Run text) result f g a b
+HasWritten-script text s result f g a b within document built not_built = elim (all_built_or_not s.commands) [
+  | inl is ↦
+      HasWritten-weaker (λ status answer. (status ≡ Done) × IsReport s answer) (IsOutcome Run text) result f g a b
+      (λ status answer told. subst (λ r. IsOutcome Run text r answer) (sym told.0) (record { within = within; script = s; document = document; built = is; report = told.1 }))
+      (built is)
+  | inr is_not ↦
+      HasWritten-weaker (λ status answer. (status ≡ Refused) × (answer ≡ refused_line (codes "NotBuilt") 0)) (IsOutcome Run text) result f g a b
+      (λ status answer told. subst (λ r. IsOutcome Run text r answer) (sym told.0) (inr (inr (record { within = within; script = s; document = document; not_built = is_not; told = told.1 }))))
+      (not_built is_not)
+]
+
+-- a text with a fault, whose word is told otherwise
+pub HasWritten-fault : (text word : List ℕ) (fault : TextFault) (line : ℕ) (result : Status) (f g : ℕ) (a b : Option (List ℕ)) → length text ≤ max_text → IsFirstFault text fault line → word ≡ fault_word fault
+    → HasWritten (λ status answer. (status ≡ Refused) × (answer ≡ refused_line word line)) result f g a b
+    → HasWritten (IsOutcome Run text) result f g a b
+HasWritten-fault text word fault line result f g a b within first same h =
+    HasWritten-weaker (λ status answer. (status ≡ Refused) × (answer ≡ refused_line word line)) (IsOutcome Run text) result f g a b
+    (λ status answer told. subst (λ r. IsOutcome Run text r answer) (sym told.0)
+    (inr (inl (record { within = within; fault = fault; number = line; first = first; told = told.1 ∙ ap (λ w. refused_line w line) same }))))
+    h
+
+-- a text that is too long
+pub HasWritten-long : (left left' : Option (List ℕ)) (result : Status) (f g : ℕ) (a b : Option (List ℕ)) → Takes (max_text + 1) left left'
+    → HasWritten (λ status answer. (status ≡ Refused) × (answer ≡ refused_line (codes "TooLong") 0)) result f g a b
+    → HasWritten (Tells left (IsOutcome Run)) result f g a b
+HasWritten-long left left' result f g a b taken h =
+    HasWritten-weaker (λ status answer. (status ≡ Refused) × (answer ≡ refused_line (codes "TooLong") 0)) (Tells left (IsOutcome Run)) result f g a b
+    (λ status answer told. IfSome-long left left' (λ text. IsOutcome Run text status answer) taken
+    (λ text long. subst (λ r. IsOutcome Run text r answer) (sym told.0) (inl (record { long = long; told = told.1 }))))
+    h
+
+-- a text that was read to its end
+pub HasWritten-read : (left left' : Option (List ℕ)) (bytes told : List ℕ) (result : Status) (f g : ℕ) (a b : Option (List ℕ)) → Consumes left left' bytes → IsAtEnd left'
+    → told ≡ bytes → HasWritten (IsOutcome Run told) result f g a b → HasWritten (Tells left (IsOutcome Run)) result f g a b
+HasWritten-read left left' bytes told result f g a b taken at_end same h =
+    HasWritten-weaker (IsOutcome Run told) (Tells left (IsOutcome Run)) result f g a b
+    (λ status answer outcome. IfSome-read left left' bytes (λ text. IsOutcome Run text status answer) taken at_end (subst (λ t. IsOutcome Run t status answer) same outcome))
+    h
+
+-- out of memory before the text was read
+pub HasWritten-unread : (left : Option (List ℕ)) (f : ℕ) (a : Option (List ℕ)) → HasWritten (Tells left (IsOutcome Run)) NoMemory f f a a
+HasWritten-unread None f a = HasWritten-nothing (Tells None (IsOutcome Run)) f a Done [] tt
+HasWritten-unread (Some text) f a =
+    let outcome = some_outcome Run text in
+    HasWritten-nothing (Tells (Some text) (IsOutcome Run)) f a outcome.0 outcome.1 outcome.2
+
+-- a read that failed is told by ReadFault alone
+pub ended_not_read_fault : (result : Status) → IsEnd result → result ≢ ReadFault
+ended_not_read_fault result is_end e = subst IsEnd e is_end
+
+pub begun_not_read_fault : (result : Status) → (result ≡ WriteFault) ⊎ (result ≡ NoMemory) → result ≢ ReadFault
+begun_not_read_fault result (inl begun) e = other (sym begun ∙ e)
+  where
+    other : WriteFault ≡ ReadFault → ⊥
+    other same = cc
+begun_not_read_fault result (inr begun) e = other (sym begun ∙ e)
+  where
+    other : NoMemory ≡ ReadFault → ⊥
+    other same = cc
+
+is_read_fault : Status → Bool
+is_read_fault ReadFault = true
+is_read_fault s = false
+
+read_fault_or_not : (s : Status) (b : Bool) → is_read_fault s ≡ b → (s ≡ ReadFault) ⊎ (s ≢ ReadFault)
+unfolding is_read_fault
+read_fault_or_not ReadFault b e = inl refl
+read_fault_or_not Done b e = inr (λ same. cc)
+read_fault_or_not Usage b e = inr (λ same. cc)
+read_fault_or_not Refused b e = inr (λ same. cc)
+read_fault_or_not WriteFault b e = inr (λ same. cc)
+read_fault_or_not NoMemory b e = inr (λ same. cc)
+read_fault_or_not No b e = inr (λ same. cc)
+
+-- where no call failed, in any mode
+pub status_of_any : (mode : Mode) (result : Status) (left : Option (List ℕ)) (f g h k : ℕ) (a b : Option (List ℕ)) → f < 2 ^ 64 - 1 → h < 2 ^ 64 - 1 → g ≡ f → k ≡ h
+    → (result ≡ ReadFault → g ≡ count_up f) → (result ≢ ReadFault → HasWritten (Tells left (IsOutcome Run)) result h k a b)
+    → IfSome left (λ text. (status : Status) (answer : List ℕ) → IsOutcome mode text status answer → (result ≡ status) ⊎ (result ≡ NoMemory))
+status_of_any Run result left f g h k a b below_f below_h source sink fault written = elim (read_fault_or_not result _ refl) [
+  | inl e ↦ absurd (rose (fault e))
+  | inr other ↦ status_of_outcomes result left h k a b below_h sink (written other)
+]
+  where
+    rose : g ≡ count_up f → ⊥
+    rose e = let up = count-up f below_f in omega (arith, up, e, source)

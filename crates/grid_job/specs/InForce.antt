@@ -1,0 +1,50 @@
+-- What is in force where a command stands: a grid, and a chain of states of its size. The answer to a command
+-- depends on these two alone.
+--     InForce            a grid and a chain
+--     in_force_code      how its values are told apart
+--     at_start g         before the first command: the grid of the document, and the empty chain
+--     after p c          after the command c, where p was in force before it
+--     after_all p cs     after these commands, in order
+use Rattle.std.specs.Prelude.{List, [], ◌∷◌, ℕ, map, refl}
+use Rattle.std.specs.Coded.{Coded, code_by, coded×, coded_list, coded_ℕ}
+use Rattle.std.specs.FinSet as finite_set
+use Rattle.f2_algebra.specs.Chain.{Chain, nothing, of_codes}
+use Rattle.state_rank.specs.States.{rank}
+use Rattle.torus_geom.specs.Marks.{Marks}
+use Rattle.grid_text.specs.Commands.{grid_after}
+use Rattle.grid_text.specs.declared.commands.Command.{Command}
+use Rattle.grid_text.specs.declared.commands.Command.TheVariants as command
+
+pub record InForce : Type 0 where
+  pub grid : Marks
+  pub chain : Chain
+
+-- how a value of it is told from others
+abbrev pub in_force_code : Coded InForce
+in_force_code =
+    code_by (List ℕ × (List ℕ × Chain)) (coded× (coded_list coded_ℕ) (coded× (coded_list coded_ℕ) (finite_set.code coded_ℕ)))
+    (λ p. (p.grid.o, (p.grid.x, p.chain))) (λ t. record { grid = record { o = t.0; x = t.1.0 }; chain = t.1.1 }) (λ _. refl)
+
+abbrev pub at_start : Marks → InForce
+at_start g = record { grid = g; chain = nothing }
+
+-- `chain` puts its states in the place of the chain. Turns and commutations are not built yet, and have no answer:
+-- what becomes of a chain under them is not said here
+abbrev pub chain_after : Chain → Command → Chain
+chain_after z command.Front = z
+chain_after z command.Ranks = z
+chain_after z command.Hat = z
+chain_after z (command.Class sign) = z
+chain_after z (command.Border x) = z
+chain_after z (command.Chain xs) = of_codes (map rank xs)
+chain_after z command.Show = z
+chain_after z command.Bounds = z
+chain_after z (command.Turn side) = z
+chain_after z (command.Commute axis c corner) = z
+
+abbrev pub after : InForce → Command → InForce
+after p c = record { grid = grid_after p.grid c; chain = chain_after p.chain c }
+
+abbrev pub after_all : InForce → List Command → InForce
+after_all p [] = p
+after_all p (c ∷ cs) = after_all (after p c) cs

@@ -1,0 +1,102 @@
+-- What a call of the program may come to. Each mode of the program has its outcomes for a text: the statuses with
+-- which a call may end, and the bytes that it then has written. The clauses of the top call speak of outcomes alone.
+--     IsForm words mode             the words after the program's name ask for this mode
+--     limit mode                    the most bytes of a text that is judged in this mode
+--     IsRefusal text answer         the text is refused, and the answer is the line that says so
+--     IsOutcome mode text status answer
+--                                   a call in this mode, on this text, may end with this status and have written
+--                                   this answer
+--     IsEnd status                  the call went to its end
+--     HasEnded words text status left before after
+--                                   all of the text was read, up to one byte past the limit, and the whole answer of
+--                                   an outcome with this status was written
+--     HasBegun words text before after
+--                                   what was written is a prefix of the answer of an outcome
+use Rattle.std.specs.Prelude.{◌≡◌, ℕ, ◌+◌, ◌<◌, ◌≤◌, ◌⊎◌, List, [], ◌∷◌, length, drop, codes, Option, Some}
+use Rattle.std.specs.Io.KnownBytes.{Appends}
+use Rattle.grid_ports.specs.Bytes.{AppendsPrefix}
+use Rattle.grid_text.specs.Document.{IsDocument}
+use Rattle.grid_text.specs.Faults.{IsFirstFault}
+use Rattle.grid_text.specs.FaultWords.{fault_word}
+use Rattle.grid_text.specs.Script.{GridScript}
+use Rattle.grid_text.specs.declared.faults.TextFault.{TextFault}
+use Rattle.grid_text.specs.Limits.{max_text}
+use Rattle.report_text.specs.Lines.{refused_line}
+use Rattle.grid_job.specs.Report.{IsBuilt, IsReport}
+use Rattle.grid_job.specs.declared.modes.Mode.{Mode}
+use Rattle.grid_job.specs.declared.modes.Mode.TheVariants.{Run}
+use Rattle.grid_job.specs.declared.statuses.Status.{Status}
+use Rattle.grid_job.specs.declared.statuses.Status.TheVariants.{Done, Usage, Refused, ReadFault, WriteFault, NoMemory, No}
+
+-- `run` alone asks for a run
+abbrev pub IsForm : List (List ℕ) → Mode → Type 0
+IsForm words Run = words ≡ codes "run" ∷ []
+
+abbrev pub limit : Mode → ℕ
+limit Run = max_text
+
+-- the text is longer than what is judged
+pub record IsTooLong (text answer : List ℕ) : Type 0 where
+  pub long : max_text < length text
+  pub told : answer ≡ refused_line (codes "TooLong") 0
+
+-- the text is no document, and the line tells its first fault
+pub record IsFaulty (text answer : List ℕ) : Type 0 where
+  pub within : length text ≤ max_text
+  pub fault : TextFault
+  pub number : ℕ
+  pub first : IsFirstFault text fault number
+  pub told : answer ≡ refused_line (fault_word fault) number
+
+-- the text is a document with a command that has no answer yet
+pub record IsNotBuilt (text answer : List ℕ) : Type 0 where
+  pub within : length text ≤ max_text
+  pub script : GridScript
+  pub document : IsDocument text script
+  pub not_built : IsBuilt script → ⊥
+  pub told : answer ≡ refused_line (codes "NotBuilt") 0
+
+abbrev pub IsRefusal : List ℕ → List ℕ → Type 0
+IsRefusal text answer = IsTooLong text answer ⊎ IsFaulty text answer ⊎ IsNotBuilt text answer
+
+-- the text is a document, and the answer a report of its script
+pub record IsReported (text answer : List ℕ) : Type 0 where
+  pub within : length text ≤ max_text
+  pub script : GridScript
+  pub document : IsDocument text script
+  pub built : IsBuilt script
+  pub report : IsReport script answer
+
+abbrev pub IsOutcome : Mode → List ℕ → Status → List ℕ → Type 0
+IsOutcome Run text Done answer = IsReported text answer
+IsOutcome Run text Refused answer = IsRefusal text answer
+IsOutcome Run text Usage answer = ⊥
+IsOutcome Run text ReadFault answer = ⊥
+IsOutcome Run text WriteFault answer = ⊥
+IsOutcome Run text NoMemory answer = ⊥
+IsOutcome Run text No answer = ⊥
+
+abbrev pub IsEnd : Status → Type 0
+IsEnd Done = Unit {0}
+IsEnd Refused = Unit {0}
+IsEnd No = Unit {0}
+IsEnd Usage = ⊥
+IsEnd ReadFault = ⊥
+IsEnd WriteFault = ⊥
+IsEnd NoMemory = ⊥
+
+pub record HasEnded (words : List (List ℕ)) (text : List ℕ) (status : Status) (left before after : Option (List ℕ)) : Type 0 where
+  pub mode : Mode
+  pub form : IsForm words mode
+  pub answer : List ℕ
+  pub outcome : IsOutcome mode text status answer
+  pub read : left ≡ Some (drop (limit mode + 1) text)
+  pub written : Appends before after answer
+
+pub record HasBegun (words : List (List ℕ)) (text : List ℕ) (before after : Option (List ℕ)) : Type 0 where
+  pub mode : Mode
+  pub form : IsForm words mode
+  pub status : Status
+  pub answer : List ℕ
+  pub outcome : IsOutcome mode text status answer
+  pub written : AppendsPrefix before after answer
