@@ -3,18 +3,17 @@
 --     line words                 the words as a line
 --     front_line tb rot l        the Thurston-Bennequin number, the rotation number and the number of
 --                                components of a front
+--     row_line row               the line of a row of a table: its Maslov degree, its Alexander degree and its rank
 --     table_lines rows           the number of rows of a table, and a line for each row
---     state_word x               the digits of a state
 --     set_line word n z          a word, and the states of size n of a chain, in ascending order
 --     refused_line word number   the word of a fault, and the number of its line
-use Rattle.std.specs.Prelude.{ℕ, ℤ, ◌+◌, List, [], ◌∷◌, ◌++◌, length, map, codes}
+use Rattle.std.specs.Prelude.{ℕ, ℤ, List, [], ◌∷◌, ◌++◌, length, codes}
 use Rattle.std.specs.List.{flat_map}
 use Rattle.std.specs.Fmt.{decimal, signed_decimal}
 use Rattle.f2_algebra.specs.Chain.{Chain, codes as ranks}
-use Rattle.state_rank.specs.States.{unrank}
+use Rattle.state_rank.specs.States.{unrank, state_word}
 use Rattle.hat_division.specs.declared.tables.TableRow.{TableRow}
 
--- each line ends with a line feed
 abbrev pub line : List ℕ → List ℕ
 line words = words ++ 10 ∷ []
 
@@ -23,17 +22,12 @@ front_line tb rot components = line
     (codes "front tb " ++ signed_decimal tb ++ codes " rot " ++ signed_decimal rot
     ++ codes " components " ++ decimal components)
 
--- the line of a row: its Maslov degree, its Alexander degree and its rank
 abbrev pub row_line : TableRow → List ℕ
 row_line row = line
     (codes "rank " ++ signed_decimal row.m ++ 32 ∷ signed_decimal row.a ++ 32 ∷ decimal row.rank)
 
 abbrev pub table_lines : List TableRow → List ℕ
 table_lines rows = line (codes "ranks " ++ decimal (length rows)) ++ flat_map row_line rows
-
--- a digit for each circle: `0` is 48
-abbrev pub state_word : List ℕ → List ℕ
-state_word x = map (λ r. 48 + r) x
 
 abbrev pub set_line : List ℕ → ℕ → Chain → List ℕ
 set_line word n z = line (word ++ flat_map (λ k. 32 ∷ state_word (unrank n k)) (ranks z))

@@ -2,8 +2,8 @@
 ghost use Rattle.std.specs.Prelude.{◌≡◌, ◌+◌, ◌<◌, ◌∷◌, ◌++◌, length, All, IfOk, OnOk};
 ghost use Rattle.f2_algebra.specs.Chain.{codes as codes_of};
 ghost use Rattle.state_rank.specs.Bijection.{IsSize};
-ghost use Rattle.state_rank.specs.States.{factorial};
-ghost use Rattle.report_text.specs.Lines.{front_line as front_line_of, row_line, table_lines as table_lines_of, state_word, set_line as set_line_of, refused_line as refused_line_of};
+ghost use Rattle.state_rank.specs.States.{factorial, state_word};
+ghost use Rattle.report_text.specs.Lines.{front_line as front_line_of, row_line, table_lines as table_lines_of, set_line as set_line_of, refused_line as refused_line_of};
 
 use f2_chain::Chain;
 use front_data::FrontNumbers;

@@ -1,5 +1,5 @@
 use Rattle.std.proofs.Common.{◌≡◌, ◌++◌, ◌∷◌, take}
-use Rattle.report_text.specs.Lines.{state_word}
+use Rattle.state_rank.specs.States.{state_word}
 use Rattle.report_text.proofs.lines.push_word.Given as goal
 
 -- the digits so far are appended

@@ -1,7 +1,7 @@
 use Rattle.std.proofs.Common.{◌≡◌, ◌++◌, ◌∷◌, take}
 use Rattle.std.specs.List.{flat_map}
 use Rattle.state_rank.specs.States.{unrank}
-use Rattle.report_text.specs.Lines.{state_word}
+use Rattle.state_rank.specs.States.{state_word}
 use Rattle.report_text.proofs.lines.set_line.Given as goal
 
 -- the words of the states so far follow the word of the line
