@@ -8,15 +8,15 @@ use Rattle.f2_algebra.specs.Chain.{Chain, holds, of_codes, nothing, single, ◌�
 use Rattle.f2_algebra.specs.Complex.{Complex, arrow, border, IsComplex, IsAbove, AllOfDegree, IsCycle, IsRank}
 use Rattle.f2_algebra.specs.Certificate.{IsAllCells, CyclePair, StepPair, AreCyclePairs, AreStepPairs}
 use Rattle.f2_algebra.specs.Bigraded.{up_m}
-use Rattle.f2_algebra.proofs.Bigraded.{up_m_one, up_m_other}
-use Rattle.f2_algebra.proofs.Sets.{any, holds-of_codes, holds-nothing, holds-single}
-use Rattle.f2_algebra.proofs.Sums.{add_self, add-nothing, pairs_oddly-single, sum_over-list}
-use Rattle.f2_algebra.proofs.Cancellation.{same_some, border-single, border-nothing}
-use Rattle.f2_algebra.proofs.Lists.{codes-of_codes}
-use Rattle.f2_algebra.proofs.Span.{Every}
-use Rattle.f2_algebra.proofs.Certificate.{all_from, rank_of_certificate}
-use Rattle.f2_algebra.proofs.LogCertificate.{pairs_from}
-use Rattle.f2_algebra.proofs.CertificateRanks.{no_steps}
+use Rattle.f2_algebra.proofs.Ranks.Bigraded.{up_m_one, up_m_other}
+use Rattle.f2_algebra.proofs.Chains.Sets.{any, holds-of_codes, holds-nothing, holds-single}
+use Rattle.f2_algebra.proofs.Chains.Sums.{add_self, add-nothing, pairs_oddly-single, sum_over-list}
+use Rattle.f2_algebra.proofs.Cancelling.Cancellation.{same_some, border-single, border-nothing}
+use Rattle.f2_algebra.proofs.Chains.Lists.{codes-of_codes}
+use Rattle.f2_algebra.proofs.Certificates.Span.{Every}
+use Rattle.f2_algebra.proofs.Certificates.Certificate.{all_from, rank_of_certificate}
+use Rattle.f2_algebra.proofs.Certificates.LogCertificate.{pairs_from}
+use Rattle.f2_algebra.proofs.Certificates.CertificateRanks.{no_steps}
 
 abbrev degree_of : ℕ → Option (ℤ × ℤ)
 degree_of zero = Some (negsuc 0, negsuc 0)

@@ -8,8 +8,8 @@ use Rattle.std.proofs.Math.Seq.{take-length}
 use Rattle.std.proofs.lemmas.Bool.{cases_lt}
 use Rattle.std.specs.List.Sorted.{IsStrictlyIncreasing}
 use Rattle.f2_algebra.specs.Chain.{Chain, of_codes, single, ◌⊕◌}
-use Rattle.f2_algebra.proofs.Sums.{add_comm, add_assoc, nothing-add, add-nothing, add_self, add_swap}
-use Rattle.f2_algebra.proofs.Lists.{of_codes-push, of_codes-drop, any-above, rises}
+use Rattle.f2_algebra.proofs.Chains.Sums.{add_comm, add_assoc, nothing-add, add-nothing, add_self, add_swap}
+use Rattle.f2_algebra.proofs.Chains.Lists.{of_codes-push, of_codes-drop, any-above, rises}
 
 -- ---- the merge of two lists of codes that rise
 -- what has been read of a and b, up to i and j, adds up to out

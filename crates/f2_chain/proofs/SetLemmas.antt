@@ -8,23 +8,14 @@ use Rattle.std.proofs.lemmas.Map.Keys.{IsDistinct-IsPermutation, IsStrictlyIncre
 use Rattle.std.specs.List.{list_any, IsDistinct}
 use Rattle.std.specs.List.Sorted.{IsStrictlyIncreasing, IsSorted, IsBinarySearchResult}
 use Rattle.f2_algebra.specs.Chain.{holds, of_codes, single, ◌⊕◌}
-use Rattle.f2_algebra.proofs.Tables.{◌⊻◌, same, xor-false, xor_comm}
-use Rattle.f2_algebra.proofs.Sets.{any, same_chain, holds-of_codes, holds-single, holds-add, parity, parity-push}
-use Rattle.f2_algebra.proofs.Lists.{rises}
+use Rattle.f2_algebra.proofs.Chains.Tables.{◌⊻◌, same, xor-false, xor_comm}
+use Rattle.f2_algebra.proofs.Chains.Sets.{any, same_chain, holds-of_codes, holds-single, holds-add, parity, parity-push}
+use Rattle.f2_algebra.proofs.Chains.Lists.{rises, any-at, any-none}
 
 -- ---- a search
-any-at : (xs : List ℕ) (i x : ℕ) → i < length xs → slice_index xs i ≡ x → any x xs ≡ true
-any-at [] i x l e = absurd (omega arith)
-any-at (y ∷ xs) zero x l e = ap (λ b. b || any x xs) (eq-eqb x y (sym e))
-any-at (y ∷ xs) (suc i) x l e = ap (λ b. eqb x y || b) (any-at xs i x (omega arith) e) ∙ either (eqb x y)
-  where
-    either : (b : Bool) → (b || true) ≡ true
-    either true = refl
-    either false = refl
-
-any-nowhere : (xs : List ℕ) (x : ℕ) → ((k : ℕ) → k < length xs → slice_index xs k ≡ x → ⊥) → any x xs ≡ false
-any-nowhere [] x h = refl
-any-nowhere (y ∷ xs) x h = ap₂ (λ a b. a || b) (ne_eqb x y (λ e. h 0 (omega arith) (sym e))) (any-nowhere xs x (λ k l e. h (suc k) (omega arith) e))
+-- the element at a place is in the list
+at_place : (xs : List ℕ) (i x : ℕ) → i < length xs → slice_index xs i ≡ x → any x xs ≡ true
+at_place xs i x l e = ap (λ y. any y xs) (sym e) ∙ any-at xs i 0 l
 
 no_fall : (xs : List ℕ) → IsStrictlyIncreasing xs → (i j : ℕ) → i ≤ j → j < length xs → get_or xs i 0 ≤ get_or xs j 0
 no_fall xs up i j l k = elim (cases_lt i j) [
@@ -33,8 +24,8 @@ no_fall xs up i j l k = elim (cases_lt i j) [
 ]
 
 found_is : (xs : List ℕ) (x : ℕ) (r : Result ℕ ℕ) → MatchResult r (λ i. (i < length xs) × (get_or xs i 0 ≡ x)) (λ i. (i ≤ length xs) × ((k : ℕ) → k < i → get_or xs k 0 < x) × ((k : ℕ) → i ≤ k → k < length xs → x < get_or xs k 0)) → is_ok r ≡ any x xs
-found_is xs x (Ok i) h = sym (any-at xs i x h.0 h.1)
-found_is xs x (Err i) h = sym (any-nowhere xs x (λ k l e. elim (cases_lt k i) [ inl p ↦ let q = h.1 k p in absurd (omega arith) | inr p ↦ let q = h.2 k p l in absurd (omega arith) ]))
+found_is xs x (Ok i) h = sym (at_place xs i x h.0 h.1)
+found_is xs x (Err i) h = sym (any-none x xs (λ k l e. elim (cases_lt k i) [ inl p ↦ let q = h.1 k p in absurd (omega arith) | inr p ↦ let q = h.2 k p l in absurd (omega arith) ]))
 
 -- what a binary search of an ascending list answers is whether the chain of the list holds the number
 pub searched_is : (xs : List ℕ) (x : ℕ) (r : Result ℕ ℕ) → IsStrictlyIncreasing xs → IsBinarySearchResult (λ y. nat_cmp y x) xs r → is_ok r ≡ holds (of_codes xs) x

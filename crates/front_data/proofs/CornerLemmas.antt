@@ -6,8 +6,8 @@ use Rattle.std.proofs.lemmas.Int.{ints}
 use Rattle.state_rank.specs.Bijection.{column_of}
 use Rattle.state_rank.proofs.BijectionLemmas.{IsOneToOne, column_of-one_to_one, row-column_of}
 use Rattle.torus_geom.specs.Counts.{sum_below, one_if, count_below}
-use Rattle.torus_geom.proofs.SumLemmas.{balanced_sum, sum_below_same, sum_below-add, balanced_pairs, sum_below_reindex, same_ints}
-use Rattle.torus_geom.proofs.PairLemmas.{pairs, maslov_by_pairs, count_below-all}
+use Rattle.torus_geom.proofs.Sums.SumLemmas.{balanced_sum, sum_below_same, sum_below-add, balanced_pairs, sum_below_reindex, same_ints}
+use Rattle.torus_geom.proofs.Pairs.PairLemmas.{pairs, maslov_by_pairs, count_below-all}
 use Rattle.front_data.proofs.CrossingLemmas.{ltb_other, weak_pairs-pairs, weak_pairs_parts, pairs-crossings, sign_at, north_west_at_x, north_west_at_o}
 
 module _ (n : ℕ) (o x : ℕ → ℕ) (oo : IsOneToOne n o) (ox : IsOneToOne n x) (apart : (c : ℕ) → c < n → o c ≢ x c) where

@@ -6,13 +6,13 @@ use Rattle.std.proofs.Common.{◌≡◌, ◌≢◌, ℕ, ◌<◌, Bool, true, fa
 use Rattle.std.proofs.Math.IntN.{ℤ, pos, negsuc, ◌+ℤ◌}
 use Rattle.std.proofs.lemmas.Int.{ints}
 use Rattle.std.proofs.lemmas.Bool.{cases_eq, eq-eqb, ne_eqb, and_from}
-use Rattle.f2_algebra.proofs.Tables.{◌⊻◌}
+use Rattle.f2_algebra.proofs.Chains.Tables.{◌⊻◌}
 use Rattle.state_rank.specs.Bijection.{column_of}
 use Rattle.state_rank.proofs.BijectionLemmas.{IsOneToOne, column_of-below, row-column_of, column_of-is}
 use Rattle.torus_geom.specs.Counts.{one_if, sum_below, count_below}
-use Rattle.torus_geom.proofs.SumLemmas.{sum_below_same, sum_below-add, balanced_sum, balanced_pairs, balanced_triples, sum_below_swap, sum_below-at_only, at_only, sum_below_reindex, same_ints, under_test}
-use Rattle.torus_geom.proofs.PairLemmas.{pairs, lower_left, upper_right, upper_right-lower_left, sum_below_triangle}
-use Rattle.torus_geom.proofs.RowPairLemmas.{pairs_by_rows}
+use Rattle.torus_geom.proofs.Sums.SumLemmas.{sum_below_same, sum_below-add, balanced_sum, balanced_pairs, balanced_triples, sum_below_swap, sum_below-at_only, at_only, sum_below_reindex, same_ints, under_test}
+use Rattle.torus_geom.proofs.Pairs.PairLemmas.{pairs, lower_left, upper_right, upper_right-lower_left, sum_below_triangle}
+use Rattle.torus_geom.proofs.Pairs.RowPairLemmas.{pairs_by_rows}
 
 -- of two different numbers one is below the other
 pub ltb_other : (a b : ℕ) → a ≢ b → ltb b a ≡ not (ltb a b)

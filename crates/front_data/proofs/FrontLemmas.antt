@@ -18,12 +18,13 @@ use Rattle.torus_geom.specs.Degrees.{maslov_o}
 use Rattle.torus_geom.specs.Front.{is_north_east_x, is_north_east_o, is_south_west_x, is_south_west_o, north_east, south_west, thurston_bennequin, writhe, doubled_rotation, rotation, plus_state, minus_state}
 use Rattle.torus_geom.specs.Range.{one_up, one_down}
 use Rattle.torus_geom.specs.declared.rects.Rect.{Rect}
-use Rattle.torus_geom.proofs.SumLemmas.{sum_below-add, sum_below-zero, balanced_pairs}
-use Rattle.torus_geom.proofs.HalfLemmas.{int_div-double, two-int_div}
-use Rattle.torus_geom.proofs.TabulateLemmas.{length-tabulate, slice_index-tabulate}
-use Rattle.torus_geom.proofs.PairLemmas.{maslov-by_pairs}
-use Rattle.torus_geom.proofs.TurnLemmas.{one_up_below, one_down_below, one_up_one, one_down_one, composed_one, one_down-one_up, one_up-one_down}
-use Rattle.torus_geom.proofs.RectangleLemmas.{in_range-start, in_range-one_down, no_x_inside, border_of_state-no_step}
+use Rattle.torus_geom.proofs.Sums.SumLemmas.{sum_below-add, sum_below-zero, balanced_pairs}
+use Rattle.torus_geom.proofs.Sums.HalfLemmas.{int_div-double, two-int_div}
+use Rattle.state_rank.proofs.OrderLemmas.{length-tabulate}
+use Rattle.torus_geom.proofs.Sums.TabulateLemmas.{slice_index-tabulate}
+use Rattle.torus_geom.proofs.Pairs.PairLemmas.{maslov-by_pairs}
+use Rattle.torus_geom.proofs.Circles.TurnLemmas.{one_up_below, one_down_below, one_up_one, one_down_one, composed_one, one_down-one_up, one_up-one_down}
+use Rattle.torus_geom.proofs.Circles.RectangleLemmas.{in_range-start, in_range-one_down, no_x_inside, border_of_state-no_step}
 use Rattle.front_data.proofs.CrossingLemmas.{pairs-crossings}
 use Rattle.front_data.proofs.CornerLemmas as corners
 use Rattle.front_data.proofs.PlusLemmas.{maslov_by_pairs-plus_state}

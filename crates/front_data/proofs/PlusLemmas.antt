@@ -5,15 +5,15 @@ use Rattle.std.proofs.Common.{◌≡◌, ◌≢◌, ℕ, zero, suc, ◌+◌, ◌
 use Rattle.std.proofs.Math.IntN.{ℤ, pos, ◌+ℤ◌, ◌-ℤ◌}
 use Rattle.std.proofs.lemmas.Int.{ints}
 use Rattle.std.proofs.lemmas.Bool.{cases_eq, lt-ltb, eq-eqb, ne_eqb}
-use Rattle.f2_algebra.proofs.Tables.{and-true}
+use Rattle.f2_algebra.proofs.Chains.Tables.{and-true}
 use Rattle.state_rank.specs.Bijection.{column_of}
 use Rattle.state_rank.proofs.BijectionLemmas.{IsOneToOne, column_of-one_to_one, column_of-below, row-column_of, column_of-is}
 use Rattle.torus_geom.specs.Counts.{one_if, sum_below, count_below}
 use Rattle.torus_geom.specs.Range.{one_up, one_down}
-use Rattle.torus_geom.proofs.SumLemmas.{sum_below_same, sum_below_vanishes, balanced_sum, sum_below_but_two, sum_below-at_only, at_only, sum_below_reindex}
-use Rattle.torus_geom.proofs.PairLemmas.{pairs, maslov_by_pairs, lower_left, count_below-ltb, count_below-rows}
-use Rattle.torus_geom.proofs.RowPairLemmas.{pairs_same, pairs-column_of}
-use Rattle.torus_geom.proofs.TurnLemmas.{one_up-below, one_up-last, one_down-first, one_up_one, one_down_one, composed_one, one_down-one_up, column_of-one_up, pairs-one_up}
+use Rattle.torus_geom.proofs.Sums.SumLemmas.{sum_below_same, sum_below_vanishes, balanced_sum, sum_below_but_two, sum_below-at_only, at_only, sum_below_reindex}
+use Rattle.torus_geom.proofs.Pairs.PairLemmas.{pairs, maslov_by_pairs, lower_left, count_below-ltb, count_below-rows}
+use Rattle.torus_geom.proofs.Pairs.RowPairLemmas.{pairs_same, pairs-column_of}
+use Rattle.torus_geom.proofs.Circles.TurnLemmas.{one_up-below, one_up-last, one_down-first, one_up_one, one_down_one, composed_one, one_down-one_up, column_of-one_up, pairs-one_up}
 use Rattle.front_data.proofs.CrossingLemmas.{weak_pairs-pairs}
 
 module _ (m : ℕ) (o x z : ℕ → ℕ) (oo : IsOneToOne (suc m) o) (ox : IsOneToOne (suc m) x) (oz : IsOneToOne (suc m) z)

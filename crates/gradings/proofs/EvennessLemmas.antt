@@ -8,9 +8,9 @@ use Rattle.state_rank.proofs.BijectionLemmas.{IsOneToOne, one_to_one, row-column
 use Rattle.torus_geom.specs.Marks.{Marks, size, IsGrid}
 use Rattle.torus_geom.specs.Components.{column_after, is_first}
 use Rattle.torus_geom.specs.Degrees.{doubled_alexander, alexander}
-use Rattle.torus_geom.proofs.PairLemmas.{pairs, maslov-by_pairs}
-use Rattle.torus_geom.proofs.ComponentLemmas.{column_after_one, is_first_picks, components-count}
-use Rattle.torus_geom.proofs.HalfLemmas.{two-int_div}
+use Rattle.torus_geom.proofs.Pairs.PairLemmas.{pairs, maslov-by_pairs}
+use Rattle.torus_geom.proofs.Cycles.ComponentLemmas.{column_after_one, is_first_picks, components-count}
+use Rattle.torus_geom.proofs.Sums.HalfLemmas.{two-int_div}
 use Rattle.gradings.proofs.ParityLemmas.{pairs_parity}
 
 module _ (g : Marks) (grid : IsGrid g) where

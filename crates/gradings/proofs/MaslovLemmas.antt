@@ -11,9 +11,9 @@ use Rattle.torus_geom.specs.Counts.{one_if, sum_below, count_below}
 use Rattle.torus_geom.specs.Marks.{Marks, size, IsGrid}
 use Rattle.torus_geom.specs.Components.{components}
 use Rattle.torus_geom.specs.Degrees.{maslov, alexander}
-use Rattle.torus_geom.proofs.SumLemmas.{sum_below_same, balanced_sum, balanced_pairs}
-use Rattle.torus_geom.proofs.PairLemmas.{pairs, lower_left, maslov-by_pairs}
-use Rattle.torus_geom.proofs.HalfLemmas.{int_div-double}
+use Rattle.torus_geom.proofs.Sums.SumLemmas.{sum_below_same, balanced_sum, balanced_pairs}
+use Rattle.torus_geom.proofs.Pairs.PairLemmas.{pairs, lower_left, maslov-by_pairs}
+use Rattle.torus_geom.proofs.Sums.HalfLemmas.{int_div-double}
 use Rattle.gradings.proofs.EvennessLemmas.{doubled_alexander_even}
 
 -- the points left of a column are those of the columns below it

@@ -9,12 +9,12 @@ use Rattle.std.proofs.lemmas.Bool.{cases_eq, cases_Bool, or_cases, or_left, or_r
 use Rattle.state_rank.proofs.BijectionLemmas.{IsOneToOne}
 use Rattle.state_rank.proofs.SwapLemmas.{exchanged, exchanged-first, exchanged-second, exchanged-other, exchanged_below, exchanged_back}
 use Rattle.torus_geom.specs.Counts.{one_if, count_below}
-use Rattle.torus_geom.proofs.SumLemmas.{sum_below_same, balanced_sum, sum_below-at_only, at_only}
-use Rattle.torus_geom.proofs.PairLemmas.{pairs, count_below-all}
-use Rattle.torus_geom.proofs.RowPairLemmas.{pairs_same}
-use Rattle.torus_geom.proofs.CornerCounts.{seam_term}
-use Rattle.torus_geom.proofs.ExchangeLaw.{IsExchange, pairs-exchanged_both, points_within}
-use Rattle.torus_geom.proofs.CycleLemmas.{after, after_below, Meets, PicksOne}
+use Rattle.torus_geom.proofs.Sums.SumLemmas.{sum_below_same, balanced_sum, sum_below-at_only, at_only}
+use Rattle.torus_geom.proofs.Pairs.PairLemmas.{pairs, count_below-all}
+use Rattle.torus_geom.proofs.Pairs.RowPairLemmas.{pairs_same}
+use Rattle.torus_geom.proofs.Pairs.CornerCounts.{seam_term}
+use Rattle.torus_geom.proofs.Pairs.ExchangeLaw.{IsExchange, pairs-exchanged_both, points_within}
+use Rattle.torus_geom.proofs.Cycles.CycleLemmas.{after, after_below, Meets, PicksOne}
 
 -- the bijection f with its values at a and b exchanged
 abbrev pub with_exchange : (ℕ → ℕ) → ℕ → ℕ → ℕ → ℕ

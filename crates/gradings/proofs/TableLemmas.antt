@@ -14,13 +14,13 @@ use Rattle.torus_geom.specs.Counts.{one_if, sum_below, count_below}
 use Rattle.torus_geom.specs.Marks.{Marks, size, IsGrid}
 use Rattle.torus_geom.specs.Components.{is_first, components}
 use Rattle.torus_geom.specs.Degrees.{maslov_o, alexander}
-use Rattle.torus_geom.proofs.SumLemmas.{sum_below_same, balanced_sum}
-use Rattle.torus_geom.proofs.PairLemmas.{lower_left, pairs, maslov-by_pairs, maslov-by_points}
-use Rattle.torus_geom.proofs.HalfLemmas.{int_div-double}
+use Rattle.torus_geom.proofs.Sums.SumLemmas.{sum_below_same, balanced_sum}
+use Rattle.torus_geom.proofs.Pairs.PairLemmas.{lower_left, pairs, maslov-by_pairs, maslov-by_points}
+use Rattle.torus_geom.proofs.Sums.HalfLemmas.{int_div-double}
 use Rattle.gradings.specs.Inner.Tables.{left_below, pairs_of, entry, half_of_marks, IsTables}
 use Rattle.gradings.specs.declared.tables.DegreeTables.TheInside.{Inside}
 use Rattle.gradings.proofs.MaslovLemmas.{count_below-take, alexander_weight, alexander-linear}
-use Rattle.torus_geom.proofs.ComponentLemmas.{components-count}
+use Rattle.torus_geom.proofs.Cycles.ComponentLemmas.{components-count}
 use Rattle.gradings.proofs.EvennessLemmas.{doubled_alexander_even, two-alexander}
 use Rattle.gradings.proofs.DegreeReads.{IsSmall}
 

@@ -6,7 +6,7 @@ use Rattle.state_rank.proofs.SwapLemmas.{IsBijection-swap, slice_index-swap, exc
 use Rattle.torus_geom.specs.Marks.{Marks, size, IsGrid}
 use Rattle.torus_geom.specs.Range.{one_down}
 use Rattle.grid_moves.specs.Moves.{swapped_columns}
-use Rattle.torus_geom.proofs.TurnLemmas.{one_down_below}
+use Rattle.torus_geom.proofs.Circles.TurnLemmas.{one_down_below}
 
 pub IsGrid-swapped_columns : (g : Marks) (c : ℕ) → IsGrid g → c < size g → IsGrid (swapped_columns g c)
 IsGrid-swapped_columns g c grid l = record {

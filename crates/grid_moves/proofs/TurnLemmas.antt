@@ -6,11 +6,12 @@ use Rattle.state_rank.specs.declared.TheConstants.{MAX_SIZE}
 use Rattle.state_rank.specs.Bijection.{IsBijection}
 use Rattle.state_rank.proofs.BijectionLemmas.{IsOneToOne, same_list}
 use Rattle.torus_geom.specs.Marks.{Marks, size, IsGrid}
-use Rattle.torus_geom.proofs.TabulateLemmas.{length-tabulate, slice_index-tabulate}
+use Rattle.state_rank.proofs.OrderLemmas.{length-tabulate}
+use Rattle.torus_geom.proofs.Sums.TabulateLemmas.{slice_index-tabulate}
 use Rattle.grid_moves.specs.Moves.{source_column, moved_row, turned_rows, turned}
 use Rattle.grid_moves.specs.declared.turns.Side.{Side}
 use Rattle.grid_moves.specs.declared.turns.Side.TheVariants.{Left, Right, Up, Down}
-use Rattle.torus_geom.proofs.TurnLemmas.{one_up_one, one_down_one}
+use Rattle.torus_geom.proofs.Circles.TurnLemmas.{one_up_one, one_down_one}
 
 same_number : (n : ℕ) → IsOneToOne n (λ c. c)
 same_number n = record { small = λ c l. l; apart = λ b c lb lc p. p }

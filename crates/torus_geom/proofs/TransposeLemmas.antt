@@ -5,7 +5,8 @@ use Rattle.state_rank.specs.States.{IsState, transpose}
 use Rattle.state_rank.proofs.BijectionLemmas.{one_to_one, row-column_of, column_of-below, column_of-one_to_one}
 use Rattle.torus_geom.specs.Marks.{Marks, size, IsGrid}
 use Rattle.torus_geom.specs.Transposed.{transposed}
-use Rattle.torus_geom.proofs.TabulateLemmas.{length-tabulate, slice_index-tabulate}
+use Rattle.state_rank.proofs.OrderLemmas.{length-tabulate}
+use Rattle.torus_geom.proofs.Sums.TabulateLemmas.{slice_index-tabulate}
 
 pub length-transpose : (rows : List ℕ) → length (transpose rows) ≡ length rows
 length-transpose rows = length-tabulate (length rows) (column_of (length rows) (slice_index rows))

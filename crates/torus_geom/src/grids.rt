@@ -206,7 +206,7 @@ impl Grid {
 }
 
 // The number of columns that are the first of their cycle.
-#[tactic(auto, using(crate::proofs::WalkLemmas::firsts_below_more), unfolding(crate::specs::Components::components))]
+#[tactic(auto, using(crate::proofs::Cycles::WalkLemmas::firsts_below_more), unfolding(crate::specs::Components::components))]
 fn components(o: &[u8], x: &[u8]) -> u8
     requires { IsGrid (record { o = o.now; x = x.now }) }
     ensures { result ≡ components (record { o = o.now; x = x.now }) }

@@ -1,6 +1,6 @@
 use Rattle.std.proofs.Common.{◌∙◌, arith}
 use Rattle.std.proofs.lemmas.Int.{ints}
-use Rattle.torus_geom.proofs.RunningSums.{IsSum-more, IsSum-all}
+use Rattle.torus_geom.proofs.Sums.RunningSums.{IsSum-more, IsSum-all}
 use Rattle.front_data.proofs.FrontLemmas.{doubled_rotation-sum, two-rotation}
 use Rattle.front_data.proofs.fronts.doubled_rotation.Goals as goal
 

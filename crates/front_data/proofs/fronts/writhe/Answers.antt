@@ -1,7 +1,7 @@
 use Rattle.std.proofs.Common.{arith}
 use Rattle.std.proofs.lemmas.Int.{ints}
 use Rattle.torus_geom.specs.Front.{writhe}
-use Rattle.torus_geom.proofs.RunningSums.{IsSum-more, IsSum-all}
+use Rattle.torus_geom.proofs.Sums.RunningSums.{IsSum-more, IsSum-all}
 use Rattle.front_data.proofs.fronts.writhe.Goals as goal
 
 pub loop-c-preserved : goal.loop-c-preserved

@@ -1,6 +1,6 @@
 use Rattle.std.proofs.Common.{arith}
 use Rattle.std.proofs.lemmas.Int.{ints}
-use Rattle.torus_geom.proofs.RunningSums.{IsSum-more}
+use Rattle.torus_geom.proofs.Sums.RunningSums.{IsSum-more}
 use Rattle.front_data.proofs.fronts.writhe_of_column.Goals as goal
 
 pub loop-r-preserved : goal.loop-r-preserved

@@ -1,5 +1,5 @@
 use Rattle.torus_geom.specs.Front.{sign}
-use Rattle.torus_geom.proofs.RunningSums.{IsSum}
+use Rattle.torus_geom.proofs.Sums.RunningSums.{IsSum}
 use Rattle.front_data.proofs.fronts.writhe_of_column.Given as goal
 
 abbrev pub invariant-loop-r : goal.invariant-loop-r

@@ -1,7 +1,7 @@
 use Rattle.std.proofs.Common.{ap, ◌∙◌, arith, w32, to_z, of_z, pos, FitsSigned}
 use Rattle.std.specs.Prelude.{int_div}
 use Rattle.std.proofs.lemmas.Int.{ints, to_z-of_z}
-use Rattle.torus_geom.proofs.HalfLemmas.{int_div-double}
+use Rattle.torus_geom.proofs.Sums.HalfLemmas.{int_div-double}
 use Rattle.gradings.proofs.degrees.half.Goals as goal
 
 pub returns : goal.returns

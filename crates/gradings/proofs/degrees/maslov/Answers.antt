@@ -1,6 +1,6 @@
 use Rattle.std.proofs.Common.{◌∙◌, length, arith}
 use Rattle.std.proofs.lemmas.Int.{ints}
-use Rattle.torus_geom.proofs.RunningSums.{IsSum-more, IsSum-all}
+use Rattle.torus_geom.proofs.Sums.RunningSums.{IsSum-more, IsSum-all}
 use Rattle.gradings.proofs.MaslovLemmas.{gain-take, maslov-gains}
 use Rattle.gradings.proofs.degrees.maslov.Goals as goal
 

@@ -1,6 +1,6 @@
 use Rattle.std.proofs.Common.{◌*◌, length}
 use Rattle.state_rank.specs.declared.TheConstants.{MAX_SIZE}
-use Rattle.torus_geom.proofs.RunningSums.{IsSum}
+use Rattle.torus_geom.proofs.Sums.RunningSums.{IsSum}
 use Rattle.gradings.proofs.MaslovLemmas.{gain}
 use Rattle.gradings.proofs.degrees.maslov.Given as goal
 

@@ -3,14 +3,14 @@ use Rattle.std.proofs.Common.{◌<◌, sym, ap, subst, ◌∙◌}
 use Rattle.std.specs.List.{All}
 use Rattle.f2_algebra.specs.Chain.{Chain}
 use Rattle.f2_algebra.specs.Chain.{codes as codes_of}
-use Rattle.f2_algebra.proofs.Lists.{All-codes}
+use Rattle.f2_algebra.proofs.Chains.Lists.{All-codes}
 use Rattle.state_rank.specs.States.{factorial}
 use Rattle.torus_geom.specs.Marks.{size}
 use Rattle.torus_geom.specs.Border.{border as border_of}
 use Rattle.std.proofs.lemmas.Result.{IfOk-weaker}
 use Rattle.std.proofs.lemmas.List.{take_all}
-use Rattle.rectangles.proofs.BorderLemmas.{border-border, border-below}
-use Rattle.rectangles.proofs.LoopLemmas.{sum_of_borders, added, all_added}
+use Rattle.rectangles.proofs.Square.BorderLemmas.{border-border, border-below}
+use Rattle.rectangles.proofs.Sweep.LoopLemmas.{sum_of_borders, added, all_added}
 use Rattle.rectangles.proofs.borders.border.Goals as goal
 
 pub returns-in_err-toggle_targets-clause-square : goal.returns-in_err-toggle_targets-clause-square

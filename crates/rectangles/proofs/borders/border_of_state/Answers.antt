@@ -3,13 +3,13 @@ use Rattle.std.proofs.Common.{◌<◌, sym, ap, subst, ◌∙◌}
 use Rattle.std.specs.List.{All}
 use Rattle.std.proofs.lemmas.Result.{IfOk-weaker}
 use Rattle.f2_algebra.specs.Chain.{Chain, codes, ◌⊕◌}
-use Rattle.f2_algebra.proofs.Sums.{nothing-add}
-use Rattle.f2_algebra.proofs.Lists.{All-codes}
+use Rattle.f2_algebra.proofs.Chains.Sums.{nothing-add}
+use Rattle.f2_algebra.proofs.Chains.Lists.{All-codes}
 use Rattle.state_rank.specs.States.{factorial}
 use Rattle.torus_geom.specs.Marks.{size}
 use Rattle.torus_geom.specs.Border.{border_of_state}
-use Rattle.rectangles.proofs.BorderLemmas.{border_of_state-below}
-use Rattle.rectangles.proofs.GridComplexLemmas.{maslov_o-border_of_state, alexander-border_of_state}
+use Rattle.rectangles.proofs.Square.BorderLemmas.{border_of_state-below}
+use Rattle.rectangles.proofs.Law.GridComplexLemmas.{maslov_o-border_of_state, alexander-border_of_state}
 use Rattle.rectangles.proofs.borders.border_of_state.Goals as goal
 
 pub returns-in_err-toggle_targets-clause-lowers_maslov : goal.returns-in_err-toggle_targets-clause-lowers_maslov

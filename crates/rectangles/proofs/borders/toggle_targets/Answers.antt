@@ -2,8 +2,8 @@
 use Rattle.std.proofs.Common.{sym, ap, ◌∙◌}
 use Rattle.std.proofs.lemmas.List.{take_all}
 use Rattle.f2_algebra.specs.Chain.{◌⊕◌}
-use Rattle.f2_algebra.proofs.Sums.{add-nothing}
-use Rattle.rectangles.proofs.LoopLemmas.{sum_of_ranks, toggled, all_toggled}
+use Rattle.f2_algebra.proofs.Chains.Sums.{add-nothing}
+use Rattle.rectangles.proofs.Sweep.LoopLemmas.{sum_of_ranks, toggled, all_toggled}
 use Rattle.rectangles.proofs.borders.toggle_targets.Goals as goal
 
 pub loop-y-init : goal.loop-y-init

@@ -1,7 +1,7 @@
 -- The states so far are toggled.
 use Rattle.std.proofs.Common.{◌≡◌, take}
 use Rattle.f2_algebra.specs.Chain.{◌⊕◌}
-use Rattle.rectangles.proofs.LoopLemmas.{sum_of_ranks}
+use Rattle.rectangles.proofs.Sweep.LoopLemmas.{sum_of_ranks}
 use Rattle.rectangles.proofs.borders.toggle_targets.Given as goal
 
 abbrev pub invariant-loop-y : goal.invariant-loop-y

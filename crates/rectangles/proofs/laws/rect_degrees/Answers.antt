@@ -1,7 +1,7 @@
 use Rattle.std.proofs.Common.{subst}
 use Rattle.state_rank.specs.Bijection.{IsBijection}
 use Rattle.torus_geom.specs.Marks.{size}
-use Rattle.rectangles.proofs.RectangleLaw.{IsWay-swap, maslov-rectangle}
+use Rattle.rectangles.proofs.Law.RectangleLaw.{IsWay-swap, maslov-rectangle}
 use Rattle.rectangles.proofs.laws.rect_degrees.Goals as goal
 
 pub returns-clause-by_o : goal.returns-clause-by_o

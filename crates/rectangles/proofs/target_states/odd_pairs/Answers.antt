@@ -3,7 +3,7 @@ use Rattle.std.proofs.Common.{◌≡◌, ℕ, ◌<◌, length, slice_index, refl
 use Rattle.std.proofs.lemmas.List.{length-set}
 use Rattle.std.specs.Int.{bit_at}
 use Rattle.rectangles.specs.Inner.Open.{odd_bit}
-use Rattle.rectangles.proofs.PushLemmas.{filled_more}
+use Rattle.rectangles.proofs.Sweep.PushLemmas.{filled_more}
 use Rattle.rectangles.proofs.target_states.odd_pairs.Goals as goal
 
 pub loop-a-init : goal.loop-a-init

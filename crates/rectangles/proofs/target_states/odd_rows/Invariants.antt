@@ -1,4 +1,4 @@
-use Rattle.rectangles.proofs.PushLemmas.{IsOddRows}
+use Rattle.rectangles.proofs.Sweep.PushLemmas.{IsOddRows}
 use Rattle.rectangles.proofs.target_states.odd_rows.Given as goal
 
 abbrev pub invariant-loop-b : goal.invariant-loop-b

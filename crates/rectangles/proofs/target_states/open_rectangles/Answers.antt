@@ -3,7 +3,7 @@ use Rattle.std.proofs.Common.{◌≡◌, ℕ, ◌<◌, length, cond, refl, ◌�
 use Rattle.std.proofs.lemmas.List.{length-set}
 use Rattle.std.specs.Int.{bit_at}
 use Rattle.rectangles.specs.Inner.Open.{is_open}
-use Rattle.rectangles.proofs.PushLemmas.{filled_more}
+use Rattle.rectangles.proofs.Sweep.PushLemmas.{filled_more}
 use Rattle.rectangles.proofs.target_states.open_rectangles.Goals as goal
 
 pub loop-a-init : goal.loop-a-init

@@ -3,7 +3,7 @@ use Rattle.std.proofs.Common.{◌≡◌, ℕ, suc, ◌+◌, ◌-◌, ◌*◌, �
 use Rattle.state_rank.specs.Bijection.{IsBijection}
 use Rattle.torus_geom.specs.Marks.{Marks, size, IsGrid}
 use Rattle.torus_geom.specs.Range.{offset}
-use Rattle.rectangles.proofs.SweepLemmas.{turned, turned-plain, turned-across, turned_below, IsSwept, swept_none, swept_marks, swept_open, swept_closed, swept_all, swept_stop}
+use Rattle.rectangles.proofs.Sweep.SweepLemmas.{turned, turned-plain, turned-across, turned_below, IsSwept, swept_none, swept_marks, swept_open, swept_closed, swept_all, swept_stop}
 use Rattle.rectangles.proofs.target_states.open_rights.Goals.{then-a-width, else-a-width, then-height-limit, else-height-limit}
 use Rattle.rectangles.proofs.target_states.open_rights.Goals as goal
 

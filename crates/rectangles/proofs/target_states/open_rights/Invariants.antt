@@ -1,6 +1,6 @@
 use Rattle.std.proofs.Common.{◌≡◌, ◌-◌}
 use Rattle.torus_geom.specs.Marks.{size}
-use Rattle.rectangles.proofs.SweepLemmas.{turned, IsSwept}
+use Rattle.rectangles.proofs.Sweep.SweepLemmas.{turned, IsSwept}
 use Rattle.rectangles.proofs.target_states.open_rights.Given as goal
 
 abbrev pub invariant-loop-width : goal.invariant-loop-width

@@ -4,7 +4,7 @@ use Rattle.std.proofs.lemmas.List.{append-nil, take_all}
 use Rattle.std.specs.List.{flat_map}
 use Rattle.state_rank.specs.Bijection.{ascending, numbers}
 use Rattle.rectangles.specs.Inner.Open.{exchanges, exchanges_above}
-use Rattle.rectangles.proofs.PushLemmas.{circle_more, circle_room, slice_index-descending, length-descending}
+use Rattle.rectangles.proofs.Sweep.PushLemmas.{circle_more, circle_room, slice_index-descending, length-descending}
 use Rattle.rectangles.proofs.target_states.push_above.Goals as goal
 
 module _ (x columns odds : List ℕ) (n a row : ℕ) (n_is : n ≡ length x) (some : 0 < a) (within : a ≤ n) (row_is : row ≡ slice_index x (a - 1)) (old items : List (List ℕ))

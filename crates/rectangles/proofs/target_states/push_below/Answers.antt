@@ -4,7 +4,7 @@ use Rattle.std.proofs.lemmas.List.{take_all}
 use Rattle.std.specs.List.{flat_map}
 use Rattle.state_rank.specs.Bijection.{ascending, numbers}
 use Rattle.rectangles.specs.Inner.Open.{exchanges, exchanges_below}
-use Rattle.rectangles.proofs.PushLemmas.{circle_more, circle_room, slice_index-ascending, length-ascending}
+use Rattle.rectangles.proofs.Sweep.PushLemmas.{circle_more, circle_room, slice_index-ascending, length-ascending}
 use Rattle.rectangles.proofs.target_states.push_below.Goals as goal
 
 pub push_exchanges-requires-clause-room : goal.push_exchanges-requires-clause-room

@@ -2,7 +2,7 @@
 use Rattle.std.proofs.Common.{◌++◌, ◌∷◌, [], length, slice_index, swap, ap, ◌∙◌, arith}
 use Rattle.state_rank.proofs.OrderLemmas.{length-tabulate}
 use Rattle.state_rank.specs.Bijection.{column_of}
-use Rattle.rectangles.proofs.PushLemmas.{push_yes, push_no, push_room, push_all}
+use Rattle.rectangles.proofs.Sweep.PushLemmas.{push_yes, push_no, push_room, push_all}
 use Rattle.rectangles.proofs.target_states.push_exchanges.Goals.{then-odd-r-eq1, else-odd-r-eq1}
 use Rattle.rectangles.proofs.target_states.push_exchanges.Goals as goal
 

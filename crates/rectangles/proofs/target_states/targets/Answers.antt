@@ -10,11 +10,11 @@ use Rattle.torus_geom.specs.Marks.{Marks, size, IsGrid}
 use Rattle.torus_geom.specs.Border.{border_of_state}
 use Rattle.torus_geom.specs.Degrees.{bidegree}
 use Rattle.f2_algebra.specs.Bigraded.{up_m}
-use Rattle.rectangles.proofs.GridComplexLemmas.{bidegree-listed}
+use Rattle.rectangles.proofs.Law.GridComplexLemmas.{bidegree-listed}
 use Rattle.std.proofs.Math.IntN.{ℤ}
 use Rattle.rectangles.specs.Inner.Open.{is_open, odd_bit, exchanges_below, exchanges_above}
-use Rattle.rectangles.proofs.PushLemmas.{odd_bit-open}
-use Rattle.rectangles.proofs.TargetLemmas.{targets_border, targets_few, targets_states}
+use Rattle.rectangles.proofs.Sweep.PushLemmas.{odd_bit-open}
+use Rattle.rectangles.proofs.Sweep.TargetLemmas.{targets_border, targets_few, targets_states}
 use Rattle.rectangles.proofs.target_states.targets.Goals as goal
 
 module _ (g : Marks) (s : IsGrid g) (x : List ℕ) (sx : IsState x) (same : length x ≡ size g) (opens odds columns : List ℕ) (turned : columns ≡ transpose x)

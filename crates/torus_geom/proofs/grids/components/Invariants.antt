@@ -1,5 +1,5 @@
 use Rattle.std.proofs.Common.{◌≡◌, ◌≤◌}
-use Rattle.torus_geom.proofs.WalkLemmas.{firsts_below}
+use Rattle.torus_geom.proofs.Cycles.WalkLemmas.{firsts_below}
 use Rattle.torus_geom.proofs.grids.components.Given as goal
 
 abbrev pub invariant-loop-c : goal.invariant-loop-c

@@ -1,6 +1,6 @@
 use Rattle.std.proofs.Common.{slice_index, ap, sym, arith}
 use Rattle.torus_geom.specs.Marks.{Marks}
-use Rattle.torus_geom.proofs.WalkLemmas.{IsOn-more, is_first-false}
+use Rattle.torus_geom.proofs.Cycles.WalkLemmas.{IsOn-more, is_first-false}
 use Rattle.torus_geom.proofs.grids.is_first.Goals as goal
 
 pub returns-then-on-c : goal.returns-then-on-c

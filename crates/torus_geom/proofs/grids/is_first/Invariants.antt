@@ -1,4 +1,4 @@
-use Rattle.torus_geom.proofs.WalkLemmas.{IsOn}
+use Rattle.torus_geom.proofs.Cycles.WalkLemmas.{IsOn}
 use Rattle.torus_geom.proofs.grids.is_first.Given as goal
 
 abbrev pub invariant-loop : goal.invariant-loop

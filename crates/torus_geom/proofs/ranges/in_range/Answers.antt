@@ -1,7 +1,7 @@
 -- The two comparisons are the range, on either side of the seam.
 use Rattle.std.proofs.Common.{◌&&◌, ◌||◌, ap, ◌∙◌, sym, ltb, arith}
 use Rattle.std.proofs.lemmas.Bool.{le-leb, lt-leb}
-use Rattle.torus_geom.proofs.RangeLemmas.{in_range-plain, in_range-across}
+use Rattle.torus_geom.proofs.Circles.RangeLemmas.{in_range-plain, in_range-across}
 use Rattle.torus_geom.proofs.ranges.in_range.Goals as goal
 
 pub returns-then-a-i : goal.returns-then-a-i

@@ -1,7 +1,7 @@
 -- A point inside makes the test of its circle fail.
 use Rattle.std.proofs.Common.{not, ◌&&◌, length, slice_index, ap, ◌∙◌, sym, arith}
 use Rattle.torus_geom.specs.Range.{is_inside}
-use Rattle.torus_geom.proofs.AllBelowLemmas.{all_below-false}
+use Rattle.torus_geom.proofs.Sums.AllBelowLemmas.{all_below-false}
 use Rattle.torus_geom.proofs.rects.is_empty.Goals as goal
 
 pub returns-then-is_point_inside : goal.returns-then-is_point_inside

@@ -2,7 +2,7 @@
 use Rattle.std.proofs.Common.{not, ◌&&◌, ◌||◌, slice_index, ap, ◌∙◌, sym, arith}
 use Rattle.torus_geom.specs.Marks.{size}
 use Rattle.torus_geom.specs.Range.{in_range}
-use Rattle.torus_geom.proofs.AllBelowLemmas.{all_below-false}
+use Rattle.torus_geom.proofs.Sums.AllBelowLemmas.{all_below-false}
 use Rattle.torus_geom.proofs.rects.is_unmarked.Goals as goal
 
 pub returns-then-is_marked_column : goal.returns-then-is_marked_column

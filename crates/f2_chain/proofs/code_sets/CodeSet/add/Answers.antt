@@ -2,7 +2,7 @@
 use Rattle.std.proofs.Common.{sym, ap₂, subst, ◌∙◌}
 use Rattle.std.specs.List.Sorted.{IsStrictlyIncreasing}
 use Rattle.f2_algebra.specs.Chain.{of_codes, ◌⊕◌}
-use Rattle.f2_algebra.proofs.Lists.{rising-codes, of_codes-codes}
+use Rattle.f2_algebra.proofs.Chains.Lists.{rising-codes, of_codes-codes}
 use Rattle.f2_chain.proofs.code_sets.CodeSet.add.Goals as goal
 
 pub merged-requires-clause-a_ascending : goal.merged-requires-clause-a_ascending

@@ -1,7 +1,7 @@
 -- The list ascends, so it is the list of the codes of its chain.
 use Rattle.std.proofs.Common.{sym, ap, ◌∙◌}
 use Rattle.f2_algebra.specs.Chain.{codes}
-use Rattle.f2_algebra.proofs.Lists.{codes-of_codes}
+use Rattle.f2_algebra.proofs.Chains.Lists.{codes-of_codes}
 use Rattle.f2_chain.proofs.code_sets.CodeSet.codes.Goals as goal
 
 pub returns : goal.returns

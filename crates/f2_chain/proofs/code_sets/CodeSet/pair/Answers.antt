@@ -1,7 +1,7 @@
 -- Each code adds one to the parity where f holds it.
 use Rattle.std.proofs.Common.{sym, ap, ◌∙◌, take_all, arith}
 use Rattle.f2_algebra.specs.Chain.{holds}
-use Rattle.f2_algebra.proofs.Sets.{parity, weight-list, pairs_oddly-weight}
+use Rattle.f2_algebra.proofs.Chains.Sets.{parity, weight-list, pairs_oddly-weight}
 use Rattle.f2_chain.proofs.SetLemmas.{parity-take, xor-beq}
 use Rattle.f2_chain.proofs.code_sets.CodeSet.pair.Goals as goal
 

@@ -2,7 +2,7 @@ use Rattle.std.proofs.Common.{subst}
 use Rattle.torus_geom.specs.Marks.{Marks}
 use Rattle.torus_geom.specs.Components.{HasOneOfEachCycle, is_first}
 use Rattle.torus_geom.specs.Inner.Stored.{marks}
-use Rattle.torus_geom.proofs.ComponentLemmas.{HasOneOfEachCycle-is_first}
+use Rattle.torus_geom.proofs.Cycles.ComponentLemmas.{HasOneOfEachCycle-is_first}
 use Rattle.torus_geom.proofs.grids.Grid.components.Goals as goal
 
 pub returns-clause-cycles : goal.returns-clause-cycles

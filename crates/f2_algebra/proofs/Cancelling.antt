@@ -1,0 +1,5 @@
+pub mod Cancellation
+pub mod LogLemmas
+pub mod LogCounts
+pub mod Slice
+pub mod Laws

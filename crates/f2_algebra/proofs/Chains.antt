@@ -1,0 +1,5 @@
+pub mod Tables
+pub mod ParityLemmas
+pub mod Sets
+pub mod Sums
+pub mod Lists

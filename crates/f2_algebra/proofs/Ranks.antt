@@ -1,0 +1,6 @@
+pub mod Pigeonhole
+pub mod RankLemmas
+pub mod Existence
+pub mod Part
+pub mod Bigraded
+pub mod Maps

@@ -1,0 +1,2 @@
+pub mod RectangleLaw
+pub mod GridComplexLemmas

@@ -1,0 +1,11 @@
+pub mod TwoSteps
+pub mod CyclicOrder
+pub mod ColumnTests
+pub mod EmptyRectangles
+pub mod Exchanges
+pub mod OpenRectangles
+pub mod ThreeColumns
+pub mod RectangleTests
+pub mod RectangleSums
+pub mod SquareLemmas
+pub mod BorderLemmas

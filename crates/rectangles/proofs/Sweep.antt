@@ -1,0 +1,5 @@
+pub mod SweepLemmas
+pub mod OddPairLemmas
+pub mod TargetLemmas
+pub mod PushLemmas
+pub mod LoopLemmas

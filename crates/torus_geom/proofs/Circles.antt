@@ -1,0 +1,4 @@
+pub mod RangeLemmas
+pub mod BetweenLemmas
+pub mod TurnLemmas
+pub mod RectangleLemmas

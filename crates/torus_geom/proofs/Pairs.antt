@@ -1,0 +1,4 @@
+pub mod PairLemmas
+pub mod RowPairLemmas
+pub mod CornerCounts
+pub mod ExchangeLaw

@@ -1,0 +1,5 @@
+pub mod SumLemmas
+pub mod RunningSums
+pub mod HalfLemmas
+pub mod AllBelowLemmas
+pub mod TabulateLemmas
