@@ -1,19 +1,19 @@
 -- Tables of ranks by bidegree.
 --     comes_before p q    p stands before q: its Alexander degree is higher, or that is the same and its
 --                         Maslov degree is higher
---     IsTable rows        the rows are in this order, no degree comes twice, and each rank is from 1 to MAX_RANK
-use Rattle.std.specs.Prelude.{◌≤◌, Bool, ◌&&◌, ◌||◌, int_lt, List, IsTrue}
+--     HasRank row         the rank of the row is from 1 to 2^48
+--     IsTable rows        the rows are in this order, no degree comes twice, and each has a rank
+use Rattle.std.specs.Prelude.{◌≤◌, ◌^◌, Bool, ◌&&◌, ◌||◌, int_lt, List, IsTrue}
 use Rattle.std.specs.List.{All, AllPairs}
 use Rattle.std.specs.Ordering.{int_eq}
 use Rattle.hat_division.specs.declared.tables.TableRow.{TableRow}
-use Rattle.hat_division.specs.declared.tables.TheConstants.{MAX_RANK}
 
 abbrev pub comes_before : TableRow → TableRow → Bool
 comes_before p q = int_lt q.a p.a || (int_eq q.a p.a && int_lt q.m p.m)
 
 pub record HasRank (row : TableRow) : Type 0 where
   pub positive : 1 ≤ row.rank
-  pub bounded : row.rank ≤ MAX_RANK
+  pub bounded : row.rank ≤ 2 ^ 48
 
 pub record IsTable (rows : List TableRow) : Type 0 where
   pub ordered : AllPairs (λ p q. IsTrue (comes_before p q)) rows
