@@ -4,7 +4,7 @@ use Rattle.std.specs.List.{filter}
 use Rattle.std.proofs.lemmas.Bool.{eq-eqb, eqb-true, and_from, and_parts}
 use Rattle.std.proofs.lemmas.Map.Views.{Contains-from_any}
 use Rattle.f2_algebra.specs.Chain.{holds, of_codes}
-use Rattle.f2_algebra.proofs.Sets.{any, holds-of_codes}
+use Rattle.f2_algebra.proofs.Chains.Sets.{any, holds-of_codes}
 use Rattle.state_rank.proofs.MemberLemmas.{member_cases, no_member, member_of_filter, Contains-filter, pairs_filter}
 use Rattle.sparse_complex.specs.Slices.{ListsOnce}
 

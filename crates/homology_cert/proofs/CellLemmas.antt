@@ -11,8 +11,8 @@ use Rattle.f2_algebra.specs.Chain.{Chain, holds, codes, of_codes}
 use Rattle.f2_algebra.specs.Complex.{Complex}
 use Rattle.f2_algebra.specs.Cancel.{Entry}
 use Rattle.f2_algebra.specs.Certificate.{IsAllCells}
-use Rattle.f2_algebra.proofs.Pigeonhole.{pigeonhole}
-use Rattle.f2_algebra.proofs.Sets.{any, holds-of_codes, IsApart, cardinality-length, cardinality-of_codes}
+use Rattle.f2_algebra.proofs.Ranks.Pigeonhole.{pigeonhole}
+use Rattle.f2_algebra.proofs.Chains.Sets.{any, holds-of_codes, IsApart, cardinality-length, cardinality-of_codes}
 use Rattle.state_rank.specs.declared.TheConstants.{MAX_SIZE}
 use Rattle.state_rank.specs.States.{factorial}
 use Rattle.state_rank.proofs.LehmerLemmas.{factorial_grows}

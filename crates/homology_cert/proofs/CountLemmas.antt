@@ -12,7 +12,7 @@ use Rattle.std.proofs.lemmas.Bool.{cases_Bool, and_parts, false≢true, true≢f
 use Rattle.std.proofs.lemmas.Bool.Decides.{Decides-int_eq}
 use Rattle.std.proofs.lemmas.Cmp.{int_cmp_total, tied_itself, then_total, on_total}
 use Rattle.std.proofs.lemmas.Map.Lookups.{CmpEqualImpliesEq, exact_signed}
-use Rattle.f2_algebra.proofs.LogLemmas.{none_where}
+use Rattle.f2_algebra.proofs.Cancelling.LogLemmas.{none_where}
 use Rattle.sparse_complex.specs.declared.slices.Cell.{Cell}
 use Rattle.torus_geom.specs.Marks.{Marks}
 use Rattle.torus_geom.specs.Homology.{IsHomologyRank}

@@ -7,15 +7,15 @@ use Rattle.f2_algebra.specs.Cancel.{Entry, IsLog, after}
 use Rattle.f2_algebra.specs.Certificate.{IsAllCells}
 use Rattle.f2_algebra.specs.Slice.{Slice, slice_complex, IsReduced}
 use Rattle.f2_algebra.specs.Bigraded.{first_at, at_second}
-use Rattle.f2_algebra.proofs.LogLemmas.{live_at_first}
-use Rattle.f2_algebra.proofs.RankLemmas.{rank_of_log, one_rank}
-use Rattle.f2_algebra.proofs.Bigraded.{at_second_IsComplex, rank_at_second}
+use Rattle.f2_algebra.proofs.Cancelling.LogLemmas.{live_at_first}
+use Rattle.f2_algebra.proofs.Ranks.RankLemmas.{rank_of_log, one_rank}
+use Rattle.f2_algebra.proofs.Ranks.Bigraded.{at_second_IsComplex, rank_at_second}
 use Rattle.state_rank.specs.States.{factorial, unrank}
 use Rattle.torus_geom.specs.Marks.{Marks, size, IsGrid}
 use Rattle.torus_geom.specs.Degrees.{bidegree}
 use Rattle.torus_geom.specs.GridComplex.{grid_complex}
 use Rattle.torus_geom.specs.Homology.{IsHomologyRank}
-use Rattle.rectangles.proofs.GridComplexLemmas.{grid_complex_rules}
+use Rattle.rectangles.proofs.Law.GridComplexLemmas.{grid_complex_rules}
 
 -- the slice of the grid at a
 abbrev pub slice_of : Marks → ℤ → Complex ℤ

@@ -23,11 +23,11 @@ use Rattle.std.proofs.lemmas.Map.Lookups.{exact_signed}
 use Rattle.std.proofs.lemmas.Map.Views.{btree_map_get_iff, btree_set_contains_iff}
 use Rattle.f2_algebra.specs.Chain.{Chain, holds, nothing, ◌⊕◌}
 use Rattle.f2_algebra.specs.Complex.{Complex, IsRank}
-use Rattle.f2_algebra.proofs.LogLemmas.{none_where}
-use Rattle.f2_algebra.proofs.RankLemmas.{degree-nothing}
-use Rattle.f2_algebra.proofs.Cancellation.{border-nothing, same_some}
-use Rattle.f2_algebra.proofs.Sets.{same_chain, holds-nothing}
-use Rattle.f2_algebra.proofs.Sums.{add_self}
+use Rattle.f2_algebra.proofs.Cancelling.LogLemmas.{none_where}
+use Rattle.f2_algebra.proofs.Ranks.RankLemmas.{degree-nothing}
+use Rattle.f2_algebra.proofs.Cancelling.Cancellation.{border-nothing, same_some}
+use Rattle.f2_algebra.proofs.Chains.Sets.{same_chain, holds-nothing}
+use Rattle.f2_algebra.proofs.Chains.Sums.{add_self}
 use Rattle.state_rank.specs.States.{factorial, unrank}
 use Rattle.state_rank.proofs.MemberLemmas.{member_cases, member_tail, no_member, Contains-map, member_of_map, pairs_cons}
 use Rattle.torus_geom.specs.Marks.{Marks, size}

@@ -9,9 +9,9 @@ use Rattle.std.proofs.lemmas.List.Sorted.{All-permutation, sum_by-IsPermutation,
 use Rattle.std.proofs.lemmas.List.Sums.{sum_by-cons, sum_by-append}
 use Rattle.f2_algebra.specs.Complex.{Complex, arrow, IsComplex}
 use Rattle.f2_algebra.specs.Slice.{slice_complex}
-use Rattle.f2_algebra.proofs.Tables.{same}
-use Rattle.f2_algebra.proofs.Slice.{same_complex}
-use Rattle.f2_algebra.proofs.Sets.{any-append, holds-codes, IsApart, IsApart-codes}
+use Rattle.f2_algebra.proofs.Chains.Tables.{same}
+use Rattle.f2_algebra.proofs.Cancelling.Slice.{same_complex}
+use Rattle.f2_algebra.proofs.Chains.Sets.{any-append, holds-codes, IsApart, IsApart-codes}
 use Rattle.state_rank.specs.declared.TheConstants.{MAX_SIZE}
 use Rattle.state_rank.specs.States.{rank, unrank, factorial}
 use Rattle.f2_algebra.specs.Chain.{holds, codes}

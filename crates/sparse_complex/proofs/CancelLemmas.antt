@@ -7,10 +7,10 @@ use Rattle.f2_algebra.specs.Chain.{Chain, holds, codes, of_codes}
 use Rattle.f2_algebra.specs.Complex.{arrow, IsComplex}
 use Rattle.f2_algebra.specs.Cancel.{is_one_of, cancelled, IsEntry}
 use Rattle.f2_algebra.specs.Slice.{Slice, slice_complex, targets_in}
-use Rattle.f2_algebra.proofs.Tables.{◌⊻◌, same}
-use Rattle.f2_algebra.proofs.Sets.{any, any-is, any-filter, holds-of_codes, holds-nothing, holds-where_code, same_chain, cardinality, cardinality-length, cardinality-of_codes, IsApart}
-use Rattle.f2_algebra.proofs.Cancellation.{arrow-cancelled, cancelled_IsComplex}
-use Rattle.f2_algebra.proofs.Slice.{same_complex}
+use Rattle.f2_algebra.proofs.Chains.Tables.{◌⊻◌, same}
+use Rattle.f2_algebra.proofs.Chains.Sets.{any, any-is, any-filter, holds-of_codes, holds-nothing, holds-where_code, same_chain, cardinality, cardinality-length, cardinality-of_codes, IsApart}
+use Rattle.f2_algebra.proofs.Cancelling.Cancellation.{arrow-cancelled, cancelled_IsComplex}
+use Rattle.f2_algebra.proofs.Cancelling.Slice.{same_complex}
 use Rattle.sparse_complex.specs.declared.links.Links.{Links}
 use Rattle.sparse_complex.specs.declared.slices.Cell.{Cell}
 use Rattle.sparse_complex.specs.Slices.{other_sources, other_targets, fill}

@@ -2,8 +2,8 @@
 use Rattle.std.proofs.Common.{◌≡◌, ℕ, suc, ◌+◌, ◌*◌, ◌<◌, ◌≤◌, Bool, true, false, not, cond, ◌&&◌, ◌||◌, eqb, List, [], ◌∷◌, ◌++◌, length, refl, sym, ap, ap₂, subst, ◌∙◌, arith}
 use Rattle.std.proofs.lemmas.Bool.{eqb-true, ne_eqb, true≢false, false≢true, and_parts}
 use Rattle.std.proofs.lemmas.List.{map-append}
-use Rattle.f2_algebra.proofs.Tables.{◌⊻◌, same}
-use Rattle.f2_algebra.proofs.Sets.{any-append, any-filter}
+use Rattle.f2_algebra.proofs.Chains.Tables.{◌⊻◌, same}
+use Rattle.f2_algebra.proofs.Chains.Sets.{any-append, any-filter}
 use Rattle.node_pool.specs.declared.Node.{Node}
 use Rattle.sparse_complex.specs.declared.links.Head.{Head}
 use Rattle.sparse_complex.specs.declared.links.Links.{Links}

@@ -7,7 +7,7 @@ use Rattle.std.proofs.lemmas.Bool.{eqb-true, ne_eqb, eq-eqb, and_parts, and_from
 use Rattle.f2_algebra.specs.Chain.{Chain, holds, of_codes}
 use Rattle.f2_algebra.specs.Complex.{arrow}
 use Rattle.f2_algebra.specs.Slice.{slice_complex, IsSlice, degree_in, targets_in}
-use Rattle.f2_algebra.proofs.Sets.{holds-of_codes, holds-nothing}
+use Rattle.f2_algebra.proofs.Chains.Sets.{holds-of_codes, holds-nothing}
 use Rattle.sparse_complex.specs.declared.links.Links.{Links}
 use Rattle.sparse_complex.specs.declared.slices.Cell.{Cell}
 use Rattle.sparse_complex.specs.Inner.Lists.{no_id, among, node_at, head_at, outs}

@@ -2,7 +2,7 @@
 use Rattle.std.proofs.Common.{◌≡◌, ◌≢◌, ℕ, zero, suc, ◌<◌, ◌≤◌, Bool, true, false, not, cond, ◌&&◌, ◌||◌, eqb, List, [], ◌∷◌, length, ◌⊎◌, inl, inr, refl, sym, ap, ap₂, subst, ◌∙◌, arith}
 use Rattle.std.specs.List.{filter}
 use Rattle.std.proofs.lemmas.Bool.{eqb-true, ne_eqb, eq-eqb, true≢false, false≢true, and_parts, and_from}
-use Rattle.f2_algebra.proofs.Sets.{any-filter}
+use Rattle.f2_algebra.proofs.Chains.Sets.{any-filter}
 use Rattle.sparse_complex.specs.Inner.Lists.{no_id, among, AreDistinct, IsList, AreLists, ids_from}
 
 -- ---- tests

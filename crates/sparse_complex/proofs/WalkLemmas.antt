@@ -2,7 +2,7 @@
 use Rattle.std.proofs.Common.{◌≡◌, ℕ, zero, suc, ◌+◌, ◌<◌, ◌≤◌, Bool, true, false, cond, ◌&&◌, ◌||◌, eqb, List, [], ◌∷◌, ◌++◌, length, length-append, append_assoc, Some, refl, sym, ap, subst, ◌∙◌, arith}
 use Rattle.std.specs.FinMap as fin
 use Rattle.std.proofs.lemmas.Bool.{eq-eqb, ne_eqb, true≢false}
-use Rattle.f2_algebra.proofs.Sets.{any-append}
+use Rattle.f2_algebra.proofs.Chains.Sets.{any-append}
 use Rattle.node_pool.specs.declared.Node.{Node}
 use Rattle.sparse_complex.specs.declared.links.Head.{Head}
 use Rattle.sparse_complex.specs.declared.links.Links.{Links}

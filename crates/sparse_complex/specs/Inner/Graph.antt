@@ -21,7 +21,7 @@
 --     IsCleared gone old new   the arrows that pass the test are gone
 use Rattle.std.specs.Prelude.{◌≡◌, ℕ, ◌+◌, ◌≤◌, Bool, true, false, not, ◌&&◌, eqb, List, map, ◌++◌, length, get_or, pos}
 use Rattle.std.specs.List.{filter}
-use Rattle.f2_algebra.proofs.Tables.{◌⊻◌}
+use Rattle.f2_algebra.proofs.Chains.Tables.{◌⊻◌}
 use Rattle.sparse_complex.specs.declared.links.Links.{Links}
 use Rattle.sparse_complex.specs.declared.slices.Cell.{Cell}
 use Rattle.sparse_complex.specs.Inner.Lists.{no_id, among, node_at, is_node, outs, ins, AreInLists, linked_nodes, linked_heads, unlinked_nodes, unlinked_heads}

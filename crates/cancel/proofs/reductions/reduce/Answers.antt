@@ -1,5 +1,5 @@
 -- The laws of a log.
-use Rattle.f2_algebra.proofs.Laws.{log_laws}
+use Rattle.f2_algebra.proofs.Cancelling.Laws.{log_laws}
 use Rattle.cancel.proofs.reductions.reduce.Goals as goal
 
 pub returns-clause-laws : goal.returns-clause-laws

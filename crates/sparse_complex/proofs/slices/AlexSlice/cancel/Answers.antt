@@ -3,7 +3,7 @@ use Rattle.std.proofs.Common.{◌≡◌, ◌≤◌, ◌<◌, ℕ, true, sym, ap,
 use Rattle.f2_algebra.specs.Complex.{arrow, IsComplex}
 use Rattle.f2_algebra.specs.Cancel.{cancelled}
 use Rattle.f2_algebra.specs.Slice.{slice_complex}
-use Rattle.f2_algebra.proofs.Cancellation.{cancelled_IsComplex}
+use Rattle.f2_algebra.proofs.Cancelling.Cancellation.{cancelled_IsComplex}
 use Rattle.sparse_complex.specs.Slices.{fill}
 use Rattle.sparse_complex.specs.Inner.Kept.{key_of, slice_of}
 use Rattle.sparse_complex.proofs.CancelLemmas.{can_cancel, IsCut, IsCut-cleared, kept_after, cancelled_after, rules_after}
