@@ -152,6 +152,38 @@ const FAULTS: [(&str, &str, &str); 21] = [
     (SMALL, "show\nfronts\n", "refused BadWord line 5\n"),
 ];
 
+/// Documents of large grids, and their tables, as an independent program gives them.
+const TABLES: [(&str, &str); 3] = [
+    (
+        "grid 7\nO 0 1 2 3 4 5 6\nX 3 4 5 6 0 1 2\nranks\nend\n",
+        "ranks 20\nrank 6 3 1\nrank 5 2 7\nrank 4 1 21\nrank 3 0 35\nrank 2 0 1\n\
+         rank 2 -1 35\nrank 1 -1 6\nrank 1 -2 22\nrank 0 -2 15\nrank 0 -3 14\n\
+         rank -1 -3 20\nrank -1 -4 22\nrank -2 -4 15\nrank -2 -5 35\nrank -3 -5 6\n\
+         rank -3 -6 35\nrank -4 -6 1\nrank -4 -7 21\nrank -5 -8 7\nrank -6 -9 1\n",
+    ),
+    (
+        "grid 8\nO 0 1 2 3 4 5 6 7\nX 3 4 5 6 7 0 1 2\nranks\nend\n",
+        "ranks 26\nrank 8 4 1\nrank 7 3 8\nrank 6 2 28\nrank 5 1 56\nrank 4 1 1\n\
+         rank 4 0 70\nrank 3 0 8\nrank 3 -1 56\nrank 2 -1 29\nrank 2 -2 28\n\
+         rank 1 -2 63\nrank 1 -3 9\nrank 0 -3 91\nrank 0 -4 9\nrank -1 -4 91\n\
+         rank -1 -5 28\nrank -2 -5 63\nrank -2 -6 56\nrank -3 -6 29\nrank -3 -7 70\n\
+         rank -4 -7 8\nrank -4 -8 56\nrank -5 -8 1\nrank -5 -9 28\nrank -6 -10 8\n\
+         rank -7 -11 1\n",
+    ),
+    (
+        "grid 9\nO 0 1 2 3 4 5 6 7 8\nX 4 5 6 7 8 0 1 2 3\nranks\nend\n",
+        "ranks 42\nrank 12 6 1\nrank 11 5 9\nrank 10 4 36\nrank 9 3 84\nrank 8 2 126\n\
+         rank 6 2 1\nrank 7 1 126\nrank 5 1 8\nrank 6 0 84\nrank 5 0 1\nrank 4 0 28\n\
+         rank 5 -1 36\nrank 4 -1 8\nrank 3 -1 56\nrank 4 -2 9\nrank 3 -2 28\n\
+         rank 2 -2 71\nrank 3 -3 1\nrank 2 -3 56\nrank 1 -3 64\nrank 1 -4 70\n\
+         rank 0 -4 56\nrank 1 -5 1\nrank 0 -5 56\nrank -1 -5 64\nrank 0 -6 9\n\
+         rank -1 -6 28\nrank -2 -6 71\nrank -1 -7 36\nrank -2 -7 8\nrank -3 -7 56\n\
+         rank -2 -8 84\nrank -3 -8 1\nrank -4 -8 28\nrank -3 -9 126\nrank -5 -9 8\n\
+         rank -4 -10 126\nrank -6 -10 1\nrank -5 -11 84\nrank -6 -12 36\n\
+         rank -7 -13 9\nrank -8 -14 1\n",
+    ),
+];
+
 /// The exit status of a call, and what it wrote.
 fn answer(
     alloc: Global,
@@ -181,6 +213,22 @@ fn documents_ends_and_words(rt: HostRuntime) -> Result<(), Fail> {
             bytes.as_slice(),
             written.as_bytes(),
             "what {words:?} writes on {text:?}"
+        );
+    }
+    Ok(())
+}
+
+#[test]
+fn tables_of_large_grids(rt: HostRuntime) -> Result<(), Fail> {
+    let alloc = rt.alloc();
+    for (text, table) in TABLES {
+        let bytes = Vec::from_slice(alloc, text.as_bytes())?;
+        let (status, written) = answer(alloc, "run", bytes, (0, 0))?;
+        assert_eq!(rt; status, 0, "the status on {text:?}");
+        assert_eq!(rt;
+            written.as_slice(),
+            table.as_bytes(),
+            "the table of {text:?}"
         );
     }
     Ok(())
