@@ -15,7 +15,6 @@ use Rattle.grid_text.specs.Words.{Word, is_word}
 use Rattle.grid_text.specs.Faults.{has_repeated}
 use Rattle.grid_text.proofs.Lines.WordLemmas.{same_word, is_word-same, is_word-other}
 
-
 -- ---- a list has no element that passes a test
 
 -- none of its elements does
