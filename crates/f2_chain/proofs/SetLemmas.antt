@@ -1,5 +1,5 @@
 -- Sets of codes as lists: what a search finds, what a toggle changes, what a sort keeps.
-use Rattle.std.proofs.Common.{◌≡◌, ℕ, zero, suc, ◌+◌, ◌<◌, ◌≤◌, Bool, true, false, not, cond, ◌||◌, eqb, nat_cmp, List, [], ◌∷◌, length, take, slice_index, get_or, add-one, Result, Ok, Err, is_ok, MatchResult, IsPermutation, refl, sym, ap, ap₂, ◌∙◌, arith, inl, inr}
+use Rattle.std.proofs.Common.{◌≡◌, ℕ, ◌+◌, ◌<◌, ◌≤◌, Bool, true, false, not, cond, eqb, nat_cmp, List, length, take, slice_index, get_or, add-one, Result, Ok, Err, is_ok, MatchResult, IsPermutation, refl, sym, ap, ap₂, ◌∙◌, arith, inl, inr}
 use mathlib.Core.Bool.{beq}
 use Rattle.std.proofs.Math.Seq.{take-suc}
 use Rattle.std.proofs.lemmas.Bool.{cases_lt, eqb-true, eq-eqb, ne_eqb, false≢true}

@@ -8,19 +8,15 @@ use Rattle.state_rank.specs.States.{IsState}
 use Rattle.torus_geom.specs.Marks.{Marks, size, IsGrid}
 use Rattle.torus_geom.specs.Components.{components}
 use Rattle.torus_geom.specs.Degrees.{maslov, maslov_o, maslov_x, doubled_alexander, alexander}
+use Rattle.gradings.specs.Degrees.{IsSmallDegree}
 use Rattle.gradings.proofs.EvennessLemmas.{two-alexander}
-
--- the Alexander degree is small where both Maslov degrees are
-pub record IsSmall (a : ℤ) : Type 0 where
-  pub low : neg_ℤ (pos 1000) ≤ℤ a
-  pub high : a ≤ℤ pos 1000
 
 -- the two Maslov degrees of a state of the grid, as they were found, and its small Alexander degree
 pub record AreDegrees (g : Marks) (x : List ℕ) (by_o by_x : ℤ) : Type 0 where
   pub is_o : by_o ≡ maslov_o g x
   pub is_x : by_x ≡ maslov_x g x
   pub whole : pos 2 *ℤ alexander g x ≡ doubled_alexander g x
-  pub small : IsSmall (alexander g x)
+  pub small : IsSmallDegree (alexander g x)
 
 -- from - bound to bound
 abbrev pub IsWithin : ℕ → ℤ → Type 0

@@ -17,12 +17,12 @@ use Rattle.torus_geom.specs.Degrees.{maslov_o, alexander}
 use Rattle.torus_geom.proofs.Sums.SumLemmas.{sum_below_same, balanced_sum}
 use Rattle.torus_geom.proofs.Pairs.PairLemmas.{lower_left, pairs, maslov-by_pairs, maslov-by_points}
 use Rattle.torus_geom.proofs.Sums.HalfLemmas.{int_div-double}
+use Rattle.gradings.specs.Degrees.{IsSmallDegree}
 use Rattle.gradings.specs.Inner.Tables.{left_below, pairs_of, entry, half_of_marks, IsTables}
 use Rattle.gradings.specs.declared.tables.DegreeTables.TheInside.{Inside}
 use Rattle.gradings.proofs.MaslovLemmas.{count_below-take, alexander_weight, alexander-linear}
 use Rattle.torus_geom.proofs.Cycles.ComponentLemmas.{components-count}
 use Rattle.gradings.proofs.EvennessLemmas.{doubled_alexander_even, two-alexander}
-use Rattle.gradings.proofs.DegreeReads.{IsSmall}
 
 -- ---- filling an array
 
@@ -147,7 +147,7 @@ module _ (g : Marks) (grid : IsGrid g) where
   half_of_marks-is = ap (λ z. int_div z (pos 2)) marks_even.1 ∙ int_div-double marks_even.0
 
   -- and it is small
-  pub half_of_marks_small : IsSmall marks_even.0
+  pub half_of_marks_small : IsSmallDegree marks_even.0
   half_of_marks_small =
       let fits = grid.is_size.greatest in
       let sum = marks_even.1 in
@@ -162,7 +162,7 @@ module _ (g : Marks) (grid : IsGrid g) where
 
   module _ (x : List ℕ) (state : IsBijection (size g) x) where
     -- the Maslov degree is small
-    pub maslov_small : IsSmall (maslov_o g x)
+    pub maslov_small : IsSmallDegree (maslov_o g x)
     maslov_small =
         let fits = grid.is_size.greatest in
         let by_o = maslov-by_pairs (size g) g.o x grid.o state in
@@ -178,7 +178,7 @@ module _ (g : Marks) (grid : IsGrid g) where
         record { low = omega (arith, ints); high = omega (arith, ints) }
 
     -- the Alexander degree is small
-    pub alexander_small : IsSmall (alexander g x)
+    pub alexander_small : IsSmallDegree (alexander g x)
     alexander_small =
         let fits = grid.is_size.greatest in
         let twice = two-alexander g grid x state in
@@ -235,7 +235,7 @@ module _ (t : Inside) (tables : IsTables t) (x : List ℕ) (state : IsBijection 
 -- a degree, which is small
 pub record IsFound (degree found : ℤ) : Type 0 where
   pub value : found ≡ degree
-  pub small : IsSmall degree
+  pub small : IsSmallDegree degree
 
 module _ (t : Inside) (tables : IsTables t) (g : Marks) (view : t.grid ≡ g) (x rows : List ℕ) (state : IsState x) (one_size : length x ≡ size g) (points : rows ≡ x) (sum : ℕ) where
   abbrev bijection : IsBijection (size t.grid) x
@@ -254,12 +254,12 @@ module _ (t : Inside) (tables : IsTables t) (g : Marks) (view : t.grid ≡ g) (x
         ap (λ z. t.maslov_of_marks +ℤ z -ℤ pos 2 *ℤ pos sum) (counted ∙ ap (λ xs. pairs_of (length xs) xs) points ∙ ap (λ n. pairs_of n x) (one_size ∙ ap size (sym view)))
         ∙ maslov-by_table t tables x bijection sum (is ∙ sums t.o_below)
         ∙ ap (λ h. maslov_o h x) view;
-    small = subst (λ h. IsSmall (maslov_o h x)) view (maslov_small t.grid tables.grid x bijection);
+    small = subst (λ h. IsSmallDegree (maslov_o h x)) view (maslov_small t.grid tables.grid x bijection);
   }
 
   -- the Alexander degree is found
   pub alexander_found : pos sum ≡ sum_below (length rows) (λ c. pos (entry t.weights c (slice_index rows c))) → IsFound (alexander g x) (t.alexander_of_marks +ℤ pos sum)
   alexander_found is = record {
     value = alexander-by_table t tables x bijection sum (is ∙ sums t.weights) ∙ ap (λ h. alexander h x) view;
-    small = subst (λ h. IsSmall (alexander h x)) view (alexander_small t.grid tables.grid x bijection);
+    small = subst (λ h. IsSmallDegree (alexander h x)) view (alexander_small t.grid tables.grid x bijection);
   }

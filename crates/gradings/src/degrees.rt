@@ -4,6 +4,7 @@ ghost use Rattle.state_rank.specs.Bijection.{IsBijection};
 ghost use Rattle.torus_geom.specs.Counts.{count_below};
 ghost use Rattle.torus_geom.specs.Marks.{size};
 ghost use Rattle.torus_geom.specs.Degrees.{maslov as maslov_of, maslov_o as maslov_o_of, maslov_x as maslov_x_of, alexander as alexander_of, doubled_alexander};
+ghost use Rattle.gradings.specs.Degrees.{greatest_degree};
 
 use state_rank::{MAX_SIZE, State};
 use torus_geom::Grid;
@@ -17,9 +18,6 @@ pub struct Bidegree {
     pub a: i32,
 }
 
-/// No degree is above this number, nor below its negative.
-pub const GREATEST_DEGREE: i32 = 1000;
-
 /// The Maslov degree of `x` by the O of `g`: I(x,x) - I(x,O) - I(O,x) + I(O,O) + 1.
 ///
 /// I(P,Q) is the number of pairs of a point of P and a point of Q, the first strictly left of the
@@ -28,8 +26,8 @@ pub const GREATEST_DEGREE: i32 = 1000;
 pub fn maslov_o(g: &Grid, x: &State) -> i32
     requires one_size { length x.now ≡ size g.now }
     ensures degree { result ≡ maslov_o_of g.now x.now }
-    ensures low { neg_ℤ GREATEST_DEGREE ≤ℤ result }
-    ensures high { result ≤ℤ GREATEST_DEGREE }
+    ensures low { neg_ℤ greatest_degree ≤ℤ result }
+    ensures high { result ≤ℤ greatest_degree }
 {
     maslov(g.o_rows(), x.rows())
 }
@@ -38,8 +36,8 @@ pub fn maslov_o(g: &Grid, x: &State) -> i32
 pub fn maslov_x(g: &Grid, x: &State) -> i32
     requires one_size { length x.now ≡ size g.now }
     ensures degree { result ≡ maslov_x_of g.now x.now }
-    ensures low { neg_ℤ GREATEST_DEGREE ≤ℤ result }
-    ensures high { result ≤ℤ GREATEST_DEGREE }
+    ensures low { neg_ℤ greatest_degree ≤ℤ result }
+    ensures high { result ≤ℤ greatest_degree }
 {
     maslov(g.x_rows(), x.rows())
 }
@@ -51,8 +49,8 @@ pub fn maslov_x(g: &Grid, x: &State) -> i32
 pub fn alexander(g: &Grid, x: &State) -> i32
     requires one_size { length x.now ≡ size g.now }
     ensures degree { result ≡ alexander_of g.now x.now }
-    ensures low { neg_ℤ GREATEST_DEGREE ≤ℤ result }
-    ensures high { result ≤ℤ GREATEST_DEGREE }
+    ensures low { neg_ℤ greatest_degree ≤ℤ result }
+    ensures high { result ≤ℤ greatest_degree }
 
     // The Alexander degree is whole.
     ensures whole { pos 2 *ℤ alexander_of g.now x.now ≡ doubled_alexander g.now x.now }
@@ -66,8 +64,8 @@ pub fn degree(g: &Grid, x: &State) -> Bidegree
     ensures maslov { result.m ≡ maslov_o_of g.now x.now }
     ensures alexander { result.a ≡ alexander_of g.now x.now }
     ensures whole { pos 2 *ℤ alexander_of g.now x.now ≡ doubled_alexander g.now x.now }
-    ensures low { (neg_ℤ GREATEST_DEGREE ≤ℤ result.m) × (neg_ℤ GREATEST_DEGREE ≤ℤ result.a) }
-    ensures high { (result.m ≤ℤ GREATEST_DEGREE) × (result.a ≤ℤ GREATEST_DEGREE) }
+    ensures low { (neg_ℤ greatest_degree ≤ℤ result.m) × (neg_ℤ greatest_degree ≤ℤ result.a) }
+    ensures high { (result.m ≤ℤ greatest_degree) × (result.a ≤ℤ greatest_degree) }
 {
     let points = x.rows();
     let by_o = maslov(g.o_rows(), points);

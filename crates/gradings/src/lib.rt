@@ -10,5 +10,5 @@
 mod degrees;
 mod tables;
 
-pub use degrees::{Bidegree, GREATEST_DEGREE, alexander, degree, maslov_o, maslov_x};
+pub use degrees::{Bidegree, alexander, degree, maslov_o, maslov_x};
 pub use tables::DegreeTables;

@@ -4,9 +4,10 @@ ghost use Rattle.state_rank.specs.Bijection.{IsBijection};
 ghost use Rattle.torus_geom.specs.Counts.{sum_below, count_below};
 ghost use Rattle.torus_geom.specs.Marks.{IsGrid, size};
 ghost use Rattle.torus_geom.specs.Degrees.{maslov_o as maslov_o_of, alexander as alexander_of};
+ghost use Rattle.gradings.specs.Degrees.{greatest_degree};
 ghost use Rattle.gradings.specs.Inner.Tables.{left_below, pairs_of, weight};
 
-use crate::degrees::{Bidegree, GREATEST_DEGREE, below, half};
+use crate::degrees::{Bidegree, below, half};
 use state_rank::{MAX_SIZE, ROOM, State};
 use std::marker::Model;
 use torus_geom::Grid;
@@ -32,6 +33,7 @@ pub struct DegreeTables {
 
 impl Model for DegreeTables {
     ghost use Rattle.torus_geom.specs.Marks.{Marks};
+    ghost use Rattle.gradings.specs.Degrees.{greatest_degree};
     ghost use Rattle.gradings.specs.Inner.Tables.{IsTables};
 
     ghost Value = { Marks };
@@ -65,8 +67,8 @@ impl DegreeTables {
     pub fn maslov(&self, x: &State) -> i32
         requires one_size { length x.now ≡ size self.now }
         ensures degree { result ≡ maslov_o_of self.now x.now }
-        ensures low { neg_ℤ GREATEST_DEGREE ≤ℤ result }
-        ensures high { result ≤ℤ GREATEST_DEGREE }
+        ensures low { neg_ℤ greatest_degree ≤ℤ result }
+        ensures high { result ≤ℤ greatest_degree }
     {
         let points = x.rows();
         let o_below = table_sum(&self.o_below, points) as i32;
@@ -78,8 +80,8 @@ impl DegreeTables {
     pub fn alexander(&self, x: &State) -> i32
         requires one_size { length x.now ≡ size self.now }
         ensures degree { result ≡ alexander_of self.now x.now }
-        ensures low { neg_ℤ GREATEST_DEGREE ≤ℤ result }
-        ensures high { result ≤ℤ GREATEST_DEGREE }
+        ensures low { neg_ℤ greatest_degree ≤ℤ result }
+        ensures high { result ≤ℤ greatest_degree }
     {
         self.alexander_of_marks + table_sum(&self.weights, x.rows()) as i32
     }
@@ -90,8 +92,8 @@ impl DegreeTables {
         requires one_size { length x.now ≡ size self.now }
         ensures maslov { result.m ≡ maslov_o_of self.now x.now }
         ensures alexander { result.a ≡ alexander_of self.now x.now }
-        ensures low { (neg_ℤ GREATEST_DEGREE ≤ℤ result.m) × (neg_ℤ GREATEST_DEGREE ≤ℤ result.a) }
-        ensures high { (result.m ≤ℤ GREATEST_DEGREE) × (result.a ≤ℤ GREATEST_DEGREE) }
+        ensures low { (neg_ℤ greatest_degree ≤ℤ result.m) × (neg_ℤ greatest_degree ≤ℤ result.a) }
+        ensures high { (result.m ≤ℤ greatest_degree) × (result.a ≤ℤ greatest_degree) }
     {
         Bidegree {
             m: self.maslov(x),

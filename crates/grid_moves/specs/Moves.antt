@@ -1,8 +1,11 @@
 -- Moves of a grid diagram that keep its link (Ozsváth, Stipsicz and Szabó, "Grid Homology for Knots and
 -- Links", chapters 3 and 5): cyclic turns, and the exchange of two neighbouring columns or rows that
 -- commute. Columns n - 1 and 0 are neighbours, across the seam of the torus, and so are rows n - 1 and 0.
+--     source_column side n c      the column whose marks come to column c in a turn
+--     moved_row side n r          the row that row r becomes in a turn
 --     turned_rows side n rows     a list of rows, one for each column, after a turn
 --     turned side g               the grid after a turn by one column or row
+--     is_marked_row g c r         column c has a mark in row r
 --     are_commuting_columns g c   columns c - 1 and c commute
 --     swapped_columns g c         the grid with columns c - 1 and c exchanged
 --     are_commuting axis g c      columns, or rows, c - 1 and c commute

@@ -1,11 +1,17 @@
 -- The degrees of a state (Ozsváth, Stipsicz and Szabó, "Grid Homology for Knots and Links", chapter 4;
 -- for several components A is taken with n - l in the place of n - 1, l being their number).
+--     Point                      a point of the plane, with both coordinates doubled
+--     point x c, mark o c        the point of a state on circle c, and the mark of column c
+--     is_lower_left p q          p is strictly left of q and strictly below it
 --     lower_left_pairs n p q     the number of pairs of one of the points p and one of the points q, the
 --                                first strictly left of the second and strictly below it
 --     maslov n marks x           the Maslov degree of x by these marks
 --     maslov_o g x, maslov_x g x the same by the O and by the X
+--     doubled_alexander g x      M_O - M_X - (n - l), which is even
 --     alexander g x              the whole number A with 2 A = M_O - M_X - (n - l)
 --     bidegree g x               the pair of M_O and A
+--     marks_in n o r             how many of these marks are in the rectangle r
+--     points_inside n x r        how many points of the state are strictly inside it
 use Rattle.std.specs.Prelude.{ℕ, ◌+◌, ◌*◌, Bool, ◌&&◌, nat_lt, List, slice_index, ℤ, pos, ◌+ℤ◌, ◌-ℤ◌, int_div}
 use Rattle.torus_geom.specs.Counts.{sum_below, count_below}
 use Rattle.torus_geom.specs.Marks.{Marks, size}

@@ -1,5 +1,8 @@
 -- The homology of the fully blocked grid complex over the field of two elements (Ozsváth, Stipsicz and
 -- Szabó, "Grid Homology for Knots and Links", chapter 4), degree by degree.
+--     Row                        a Maslov degree, an Alexander degree and a rank
+--     StandsBefore p q           the Alexander degree of p is higher than that of q, or that is the same and the Maslov
+--                                degree is higher
 --     IsHomologyRank g m a d     d is the dimension of cycles modulo boundaries in Maslov degree m and
 --                                Alexander degree a: there are d cycles such that, for each cycle of this
 --                                degree, exactly one subset of them makes the sum of it and the cycles of the

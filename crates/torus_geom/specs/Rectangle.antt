@@ -3,10 +3,12 @@
 -- circles, low and high. Its columns are the range from left up to right, its rows the range from
 -- low up to high; either may go across the seam of the torus.
 --     IsProper n r         the four circles are circles of a grid of size n, left is not right, low is not high
+--     is_same x y          two states are the same
 --     leads r x y          r leads from the state x to the state y: x has points at its lower left and
 --                          upper right corners, and y is x with these two points moved to the other corners
 --     is_empty x r         no point of x is strictly inside r
 --     is_unmarked g r      no mark of the grid is in r
+--     pairs_apart n        the ordered pairs of two different circles of n
 --     rectangles n         the proper rectangles of a grid of size n, each once
 use Rattle.std.specs.Prelude.{◌≢◌, ℕ, ◌<◌, Bool, ◌&&◌, ◌||◌, not, List, length, map, slice_index, swap, ◌==◌}
 use Rattle.std.specs.List.{filter, flat_map}

@@ -10,7 +10,7 @@ use Rattle.f2_algebra.proofs.Chains.Sums.{holds-sum_over, add_comm, add_assoc, a
 use Rattle.f2_algebra.proofs.Cancelling.Cancellation.{same_some, border-add, border-nothing, border-border}
 use Rattle.f2_algebra.proofs.Ranks.RankLemmas.{degree-add, degree-nothing}
 use Rattle.f2_algebra.proofs.Certificates.Verdict.{even_with_borders}
-use Rattle.f2_algebra.proofs.Certificates.Span.{pick, pick-cons, pick-xor, xor_marks, no_marks, length-xor_marks, same_of_xor, Row, Every, every_all, IsTriangular, vectors, independent, independent_mod, spans, IsInside}
+use Rattle.f2_algebra.proofs.Certificates.Span.{pick, pick-cons, pick-xor, xor_picks, no_picks, length-xor_picks, same_of_xor, Row, Every, every_all, IsTriangular, vectors, independent, independent_mod, spans, IsInside}
 
 -- ---- lists
 -- what holds of all elements, by recursion
@@ -170,7 +170,7 @@ module _ {G : Type 0} (C : Complex G) (laws : IsComplex C) (m : G) (cells : Chai
   abbrev basis : List Chain
   basis = vectors (map cycle_row cycles)
 
-  unmarked : (xs : List StepPair) → pick (no_marks (map (boundary_row C) xs)) (vectors (map (step_row C) xs)) ≡ nothing
+  unmarked : (xs : List StepPair) → pick (no_picks (map (boundary_row C) xs)) (vectors (map (step_row C) xs)) ≡ nothing
   unmarked [] = refl
   unmarked (x ∷ xs) = unmarked xs
 
@@ -219,14 +219,14 @@ module _ {G : Type 0} (C : Complex G) (laws : IsComplex C) (m : G) (cells : Chai
   one : (z : Chain) (ps qs : List Bool) → length ps ≡ length (map cycle_row cycles) → length qs ≡ length (map cycle_row cycles) → IsBoundary C m (z ⊕ pick ps basis) → IsBoundary C m (z ⊕ pick qs basis) → ps ≡ qs
   one z ps qs lp lq bp bq =
       let u = border C (bp.0 ⊕ bq.0) in
-      let twice : pick (xor_marks ps qs) basis ≡ u =
+      let twice : pick (xor_picks ps qs) basis ≡ u =
       pick-xor basis ps qs (to_basis ps lp) (to_basis qs lq)
       ∙ sym (border-add C bp.0 bq.0 ∙ ap₂ ◌⊕◌ bp.2 bq.2 ∙ add_swap z (pick ps basis) z (pick qs basis) ∙ ap (λ c. c ⊕ (pick ps basis ⊕ pick qs basis)) (add_self z) ∙ nothing-add _)
       in
       same_of_xor (map cycle_row cycles) ps qs lp lq
       (independent_mod (map cycle_row cycles) tri_cycles u
       (every_map _ cycle_row cycles (every_weaker (λ (q : CyclePair). (s : ℕ) → pairs_oddly (C.targets s) q.cocycle ≡ false) _ cycles (λ q even. even_with_borders C q.cocycle even (bp.0 ⊕ bq.0)) every_cocycle))
-      (xor_marks ps qs) (length-xor_marks (length (map cycle_row cycles)) ps qs lp lq) twice)
+      (xor_picks ps qs) (length-xor_picks (length (map cycle_row cycles)) ps qs lp lq) twice)
 
   -- the number of cycle pairs is the rank
   pub rank_of_certificate : IsRank C m (length cycles)

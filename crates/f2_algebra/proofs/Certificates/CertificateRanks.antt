@@ -24,7 +24,7 @@ rank_none C m none = (
   [],
   record {
     cycles = All-nil (IsCycle C m);
-    one_subset = λ z c. ([], (refl, (nothing, degree-nothing C (C.up m), border-nothing C ∙ sym (add-nothing z ∙ empty z c.0))), λ ps f. no_marks ps f.0);
+    one_subset = λ z c. ([], (refl, (nothing, degree-nothing C (C.up m), border-nothing C ∙ sym (add-nothing z ∙ empty z c.0))), λ ps f. no_picks ps f.0);
   },
   refl,
 )
@@ -32,9 +32,9 @@ rank_none C m none = (
     empty : (z : Chain) → AllOfDegree C m z → z ≡ nothing
     empty z of = same_chain z nothing (λ s. none_where (holds z s) (λ h. none s (of s h)) ∙ sym (holds-nothing s))
 
-    no_marks : (ps : List Bool) → length ps ≡ 0 → ps ≡ []
-    no_marks [] l = refl
-    no_marks (p ∷ ps) l = absurd (omega arith)
+    no_picks : (ps : List Bool) → length ps ≡ 0 → ps ≡ []
+    no_picks [] l = refl
+    no_picks (p ∷ ps) l = absurd (omega arith)
 
 -- no step pairs pass
 pub no_steps : {G : Type 0} (C : Complex G) (m : G) → AreStepPairs C m []

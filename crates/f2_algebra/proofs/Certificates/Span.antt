@@ -10,7 +10,7 @@ use Rattle.f2_algebra.proofs.Chains.Sums.{add_self, nothing-add, add_swap, when-
 use Rattle.f2_algebra.proofs.Ranks.RankLemmas.{chosen, chosen-holds}
 use Rattle.f2_algebra.proofs.Ranks.Pigeonhole.{bits_onto}
 
--- the sum of the chains that the marks pick
+-- the sum of the chains that the truth values pick
 abbrev pub pick : List Bool → List Chain → Chain
 pick ps vs = total (items_where_true ps vs)
 
@@ -19,27 +19,27 @@ pub pick-cons : (b : Bool) (ps : List Bool) (v : Chain) (vs : List Chain) → pi
 pick-cons true ps v vs = refl
 pick-cons false ps v vs = sym (nothing-add _)
 
--- the marks that are in exactly one of two lists of marks
-abbrev pub xor_marks : List Bool → List Bool → List Bool
-xor_marks [] qs = []
-xor_marks (p ∷ ps) [] = []
-xor_marks (p ∷ ps) (q ∷ qs) = (p ⊻ q) ∷ xor_marks ps qs
+-- the picks that are in exactly one of two lists of truth values
+abbrev pub xor_picks : List Bool → List Bool → List Bool
+xor_picks [] qs = []
+xor_picks (p ∷ ps) [] = []
+xor_picks (p ∷ ps) (q ∷ qs) = (p ⊻ q) ∷ xor_picks ps qs
 
 -- no element is marked
-abbrev pub no_marks : {X : Type 0} → List X → List Bool
-no_marks [] = []
-no_marks (x ∷ xs) = false ∷ no_marks xs
+abbrev pub no_picks : {X : Type 0} → List X → List Bool
+no_picks [] = []
+no_picks (x ∷ xs) = false ∷ no_picks xs
 
--- there are as many marks as before
-pub length-xor_marks : (n : ℕ) (ps qs : List Bool) → length ps ≡ n → length qs ≡ n → length (xor_marks ps qs) ≡ n
-length-xor_marks n [] qs lp lq = lp
-length-xor_marks zero (p ∷ ps) [] lp lq = lq
-length-xor_marks (suc n) (p ∷ ps) [] lp lq = absurd (omega arith)
-length-xor_marks zero (p ∷ ps) (q ∷ qs) lp lq = absurd (omega arith)
-length-xor_marks (suc n) (p ∷ ps) (q ∷ qs) lp lq = ap suc (length-xor_marks n ps qs (omega arith) (omega arith))
+-- there are as many picks as before
+pub length-xor_picks : (n : ℕ) (ps qs : List Bool) → length ps ≡ n → length qs ≡ n → length (xor_picks ps qs) ≡ n
+length-xor_picks n [] qs lp lq = lp
+length-xor_picks zero (p ∷ ps) [] lp lq = lq
+length-xor_picks (suc n) (p ∷ ps) [] lp lq = absurd (omega arith)
+length-xor_picks zero (p ∷ ps) (q ∷ qs) lp lq = absurd (omega arith)
+length-xor_picks (suc n) (p ∷ ps) (q ∷ qs) lp lq = ap suc (length-xor_picks n ps qs (omega arith) (omega arith))
 
--- the sum of what two lists of marks pick is what their exclusive or picks
-pub pick-xor : (vs : List Chain) (ps qs : List Bool) → length ps ≡ length vs → length qs ≡ length vs → pick (xor_marks ps qs) vs ≡ pick ps vs ⊕ pick qs vs
+-- the sum of what two lists of truth values pick is what their exclusive or picks
+pub pick-xor : (vs : List Chain) (ps qs : List Bool) → length ps ≡ length vs → length qs ≡ length vs → pick (xor_picks ps qs) vs ≡ pick ps vs ⊕ pick qs vs
 pick-xor [] [] [] lp lq = sym (add_self nothing)
 pick-xor [] [] (q ∷ qs) lp lq = absurd (omega arith)
 pick-xor [] (p ∷ ps) qs lp lq = absurd (omega arith)
@@ -51,8 +51,8 @@ pick-xor (v ∷ vs) (p ∷ ps) (q ∷ qs) lp lq =
     ∙ add_swap _ _ _ _
     ∙ sym (ap₂ ◌⊕◌ (pick-cons p ps v vs) (pick-cons q qs v vs))
 
--- lists of marks whose exclusive or has no mark are equal
-pub same_of_xor : {X : Type 0} (vs : List X) (ps qs : List Bool) → length ps ≡ length vs → length qs ≡ length vs → xor_marks ps qs ≡ no_marks vs → ps ≡ qs
+-- lists of truth values whose exclusive or is false throughout are equal
+pub same_of_xor : {X : Type 0} (vs : List X) (ps qs : List Bool) → length ps ≡ length vs → length qs ≡ length vs → xor_picks ps qs ≡ no_picks vs → ps ≡ qs
 same_of_xor [] [] [] lp lq e = refl
 same_of_xor [] [] (q ∷ qs) lp lq e = absurd (omega arith)
 same_of_xor [] (p ∷ ps) qs lp lq e = absurd (omega arith)
@@ -60,11 +60,11 @@ same_of_xor (v ∷ vs) [] qs lp lq e = absurd (omega arith)
 same_of_xor (v ∷ vs) (p ∷ ps) [] lp lq e = absurd (omega arith)
 same_of_xor (v ∷ vs) (p ∷ ps) (q ∷ qs) lp lq e =
     let h : (p ⊻ q) ≡ false = cc in
-    let t : xor_marks ps qs ≡ no_marks vs = cc in
+    let t : xor_picks ps qs ≡ no_picks vs = cc in
     ap₂ ◌∷◌ (xor_zero p q h) (same_of_xor vs ps qs (omega arith) (omega arith) t)
 
--- no marks pick nothing
-pub pick-none : (vs : List Chain) → pick (no_marks vs) vs ≡ nothing
+-- no picks pick nothing
+pub pick-none : (vs : List Chain) → pick (no_picks vs) vs ≡ nothing
 pick-none [] = refl
 pick-none (v ∷ vs) = pick-none vs
 
@@ -107,8 +107,8 @@ even_pick r (s ∷ rs) (p ∷ ps) even =
     neither true = refl
     neither false = refl
 
--- where the tests are even on what the marks pick, nothing is marked
-pub independent_mod : (rs : List Row) → IsTriangular rs → (u : Chain) → Every (λ r. r.test u ≡ false) rs → (ps : List Bool) → length ps ≡ length rs → pick ps (vectors rs) ≡ u → ps ≡ no_marks rs
+-- where the tests are even on what the truth values pick, nothing is marked
+pub independent_mod : (rs : List Row) → IsTriangular rs → (u : Chain) → Every (λ r. r.test u ≡ false) rs → (ps : List Bool) → length ps ≡ length rs → pick ps (vectors rs) ≡ u → ps ≡ no_picks rs
 independent_mod [] tri u even [] l e = refl
 independent_mod [] tri u even (p ∷ ps) l e = absurd (omega arith)
 independent_mod (r ∷ rs) tri u even [] l e = absurd (omega arith)
@@ -129,8 +129,8 @@ pub every_all : {X : Type 0} (P : X → Type 0) (xs : List X) → ((x : X) → P
 every_all P [] h = tt
 every_all P (x ∷ xs) h = (h x, every_all P xs h)
 
--- only no marks at all pick the empty chain
-pub independent : (rs : List Row) → IsTriangular rs → (ps : List Bool) → length ps ≡ length rs → pick ps (vectors rs) ≡ nothing → ps ≡ no_marks rs
+-- only no picks at all pick the empty chain
+pub independent : (rs : List Row) → IsTriangular rs → (ps : List Bool) → length ps ≡ length rs → pick ps (vectors rs) ≡ nothing → ps ≡ no_picks rs
 independent rs tri ps l e = independent_mod rs tri nothing (every_all _ rs test-nothing) ps l e
 
 -- each code of z is one of cells
@@ -154,35 +154,35 @@ kept true h f = refl
 kept false true f = f refl
 kept false false f = refl
 
--- a chain inside cells is same_by_marks by its marks at them
-same_by_marks : (cells z : Chain) → IsInside cells z → chosen (map (holds z) (codes cells)) (codes cells) ≡ z
-same_by_marks cells z inside = same_chain _ _ (λ q.
+-- a chain inside cells is same_by_picks by its picks at them
+same_by_picks : (cells z : Chain) → IsInside cells z → chosen (map (holds z) (codes cells)) (codes cells) ≡ z
+same_by_picks cells z inside = same_chain _ _ (λ q.
     chosen-holds (holds z) (codes cells) q (IsApart-codes cells)
     ∙ ap (λ b. b && holds z q) (sym (holds-codes cells q))
     ∙ kept (holds cells q) (holds z q) (inside q))
 
 module _ (rs : List Row) (tri : IsTriangular rs) (cells : Chain) (count : length (codes cells) ≡ length rs) (inside : Every (λ r. IsInside cells r.vector) rs) where
-  marks_at : List Bool → List Bool
-  marks_at ps = map (holds (pick ps (vectors rs))) (codes cells)
+  picks_at : List Bool → List Bool
+  picks_at ps = map (holds (pick ps (vectors rs))) (codes cells)
 
-  marks-pick : (ps : List Bool) → chosen (marks_at ps) (codes cells) ≡ pick ps (vectors rs)
-  unfolding marks_at
-  marks-pick ps = same_by_marks cells (pick ps (vectors rs)) (inside-pick cells rs inside ps)
+  chosen-picks_at : (ps : List Bool) → chosen (picks_at ps) (codes cells) ≡ pick ps (vectors rs)
+  unfolding picks_at
+  chosen-picks_at ps = same_by_picks cells (pick ps (vectors rs)) (inside-pick cells rs inside ps)
 
-  marks-length : (ps : List Bool) → length ps ≡ length rs → length (marks_at ps) ≡ length rs
-  unfolding marks_at
-  marks-length ps l = length-map (codes cells) _ ∙ count
+  picks-length : (ps : List Bool) → length ps ≡ length rs → length (picks_at ps) ≡ length rs
+  unfolding picks_at
+  picks-length ps l = length-map (codes cells) _ ∙ count
 
   to_vectors : (ps : List Bool) → length ps ≡ length rs → length ps ≡ length (vectors rs)
   to_vectors ps l = l ∙ sym (length-map rs (λ (r : Row). r.vector))
 
-  marks-one : (ps qs : List Bool) → length ps ≡ length rs → length qs ≡ length rs → marks_at ps ≡ marks_at qs → ps ≡ qs
-  marks-one ps qs lp lq same =
-      let sums : pick ps (vectors rs) ≡ pick qs (vectors rs) = sym (marks-pick ps) ∙ ap (λ ms. chosen ms (codes cells)) same ∙ marks-pick qs in
-      same_of_xor rs ps qs lp lq (independent rs tri (xor_marks ps qs) (length-xor_marks (length rs) ps qs lp lq)
+  picks-one : (ps qs : List Bool) → length ps ≡ length rs → length qs ≡ length rs → picks_at ps ≡ picks_at qs → ps ≡ qs
+  picks-one ps qs lp lq same =
+      let sums : pick ps (vectors rs) ≡ pick qs (vectors rs) = sym (chosen-picks_at ps) ∙ ap (λ ms. chosen ms (codes cells)) same ∙ chosen-picks_at qs in
+      same_of_xor rs ps qs lp lq (independent rs tri (xor_picks ps qs) (length-xor_picks (length rs) ps qs lp lq)
       (pick-xor (vectors rs) ps qs (to_vectors ps lp) (to_vectors qs lq) ∙ ap (λ c. c ⊕ pick qs (vectors rs)) sums ∙ add_self _))
 
   pub spans : (z : Chain) → IsInside cells z → (ps : List Bool) × (length ps ≡ length rs) × (pick ps (vectors rs) ≡ z)
   spans z in_cells =
-      let (ps, l, e) = bits_onto (length rs) marks_at marks-length marks-one (map (holds z) (codes cells)) (length-map (codes cells) (holds z) ∙ count) in
-      (ps, l, sym (marks-pick ps) ∙ ap (λ ms. chosen ms (codes cells)) e ∙ same_by_marks cells z in_cells)
+      let (ps, l, e) = bits_onto (length rs) picks_at picks-length picks-one (map (holds z) (codes cells)) (length-map (codes cells) (holds z) ∙ count) in
+      (ps, l, sym (chosen-picks_at ps) ∙ ap (λ ms. chosen ms (codes cells)) e ∙ same_by_picks cells z in_cells)

@@ -16,12 +16,12 @@ use Rattle.f2_algebra.proofs.Certificates.Verdict.{value_of}
 pub even_apart : (z f : Chain) → ((s : ℕ) → holds z s ≡ true → holds f s ≡ true → ⊥) → pairs_oddly z f ≡ false
 even_apart z f apart = pairs_oddly-weight z f ∙ none_where (weight (holds f) z) (λ odd. let (s, in_z, in_f) = weight-some (holds f) z odd in apart s in_z in_f)
 
-module _ {G H : Type 0} (C : Complex G) (place : H → G) (D : Complex H) (part : IsPartOf C place D) where
+module _ {G H : Type 0} (C : Complex G) (embed : H → G) (D : Complex H) (part : IsPartOf C embed D) where
   border-cells : (z : Chain) → AllCells D z → border D z ≡ border C z
   border-cells z cells = sum_over-same z D.targets C.targets (λ s h. let (m, is) = value_of (D.degree s) (cells s h) in part.targets s m is)
 
   above_of_part : (s t : ℕ) → IsAbove D s t → IsAbove C s t
-  above_of_part s t (m, above, below) = (place m, (part.degrees s (D.up m)).0 above ∙ ap Some (part.place_up m), (part.degrees t m).0 below)
+  above_of_part s t (m, above, below) = (embed m, (part.degrees s (D.up m)).0 above ∙ ap Some (part.embed_up m), (part.degrees t m).0 below)
 
   -- a chain that is null in a part is null in the whole
   pub null_of_part : (z b : Chain) → IsNullBy D z b → IsNullBy C z b
@@ -34,8 +34,8 @@ module _ {G H : Type 0} (C : Complex G) (place : H → G) (D : Complex H) (part 
   even_elsewhere laws m f of even s (Some k) is = ap (λ z. pairs_oddly z f) (sym (part.targets s k is)) ∙ even s
   even_elsewhere laws m f of even s None is = even_apart (C.targets s) f (λ t a in_f.
       let (n, above, below) = laws.lowers s t a in
-      let same : n ≡ place m = same_some _ _ (sym below ∙ (part.degrees t m).0 (of t in_f)) in
-      let in_part : D.degree s ≡ Some (D.up m) = (part.degrees s (D.up m)).1 (above ∙ ap Some (ap C.up same ∙ sym (part.place_up m))) in
+      let same : n ≡ embed m = same_some _ _ (sym below ∙ (part.degrees t m).0 (of t in_f)) in
+      let in_part : D.degree s ≡ Some (D.up m) = (part.degrees s (D.up m)).1 (above ∙ ap Some (ap C.up same ∙ sym (part.embed_up m))) in
       false≢true (ap is_some (sym is ∙ in_part)))
 
   -- a chain of the part that is alive there is alive in the whole
@@ -46,7 +46,7 @@ module _ {G H : Type 0} (C : Complex G) (place : H → G) (D : Complex H) (part 
         cycle = sym (border-cells z cells) ∙ alive.cycle;
         cocycle = λ s. even_elsewhere laws m f of alive.cocycle s (D.degree s) refl;
         odd = alive.odd;
-        degree = (place m, (λ s h. (part.degrees s m).0 (of s h)), (t, in_z, (part.degrees t m).0 is));
+        degree = (embed m, (λ s h. (part.degrees s m).0 (of s h)), (t, in_z, (part.degrees t m).0 is));
       }
 
 -- ---- chains with no code in common

@@ -30,8 +30,8 @@ up_m_other d h = int_up_other d.0 (ap (λ p. p.0) h)
 
 -- ---- the part at a
 -- the bidegree with the Maslov degree m and the second degree a
-abbrev pub place : ℤ → ℤ → ℤ × ℤ
-place a m = (m, a)
+abbrev pub with_second : ℤ → ℤ → ℤ × ℤ
+with_second a m = (m, a)
 
 some_if : (b : Bool) (m n : ℤ) → cond b (Some m) None ≡ Some n → (b ≡ true) × (m ≡ n)
 some_if true m n e = (refl, same_some m n e)
@@ -51,11 +51,11 @@ module _ (a : ℤ) (C : Complex (ℤ × ℤ)) (up : C.up ≡ up_m) where
   no_value (Some m) h = absurd (h m refl)
 
   -- the cells at a second degree are a part of the complex
-  pub at_second_IsPartOf : IsPartOf C (place a) (at_second a C)
+  pub at_second_IsPartOf : IsPartOf C (with_second a) (at_second a C)
   at_second_IsPartOf = record {
-    place_one = λ m n e. ap (λ p. p.0) e;
-    place_up = λ m. sym (ap (λ u. u (m, a)) up);
-    place_down = λ m d e. let h : (m, a) ≡ up_m d = e ∙ ap (λ u. u d) up in (d.0, λ i. (d.0, (h i).1));
+    embed_one = λ m n e. ap (λ p. p.0) e;
+    embed_up = λ m. sym (ap (λ u. u (m, a)) up);
+    embed_down = λ m d e. let h : (m, a) ≡ up_m d = e ∙ ap (λ u. u d) up in (d.0, λ i. (d.0, (h i).1));
     degrees = λ s m. first_at-is a (C.degree s) m;
     targets = λ s m e. ap (λ b. cond b (C.targets s) nothing) (ap is_some e);
     no_targets = λ s none. ap (λ b. cond b (C.targets s) nothing) (no_value (first_at a (C.degree s)) none);
@@ -63,8 +63,8 @@ module _ (a : ℤ) (C : Complex (ℤ × ℤ)) (up : C.up ≡ up_m) where
 
   -- they are a complex of their own
   pub at_second_IsComplex : IsComplex C → IsComplex (at_second a C)
-  at_second_IsComplex laws = part_IsComplex C (place a) (at_second a C) at_second_IsPartOf laws
+  at_second_IsComplex laws = part_IsComplex C (with_second a) (at_second a C) at_second_IsPartOf laws
 
   -- its ranks are those of the whole at that second degree
   pub rank_at_second : (m : ℤ) (d : ℕ) → IsRank (at_second a C) m d ↔ IsRank C (m, a) d
-  rank_at_second m d = (rank_of_part C (place a) (at_second a C) at_second_IsPartOf m d, rank_to_part C (place a) (at_second a C) at_second_IsPartOf m d)
+  rank_at_second m d = (rank_of_part C (with_second a) (at_second a C) at_second_IsPartOf m d, rank_to_part C (with_second a) (at_second a C) at_second_IsPartOf m d)

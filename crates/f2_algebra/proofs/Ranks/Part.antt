@@ -9,47 +9,47 @@ use Rattle.f2_algebra.proofs.Chains.Sets.{holds-nothing}
 use Rattle.f2_algebra.proofs.Chains.Sums.{sum_over-same}
 use Rattle.f2_algebra.proofs.Cancelling.Cancellation.{same_some, border-nothing}
 
-module _ {G H : Type 0} (C : Complex G) (place : H → G) (D : Complex H) (part : IsPartOf C place D) where
+module _ {G H : Type 0} (C : Complex G) (embed : H → G) (D : Complex H) (part : IsPartOf C embed D) where
   -- a chain of a degree of the part has its degree in the whole
-  pub of_part : (m : H) (z : Chain) → AllOfDegree D m z → AllOfDegree C (place m) z
+  pub of_part : (m : H) (z : Chain) → AllOfDegree D m z → AllOfDegree C (embed m) z
   of_part m z of s h = (part.degrees s m).0 (of s h)
 
   -- and back
-  pub to_part : (m : H) (z : Chain) → AllOfDegree C (place m) z → AllOfDegree D m z
+  pub to_part : (m : H) (z : Chain) → AllOfDegree C (embed m) z → AllOfDegree D m z
   to_part m z of s h = (part.degrees s m).1 (of s h)
 
   -- the border in the part is that in the whole
   pub border-part : (m : H) (z : Chain) → AllOfDegree D m z → border D z ≡ border C z
   border-part m z of = sum_over-same z D.targets C.targets (λ s h. part.targets s m (of s h))
 
-  up-part : (m : H) (z : Chain) → AllOfDegree C (C.up (place m)) z → AllOfDegree D (D.up m) z
-  up-part m z of = to_part (D.up m) z (λ s h. of s h ∙ ap Some (sym (part.place_up m)))
+  up-part : (m : H) (z : Chain) → AllOfDegree C (C.up (embed m)) z → AllOfDegree D (D.up m) z
+  up-part m z of = to_part (D.up m) z (λ s h. of s h ∙ ap Some (sym (part.embed_up m)))
 
-  up-whole : (m : H) (z : Chain) → AllOfDegree D (D.up m) z → AllOfDegree C (C.up (place m)) z
-  up-whole m z of s h = of_part (D.up m) z of s h ∙ ap Some (part.place_up m)
+  up-whole : (m : H) (z : Chain) → AllOfDegree D (D.up m) z → AllOfDegree C (C.up (embed m)) z
+  up-whole m z of s h = of_part (D.up m) z of s h ∙ ap Some (part.embed_up m)
 
   -- a cycle of the part is one of the whole
-  pub cycle_of_part : (m : H) (z : Chain) → IsCycle D m z → IsCycle C (place m) z
+  pub cycle_of_part : (m : H) (z : Chain) → IsCycle D m z → IsCycle C (embed m) z
   cycle_of_part m z c = (of_part m z c.0, sym (border-part m z c.0) ∙ c.1)
 
   -- and back
-  pub cycle_to_part : (m : H) (z : Chain) → IsCycle C (place m) z → IsCycle D m z
+  pub cycle_to_part : (m : H) (z : Chain) → IsCycle C (embed m) z → IsCycle D m z
   cycle_to_part m z c = let of = to_part m z c.0 in (of, border-part m z of ∙ c.1)
 
   -- a boundary of the part is one of the whole
-  pub boundary_of_part : (m : H) (z : Chain) → IsBoundary D m z → IsBoundary C (place m) z
+  pub boundary_of_part : (m : H) (z : Chain) → IsBoundary D m z → IsBoundary C (embed m) z
   boundary_of_part m z (w, of, e) = (w, up-whole m w of, sym (border-part (D.up m) w of) ∙ e)
 
   -- and back
-  pub boundary_to_part : (m : H) (z : Chain) → IsBoundary C (place m) z → IsBoundary D m z
+  pub boundary_to_part : (m : H) (z : Chain) → IsBoundary C (embed m) z → IsBoundary D m z
   boundary_to_part m z (w, of, e) = let on = up-part m w of in (w, on, border-part (D.up m) w on ∙ e)
 
   -- a rank of the part is one of the whole
-  pub rank_of_part : (m : H) (d : ℕ) → IsRank D m d → IsRank C (place m) d
+  pub rank_of_part : (m : H) (d : ℕ) → IsRank D m d → IsRank C (embed m) d
   rank_of_part m d (hs, b, l) = (
     hs,
     record {
-      cycles = All-weaker (IsCycle D m) (IsCycle C (place m)) (cycle_of_part m) hs b.cycles;
+      cycles = All-weaker (IsCycle D m) (IsCycle C (embed m)) (cycle_of_part m) hs b.cycles;
       one_subset = λ z c.
           let (ps, (n, is), one) = b.one_subset z (cycle_to_part m z c) in
           (ps, (n, boundary_of_part m _ is), λ qs f. one qs (f.0, boundary_to_part m _ f.1));
@@ -58,11 +58,11 @@ module _ {G H : Type 0} (C : Complex G) (place : H → G) (D : Complex H) (part 
   )
 
   -- and back
-  pub rank_to_part : (m : H) (d : ℕ) → IsRank C (place m) d → IsRank D m d
+  pub rank_to_part : (m : H) (d : ℕ) → IsRank C (embed m) d → IsRank D m d
   rank_to_part m d (hs, b, l) = (
     hs,
     record {
-      cycles = All-weaker (IsCycle C (place m)) (IsCycle D m) (cycle_to_part m) hs b.cycles;
+      cycles = All-weaker (IsCycle C (embed m)) (IsCycle D m) (cycle_to_part m) hs b.cycles;
       one_subset = λ z c.
           let (ps, (n, is), one) = b.one_subset z (cycle_of_part m z c) in
           (ps, (n, boundary_to_part m _ is), λ qs f. one qs (f.0, boundary_of_part m _ f.1));
@@ -73,9 +73,9 @@ module _ {G H : Type 0} (C : Complex G) (place : H → G) (D : Complex H) (part 
   lowers_at : IsComplex C → (s t : ℕ) (m : H) → D.degree s ≡ Some m → arrow D s t ≡ true → IsAbove D s t
   lowers_at laws s t m e a =
       let (n, above, below) = laws.lowers s t (ap (λ z. holds z t) (sym (part.targets s m e)) ∙ a) in
-      let (k, is) = part.place_down m n (same_some _ _ (sym ((part.degrees s m).0 e) ∙ above)) in
-      let same : place m ≡ place (D.up k) = same_some _ _ (sym ((part.degrees s m).0 e) ∙ above) ∙ ap C.up (sym is) ∙ sym (part.place_up k) in
-      (k, e ∙ ap Some (part.place_one _ _ same), (part.degrees t k).1 (below ∙ ap Some (sym is)))
+      let (k, is) = part.embed_down m n (same_some _ _ (sym ((part.degrees s m).0 e) ∙ above)) in
+      let same : embed m ≡ embed (D.up k) = same_some _ _ (sym ((part.degrees s m).0 e) ∙ above) ∙ ap C.up (sym is) ∙ sym (part.embed_up k) in
+      (k, e ∙ ap Some (part.embed_one _ _ same), (part.degrees t k).1 (below ∙ ap Some (sym is)))
 
   no_cell : (s : ℕ) → D.degree s ≡ None → D.targets s ≡ nothing
   no_cell s e = part.no_targets s (λ m is. false≢true (ap is_some (sym e ∙ is)))
@@ -93,8 +93,8 @@ module _ {G H : Type 0} (C : Complex G) (place : H → G) (D : Complex H) (part 
   -- a part of a complex is a complex
   pub part_IsComplex : IsComplex C → IsComplex D
   part_IsComplex laws = record {
-    up_one = λ m n e. part.place_one m n (laws.up_one _ _ (sym (part.place_up m) ∙ ap place e ∙ part.place_up n));
-    up_other = λ m e. laws.up_other (place m) (sym (part.place_up m) ∙ ap place e);
+    up_one = λ m n e. part.embed_one m n (laws.up_one _ _ (sym (part.embed_up m) ∙ ap embed e ∙ part.embed_up n));
+    up_other = λ m e. laws.up_other (embed m) (sym (part.embed_up m) ∙ ap embed e);
     lowers = λ s t a. lowers_by laws s t (D.degree s) refl a;
     squares = λ s. squares_by laws s (D.degree s) refl;
   }

@@ -78,7 +78,7 @@ one_rank C m d e a b =
     omega (arith, a.2, b.2)
 
 -- ---- the cells of the last complex, where it has no arrow
--- the sum of the codes that the marks pick
+-- the sum of the codes that the truth values pick
 pub chosen : List Bool → List ℕ → Chain
 chosen ps xs = total (items_where_true ps (map single xs))
 
@@ -138,19 +138,19 @@ in_rest : (b c : Bool) → ((b && false) ⊻ c) ≡ c
 in_rest true c = refl
 in_rest false c = refl
 
--- the marks are told by the chain
-pub chosen-marks : (ps : List Bool) (xs : List ℕ) → length ps ≡ length xs → IsApart xs → map (holds (chosen ps xs)) xs ≡ ps
-chosen-marks [] [] l apart = refl
-chosen-marks [] (x ∷ xs) l apart = absurd (omega arith)
-chosen-marks (b ∷ ps) [] l apart = absurd (omega arith)
-chosen-marks (b ∷ ps) (x ∷ xs) l apart =
+-- the picks are told by the chain
+pub chosen-picks : (ps : List Bool) (xs : List ℕ) → length ps ≡ length xs → IsApart xs → map (holds (chosen ps xs)) xs ≡ ps
+chosen-picks [] [] l apart = refl
+chosen-picks [] (x ∷ xs) l apart = absurd (omega arith)
+chosen-picks (b ∷ ps) [] l apart = absurd (omega arith)
+chosen-picks (b ∷ ps) (x ∷ xs) l apart =
     ap₂ ◌∷◌
     (holds-chosen b ps x xs x ∙ ap₂ (λ e c. (b && e) ⊻ c) (eq-eqb x x refl) (none_where _ (λ h. true≢false (sym (chosen-in ps xs x h) ∙ apart.0))) ∙ at_head b)
     (map-same _ (holds (chosen ps xs)) xs (λ s i.
     holds-chosen b ps x xs s
     ∙ ap (λ e. (b && e) ⊻ holds (chosen ps xs) s) (none_where (eqb s x) (λ h. true≢false (sym i ∙ ap (λ t. any t xs) (eqb-true s x h) ∙ apart.0)))
     ∙ in_rest b _)
-    ∙ chosen-marks ps xs (omega arith) apart.1)
+    ∙ chosen-picks ps xs (omega arith) apart.1)
 
 all_of : (P : ℕ → Type 0) (xs : List ℕ) → ((s : ℕ) → any s xs ≡ true → P s) → All P xs
 all_of P [] h = All-nil P
@@ -179,25 +179,25 @@ module _ {G : Type 0} (C : Complex G) (laws : IsComplex C) (log : List Entry) (s
   sum_lifted (true ∷ ps) (x ∷ xs) = ap (λ c. lift log (single x) ⊕ c) (sum_lifted ps xs) ∙ sym (lift-linear log (single x) _)
   sum_lifted (false ∷ ps) (x ∷ xs) = sum_lifted ps xs
 
-  marks_of : Chain → List Bool
-  marks_of z = map (holds (rest log z)) (codes cells)
+  picks_of : Chain → List Bool
+  picks_of z = map (holds (rest log z)) (codes cells)
 
   kept : (c h : Bool) → (h ≡ true → c ≡ true) → (c && h) ≡ h
   kept true h f = refl
   kept false true f = f refl
   kept false false f = refl
 
-  chosen-rest : (z : Chain) → AllOfDegree C m z → chosen (marks_of z) (codes cells) ≡ rest log z
-  unfolding marks_of
+  chosen-rest : (z : Chain) → AllOfDegree C m z → chosen (picks_of z) (codes cells) ≡ rest log z
+  unfolding picks_of
   chosen-rest z of = same_chain _ _ (λ q.
       chosen-holds (holds (rest log z)) (codes cells) q (IsApart-codes cells)
       ∙ ap (λ b. b && holds (rest log z) q) (sym (holds-codes cells q))
       ∙ kept (holds cells q) (holds (rest log z) q) (λ h. let (t, in_z, same) = rest_degrees C laws log stands z q h in (all q).1 (sym same ∙ of t in_z)))
 
-  total_lifted : (z : Chain) → AllOfDegree C m z → total (items_where_true (marks_of z) (map lifted (codes cells))) ≡ lift log (rest log z)
-  total_lifted z of = sum_lifted (marks_of z) (codes cells) ∙ ap (lift log) (chosen-rest z of)
+  total_lifted : (z : Chain) → AllOfDegree C m z → total (items_where_true (picks_of z) (map lifted (codes cells))) ≡ lift log (rest log z)
+  total_lifted z of = sum_lifted (picks_of z) (codes cells) ∙ ap (lift log) (chosen-rest z of)
 
-  fills : (z : Chain) → IsCycle C m z → IsBoundary C m (z ⊕ total (items_where_true (marks_of z) (map lifted (codes cells))))
+  fills : (z : Chain) → IsCycle C m z → IsBoundary C m (z ⊕ total (items_where_true (picks_of z) (map lifted (codes cells))))
   fills z c = (
     correction_by log z,
     λ s h. let (t, in_z, (k, above, below)) = correction_degrees C laws log stands z s h in above ∙ ap (λ j. Some (C.up j)) (same_some k m (sym below ∙ c.0 t in_z)),
@@ -210,8 +210,8 @@ module _ {G : Type 0} (C : Complex G) (laws : IsComplex C) (log : List Entry) (s
   chosen_cells : (ps : List Bool) → AllCells (after C log) (chosen ps (codes cells))
   chosen_cells ps q h = ap is_some (is_cell q (chosen-in ps (codes cells) q h))
 
-  unique : (z : Chain) → IsCycle C m z → (ps : List Bool) → IsFilledBy C m (map lifted (codes cells)) z ps → ps ≡ marks_of z
-  unfolding marks_of
+  unique : (z : Chain) → IsCycle C m z → (ps : List Bool) → IsFilledBy C m (map lifted (codes cells)) z ps → ps ≡ picks_of z
+  unfolding picks_of
   unique z c ps (l, (w, _, bounds)) =
       let xs = codes cells in
       let no_rest : rest log z ⊕ chosen ps xs ≡ nothing =
@@ -221,15 +221,15 @@ module _ {G : Type 0} (C : Complex G) (laws : IsComplex C) (log : List Entry) (s
       ∙ rest_border C laws log stands w
       ∙ border-no_arrow (after C log) bare (rest log w)
       in
-      sym (chosen-marks ps xs (l ∙ length-map xs lifted) (IsApart-codes cells))
+      sym (chosen-picks ps xs (l ∙ length-map xs lifted) (IsApart-codes cells))
       ∙ ap (λ u. map (holds u) xs) (sym (same_of_sum (rest log z) (chosen ps xs) no_rest))
 
   -- where no arrow is left, the lifts of the cells of a degree are a basis
   pub basis_of_log : IsBasis C m (map lifted (codes cells))
-  unfolding marks_of
+  unfolding picks_of
   basis_of_log = record {
     cycles = All-map (IsCycle C m) lifted (codes cells) (all_of _ (codes cells) cycle_lifted);
-    one_subset = λ z c. (marks_of z, (length-map (codes cells) (holds (rest log z)) ∙ sym (length-map (codes cells) lifted), fills z c), unique z c);
+    one_subset = λ z c. (picks_of z, (length-map (codes cells) (holds (rest log z)) ∙ sym (length-map (codes cells) lifted), fills z c), unique z c);
   }
 
   -- the rank in degree m is the number of cells of degree m that are left
