@@ -19,7 +19,7 @@ ListsOnce-without xs test x l = record {
 }
 
 -- what is in a list is found there
-any-member : (xs : List ℕ) (s : ℕ) → Contains xs s → any s xs ≡ true
+pub any-member : (xs : List ℕ) (s : ℕ) → Contains xs s → any s xs ≡ true
 any-member [] s m = absurd (no_member s m)
 any-member (x ∷ xs) s m = elim (member_cases x xs s m) [
   | inl e ↦ ap (λ b. b || any s xs) (eq-eqb s x (sym e))

@@ -1,9 +1,6 @@
 -- What one cancelled arrow adds to a log, and why the cancelling of arrows ends: two live codes leave
 -- each time.
 use Rattle.std.proofs.Common.{◌≡◌, ℕ, zero, suc, ℤ, ◌+◌, ◌<◌, Bool, true, false, not, cond, ◌&&◌, ◌||◌, eqb, List, [], ◌∷◌, ◌++◌, Option, Some, None, is_some, refl, sym, ap, subst, ◌∙◌, arith}
-use Rattle.std.specs.declared.result.Result.{Result}
-use Rattle.std.specs.declared.result.Result.TheVariants.{Ok, Err}
-use Rattle.std.specs.Result.{OnErr}
 use Rattle.std.specs.List.{All}
 use Rattle.std.specs.FinMap as fin
 use Rattle.std.proofs.lemmas.Bool.{false≢true}
@@ -51,11 +48,6 @@ LeadsTo-push first now next entries e so_far fits once left = record {
     alone : All HasEachOnce (e ∷ [])
     alone zero d l = once
     alone (suc k) d l = absurd (omega arith)
-
--- what holds is left after an error too
-pub on_err-from : {T E P : Type 0} (r : Result T E) → P → OnErr r P
-on_err-from (Ok v) p = tt
-on_err-from (Err e) p = p
 
 -- what is left when a log breaks off
 pub LeadsTo_IsLeftOf : (first now next : Slice) (entries : List LogEntry) → LeadsTo first now entries → next ≡ now → IsLeftOf first next

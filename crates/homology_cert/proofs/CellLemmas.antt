@@ -1,41 +1,37 @@
 -- The cells that are left of a slice: how many there are of each degree is the rank in that degree.
-use Rattle.std.proofs.Common.{◌≡◌, ◌≢◌, ◌||◌, eqb, inl, inr, ℕ, zero, suc, ◌<◌, ◌≤◌, ◌^◌, ℤ, pos, Bool, true, false, List, [], ◌∷◌, map, length, get_or, Contains, AllPairs, Some, is_some, refl, sym, ap, subst, ◌∙◌, arith}
+use Rattle.std.proofs.Common.{◌≡◌, ◌≢◌, inl, inr, ℕ, ◌<◌, ◌≤◌, ℤ, Bool, true, false, List, [], ◌∷◌, map, length, get_or, Contains, AllPairs, Some, is_some, refl, sym, ap, subst, ◌∙◌, arith}
 use Rattle.std.specs.List.{filter}
 use Rattle.std.specs.Ordering.{int_eq}
-use Rattle.std.proofs.lemmas.Bool.{eq-eqb, eqb-true, cases_lt}
+use Rattle.std.proofs.lemmas.Bool.{eqb-true, cases_lt}
 use Rattle.std.proofs.lemmas.Bool.Decides.{Decides-int_eq}
 use Rattle.std.proofs.lemmas.List.{length-map}
 use Rattle.std.proofs.lemmas.List.Elements.{Contains-get_or}
 use Rattle.std.proofs.lemmas.Map.Views.{Contains-from_any}
-use Rattle.f2_algebra.specs.Chain.{Chain, holds, codes, of_codes}
+use Rattle.f2_algebra.specs.Chain.{codes, of_codes}
 use Rattle.f2_algebra.specs.Complex.{Complex}
 use Rattle.f2_algebra.specs.Cancel.{Entry}
 use Rattle.f2_algebra.specs.Certificate.{IsAllCells}
+<<<<<<< HEAD
 use Rattle.f2_algebra.proofs.Ranks.Pigeonhole.{pigeonhole}
 use Rattle.f2_algebra.proofs.Chains.Sets.{any, holds-of_codes, IsApart, cardinality-length, cardinality-of_codes}
 use Rattle.state_rank.specs.declared.TheConstants.{MAX_SIZE}
+=======
+use Rattle.f2_algebra.proofs.Ranks.Pigeonhole.{pigeonhole}
+use Rattle.f2_algebra.proofs.Chains.Sets.{any, holds-of_codes, IsApart, cardinality-length, cardinality-of_codes}
+>>>>>>> f007a1f (cancel, homology_cert: lemmas on lists and visits stand once)
 use Rattle.state_rank.specs.States.{factorial}
-use Rattle.state_rank.proofs.LehmerLemmas.{factorial_grows}
-use Rattle.state_rank.proofs.MemberLemmas.{member_cases, member_head, member_tail, no_member, Contains-map, member_of_map, Contains-filter, member_of_filter, pairs_head, pairs_tail, pairs_map, pairs_filter}
+use Rattle.state_rank.proofs.MemberLemmas.{Contains-map, member_of_map, Contains-filter, member_of_filter, pairs_head, pairs_tail, pairs_map, pairs_filter}
 use Rattle.torus_geom.specs.Marks.{Marks, size, IsGrid}
 use Rattle.torus_geom.specs.Homology.{IsHomologyRank}
 use Rattle.sparse_complex.specs.declared.slices.Cell.{Cell}
 use Rattle.sparse_complex.specs.Slices.{ListsCells}
+use Rattle.sparse_complex.specs.Inner.Graph.{no_cell}
+use Rattle.sparse_complex.proofs.BuildLemmas.{factorial_fits}
+use Rattle.cancel.proofs.ListLemmas.{any-member}
 use Rattle.homology_cert.specs.Inner.Ranks.{degree_count, HasRanks}
 use Rattle.homology_cert.proofs.SliceRanks.{IsReduction, left-below, rank_of_reduction}
 
--- ---- lists without repetition
-any-member : (xs : List ℕ) (s : ℕ) → Contains xs s → any s xs ≡ true
-any-member [] s m = absurd (no_member s m)
-any-member (x ∷ xs) s m = elim (member_cases x xs s m) [
-  | inl e ↦ ap (λ b. b || any s xs) (eq-eqb s x (sym e))
-  | inr t ↦ ap (λ b. eqb s x || b) (any-member xs s t) ∙ either (eqb s x)
-]
-  where
-    either : (b : Bool) → (b || true) ≡ true
-    either true = refl
-    either false = refl
-
+-- a list in which no code comes twice
 IsApart-pairs : (xs : List ℕ) → AllPairs (λ b c. b ≢ c) xs → IsApart xs
 IsApart-pairs [] p = tt
 IsApart-pairs (x ∷ xs) p = (none (any x xs) refl, IsApart-pairs xs (pairs_tail (λ b c. b ≢ c) x xs p))
@@ -85,9 +81,6 @@ module _ (C : Complex ℤ) (cells : List Cell) (listed : ListsCells C cells) whe
   few_cells : (n : ℕ) → ((s : ℕ) → is_some (C.degree s) ≡ true → s < n) → length cells ≤ n
   few_cells n below = pigeonhole (length cells) n (λ i. (get_or cells i no_cell).code) into one
     where
-      no_cell : Cell
-      no_cell = record { code = 0; maslov = pos 0 }
-
       into : (i : ℕ) → i < length cells → (get_or cells i no_cell).code < n
       into i l = below _ (ap is_some ((listed.each (get_or cells i no_cell)).0 (Contains-get_or cells i no_cell l)))
 
@@ -100,17 +93,12 @@ module _ (C : Complex ℤ) (cells : List Cell) (listed : ListsCells C cells) whe
         ]
       ]
 
--- the number of states is a number of 32 bits
-few_states : (n : ℕ) → n ≤ MAX_SIZE → factorial n < 2 ^ 32
-unfolding factorial
-few_states n m = let grown = factorial_grows n MAX_SIZE m in omega arith
-
 -- the cells that a reduction leaves count the ranks
 pub ranks_of_cells : (g : Marks) → IsGrid g → (a : ℤ) (left : Complex ℤ) (log : List Entry) (cells : List Cell) → IsReduction g a left log → ListsCells left cells → HasRanks g a cells
 ranks_of_cells g grid a left log cells reduced listed = record {
   ranks = λ m. subst (IsHomologyRank g m a) (length-all_cells left cells listed m) (rank_of_reduction g grid a left log reduced m (of_codes (codes_at m cells)) (all_cells left cells listed m));
   few =
       let most = few_cells left cells listed (factorial (size g)) (left-below g grid a left log reduced) in
-      let states = few_states (size g) grid.is_size.greatest in
+      let states = factorial_fits (size g) grid.is_size.greatest in
       omega arith;
 }

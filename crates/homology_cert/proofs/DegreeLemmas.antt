@@ -1,35 +1,14 @@
 -- The Alexander degrees of the states that were visited.
-use Rattle.std.proofs.Common.{◌≡◌, ℕ, ◌+◌, ◌<◌, ◌≤◌, ℤ, neg_ℤ, pos, ◌≤ℤ◌, Bool, true, false, not, cond, List, length, IsTrue, ◌↔◌, refl, sym, ap, subst, ◌∙◌, arith, below_more}
+use Rattle.std.proofs.Common.{◌≡◌, ℕ, ◌+◌, ◌<◌, ℤ, Bool, true, false, cond, refl, ap, subst, ◌∙◌, arith, below_more}
 use Rattle.std.specs.Ordering.{int_cmp, is_eq}
 use Rattle.std.specs.BTreeSet as sorted
 use Rattle.std.specs.BTreeSet.{BTreeSet}
 use Rattle.std.proofs.lemmas.Cmp.{int_cmp_total, tied_itself}
-use Rattle.state_rank.specs.States.{factorial, rank, unrank}
-use Rattle.state_rank.proofs.RankLemmas.{length-unrank, rank-unrank}
+use Rattle.state_rank.specs.States.{factorial, unrank}
 use Rattle.torus_geom.specs.Marks.{Marks, size}
 use Rattle.torus_geom.specs.Degrees.{maslov_o, alexander}
 use Rattle.homology_cert.specs.Tables.{IsSmallDegree}
 use Rattle.homology_cert.specs.Inner.Ranks.{AreSmall, HasDegrees}
-
--- while states are left, x is the state of the rank `code`
-abbrev pub IsVisited : ℕ → ℕ → List ℕ → Type 0
-IsVisited n code x = code < factorial n → x ≡ unrank n code
-
--- the state after a step, or the last state, where there is no step
-pub visited-next : (n code : ℕ) (old new : List ℕ) (went : Bool) → code < factorial n → IsVisited n code old
-    → (IsTrue went → new ≡ unrank (length old) (rank old + 1)) → (IsTrue (not went) ↔ (rank old + 1 ≡ factorial (length old))) → IsVisited n (code + 1) new
-visited-next n code old new went below visited steps last more =
-    let old_is = visited below in
-    let long : length old ≡ n = ap length old_is ∙ length-unrank n code below in
-    let place : rank old ≡ code = ap rank old_is ∙ rank-unrank n code below in
-    steps (by went last long place) ∙ (λ i. unrank (long i) (place i + 1))
-  where
-    by : (b : Bool) → (IsTrue (not b) ↔ (rank old + 1 ≡ factorial (length old))) → length old ≡ n → rank old ≡ code → IsTrue b
-    by true last long place = refl
-    by false last long place =
-        let end : rank old + 1 ≡ factorial (length old) = last.0 refl in
-        let bound : factorial (length old) ≡ factorial n = ap factorial long in
-        absurd (omega arith)
 
 -- before the first state there is none
 pub degrees-none : (g : Marks) (degrees : BTreeSet ℤ) → HasDegrees g 0 degrees

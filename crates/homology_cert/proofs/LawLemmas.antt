@@ -1,8 +1,7 @@
 -- Laws of the ranks and the tables of a grid: in each bidegree there is a rank, and a grid has one table.
-use Rattle.std.proofs.Common.{◌≡◌, ℕ, zero, suc, ◌<◌, ℤ, Bool, true, false, ◌&&◌, ◌||◌, eqb, List, [], ◌∷◌, Contains, AllPairs, Some, None, if◌then◌else◌, is_some, ◌↔◌, ◌⊎◌, inl, inr, refl, sym, ap, ap₂, subst, ◌∙◌, arith}
-use Rattle.std.specs.Prelude.{◌<ℤ◌}
+use Rattle.std.proofs.Common.{◌≡◌, ℕ, zero, suc, ◌<◌, ℤ, Bool, true, false, ◌&&◌, ◌||◌, eqb, List, [], ◌∷◌, Contains, AllPairs, Some, None, if◌then◌else◌, is_some, ◌↔◌, inl, inr, refl, sym, ap, subst, ◌∙◌, arith}
 use Rattle.std.specs.Ordering.{int_eq}
-use Rattle.std.proofs.lemmas.Bool.{cases_eq, eq-eqb, ltb-true, false≢true, and_parts, and_from}
+use Rattle.std.proofs.lemmas.Bool.{cases_eq, eq-eqb, ltb-true, and_parts, and_from}
 use Rattle.std.proofs.lemmas.Bool.Decides.{Decides-int_eq}
 use Rattle.std.proofs.lemmas.Int.{ints}
 use Rattle.f2_algebra.proofs.Ranks.Existence.{exists_rank}
@@ -13,8 +12,12 @@ use Rattle.torus_geom.specs.Marks.{Marks, size, IsGrid}
 use Rattle.torus_geom.specs.Degrees.{bidegree}
 use Rattle.torus_geom.specs.GridComplex.{grid_complex}
 use Rattle.torus_geom.specs.Homology.{IsHomologyRank, IsHomologyTable, Row, StandsBefore}
+<<<<<<< HEAD
 use Rattle.rectangles.proofs.Law.GridComplexLemmas.{grid_complex_rules}
 use Rattle.homology_cert.proofs.TableLemmas.{state_degree}
+=======
+use Rattle.rectangles.proofs.Law.GridComplexLemmas.{grid_complex_rules}
+>>>>>>> f007a1f (cancel, homology_cert: lemmas on lists and visits stand once)
 
 -- ---- each bidegree has a rank
 same_bidegree : ℤ × ℤ → ℤ × ℤ → Bool

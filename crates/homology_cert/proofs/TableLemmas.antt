@@ -1,6 +1,6 @@
 -- The table of a grid: from the map of its ranks to rows in order. Each Alexander degree of a state is done
 -- in turn; at the others no state stands, so each rank there is 0.
-use Rattle.std.proofs.Common.{◌≡◌, ℕ, ◌+◌, ◌-◌, ◌<◌, ◌^◌, ℤ, pos, neg_ℤ, ◌+ℤ◌, ◌≤ℤ◌, Bool, true, false, List, [], ◌∷◌, ◌++◌, map, reverse, length, get_or, All, AllPairs, Contains, IsTrue, Option, Some, None, if◌then◌else◌, ◌⊎◌, inl, inr, refl, sym, ap, subst, ◌∙◌, arith}
+use Rattle.std.proofs.Common.{◌≡◌, ℕ, ◌-◌, ◌<◌, ◌^◌, ℤ, pos, neg_ℤ, ◌≤ℤ◌, Bool, true, false, List, [], ◌∷◌, map, reverse, length, get_or, All, AllPairs, Contains, IsTrue, Option, Some, None, if◌then◌else◌, ◌⊎◌, inl, inr, refl, sym, ap, subst, ◌∙◌, arith}
 use Rattle.std.specs.Prelude.{◌<ℤ◌, int_lt, is_some}
 use Rattle.std.specs.List.{AllByRecursion}
 use Rattle.std.specs.List.Sorted.{IsStrictlySortedBy}
@@ -10,8 +10,6 @@ use Rattle.std.specs.Ordering.{int_cmp, int_eq, is_lt, ordering_then}
 use Rattle.std.specs.declared.cmp.Ordering.{Ordering}
 use Rattle.std.specs.declared.cmp.Ordering.TheVariants.{Less, Equal, Greater}
 use Rattle.std.specs.BTreeMap as tree
-use Rattle.std.specs.BTreeMap.{BTreeMap}
-use Rattle.std.specs.BTreeSet as sorted
 use Rattle.std.specs.BTreeSet.{BTreeSet}
 use Rattle.std.proofs.lemmas.Bool.{cases_Bool, false≢true, ltb-true}
 use Rattle.std.proofs.lemmas.Bool.Decides.{Decides-int_eq}
@@ -37,7 +35,7 @@ use Rattle.torus_geom.specs.Homology.{IsHomologyRank, IsHomologyTable, Row, Stan
 use Rattle.sparse_complex.specs.declared.slices.Cell.{Cell}
 use Rattle.hat_division.specs.Table.{comes_before, IsTable}
 use Rattle.hat_division.specs.declared.tables.TableRow.{TableRow}
-use Rattle.homology_cert.specs.Tables.{homology_row, IsSmallDegree, HasSmallDegrees, HasSmallRank}
+use Rattle.homology_cert.specs.Tables.{homology_row, IsSmallDegree, HasSmallDegrees}
 use Rattle.homology_cert.specs.Inner.Ranks.{degree_cmp, Ranks, rank_in, row_of, AreSmall, HasHomology, HasDegrees, HasRanks, AreCounted, IsTold, IsDone, AreReversed, AreRows}
 use Rattle.homology_cert.proofs.CountLemmas.{degree_cmp_total, exact_degrees, told-counted, told-other}
 use Rattle.homology_cert.proofs.SliceRanks.{one_homology_rank}

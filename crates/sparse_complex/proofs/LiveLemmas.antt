@@ -1,5 +1,5 @@
 -- The cells of live codes, found place by place: a cell is live where its code has its place as key.
-use Rattle.std.proofs.Common.{◌≡◌, ◌≢◌, ℕ, ℤ, ◌+◌, ◌<◌, ◌≤◌, Bool, true, false, cond, List, [], ◌∷◌, ◌++◌, length, get_or, Option, Some, None, is_some, Contains, AllPairs, inl, inr, refl, sym, ap, subst, ◌∙◌, arith}
+use Rattle.std.proofs.Common.{◌≡◌, ◌≢◌, ℕ, ℤ, ◌+◌, ◌<◌, Bool, true, false, cond, List, [], ◌∷◌, ◌++◌, length, get_or, Option, Some, None, is_some, Contains, inl, inr, refl, sym, ap, subst, ◌∙◌, arith}
 use Rattle.std.proofs.lemmas.Bool.{false≢true}
 use Rattle.std.proofs.lemmas.List.Elements.{Contains-get_or, Contains-append_left, Contains-append_right, Contains-append_cases}
 use Rattle.std.proofs.lemmas.List.Quantifiers.{all_pairs_push}
@@ -8,8 +8,8 @@ use Rattle.state_rank.proofs.MemberLemmas.{member_cases, member_head, no_member}
 use Rattle.sparse_complex.specs.declared.links.Links.{Links}
 use Rattle.sparse_complex.specs.declared.slices.Cell.{Cell}
 use Rattle.sparse_complex.specs.Slices.{ListsCells}
-use Rattle.sparse_complex.specs.Inner.Graph.{width, no_cell, code_at}
-use Rattle.sparse_complex.specs.Inner.Kept.{no_key, key_of, is_live, maslov_at, slice_of, IsStored, ListsLive}
+use Rattle.sparse_complex.specs.Inner.Graph.{no_cell, code_at}
+use Rattle.sparse_complex.specs.Inner.Kept.{key_of, is_live, maslov_at, slice_of, IsStored, ListsLive}
 use Rattle.sparse_complex.proofs.GraphLemmas.{lt_or_eq}
 use Rattle.sparse_complex.proofs.KeptLemmas.{live_is, degree-live, degree-slice_of}
 

@@ -50,9 +50,7 @@ impl Links {
         if room >= MOST_NODES - self.pool.live().min(MOST_NODES) {
             return Err(NoMemory);
         }
-        if self.pool.reserve(room).is_err() {
-            return Err(NoMemory);
-        }
+        self.pool.reserve(room)?;
         Ok(())
     }
 

@@ -15,7 +15,7 @@
 --     IsDone g left ranks           it has the ranks but at the degrees of the list, where it has nothing
 --     AreReversed xs ys             ys is xs in the other order
 --     AreRows g rows                the rows are those of the table of the grid, in order
-use Rattle.std.specs.Prelude.{◌≡◌, ◌↔◌, ℕ, ◌^◌, ◌<◌, true, List, length, map, IsTrue, ℤ}
+use Rattle.std.specs.Prelude.{◌≡◌, ◌↔◌, ℕ, ◌^◌, ◌<◌, true, List, length, IsTrue, ℤ}
 use Rattle.std.specs.List.{All, AllPairs, Contains, ReversedBelow, filter}
 use Rattle.std.specs.Option.{unwrap_or, IfSome}
 use Rattle.std.specs.Ordering.{int_cmp, int_eq, ordering_then}

@@ -3,7 +3,8 @@ use Rattle.std.proofs.Common.{◌++◌, ◌∷◌, [], refl, subst, sym, ◌∙�
 use Rattle.std.specs.List.{All}
 use Rattle.f2_algebra.specs.Slice.{IsReduced}
 use Rattle.cancel.specs.Logs.{log_of, HasEachOnce}
-use Rattle.cancel.proofs.ReductionLemmas.{LeadsTo, LeadsTo-push, LeadsTo_IsReduced, LeadsTo_IsLeftOf, live_count_falls, on_err-from}
+use Rattle.sparse_complex.proofs.QueryLemmas.{on_err-from}
+use Rattle.cancel.proofs.ReductionLemmas.{LeadsTo, LeadsTo-push, LeadsTo_IsReduced, LeadsTo_IsLeftOf, live_count_falls}
 use Rattle.cancel.proofs.reductions.cancel_all.Goals as goal
 
 pub loop-arrow-smaller : goal.loop-arrow-smaller

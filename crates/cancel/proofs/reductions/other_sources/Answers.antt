@@ -1,5 +1,5 @@
 -- The sources are listed once, and one of them is taken out.
-use Rattle.std.proofs.Common.{◌≡◌, ◌≢◌, ℕ, not, ◌&&◌, eqb, List, sym, subst, ◌∙◌}
+use Rattle.std.proofs.Common.{◌≡◌, ◌≢◌, ℕ, not, ◌&&◌, eqb, sym, subst, ◌∙◌}
 use Rattle.std.specs.List.{AllPairs}
 use Rattle.std.proofs.lemmas.Result.{IfOk-weaker}
 use Rattle.f2_algebra.specs.Chain.{holds, of_codes}

@@ -1,5 +1,5 @@
 -- Each state is visited, and adds its Alexander degree.
-use Rattle.std.proofs.Common.{◌≡◌, ◌+◌, ◌<◌, ℤ, true, cond, w32, length, ap, sym, ◌∙◌, rules, subst, arith}
+use Rattle.std.proofs.Common.{◌≡◌, ◌<◌, ℤ, true, cond, w32, length, ap, sym, ◌∙◌, rules, subst, arith}
 use mir.Val.{SFits}
 use Rattle.std.specs.Ordering.{int_cmp, is_eq}
 use Rattle.std.specs.BTreeSet as sorted
@@ -7,11 +7,11 @@ use Rattle.std.proofs.lemmas.Int.{to_z-of_z}
 use Rattle.state_rank.specs.States.{factorial, unrank}
 use Rattle.state_rank.proofs.LehmerLemmas.{factorial_positive}
 use Rattle.state_rank.proofs.RankLemmas.{length-unrank}
-use Rattle.torus_geom.specs.Marks.{Marks, size}
+use Rattle.torus_geom.specs.Marks.{size}
 use Rattle.torus_geom.specs.Degrees.{maslov_o, alexander}
-use Rattle.homology_cert.specs.Tables.{IsSmallDegree}
 use Rattle.homology_cert.specs.Inner.Ranks.{HasDegrees}
-use Rattle.homology_cert.proofs.DegreeLemmas.{visited-next, degrees-none, degrees-next}
+use Rattle.sparse_complex.proofs.BuildLemmas.{visited-next}
+use Rattle.homology_cert.proofs.DegreeLemmas.{degrees-none, degrees-next}
 use Rattle.homology_cert.proofs.degrees.alexander_degrees.Goals as goal
 
 pub unrank-x-requires-clause-rank : goal.unrank-x-requires-clause-rank

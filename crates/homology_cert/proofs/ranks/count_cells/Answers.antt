@@ -1,7 +1,7 @@
 -- Each cell is one more of its degree.
-use Rattle.std.proofs.Common.{◌≡◌, ℕ, ◌+◌, ◌<◌, ◌^◌, ℤ, cond, take, length, get_or, Some, w32, sym, ap, subst, ◌∙◌, rules, arith}
+use Rattle.std.proofs.Common.{◌≡◌, ◌+◌, ◌<◌, ◌^◌, ℤ, cond, take, get_or, Some, w32, sym, ap, subst, ◌∙◌, rules, arith}
 use mir.Val.{SFits, of_z, to_z}
-use Rattle.std.specs.Option.{unwrap_or, IfSome}
+use Rattle.std.specs.Option.{unwrap_or}
 use Rattle.std.specs.Ordering.{is_eq}
 use Rattle.std.specs.BTreeMap as tree
 use Rattle.std.proofs.lemmas.Int.{to_z-of_z}

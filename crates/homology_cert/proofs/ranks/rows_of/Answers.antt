@@ -1,8 +1,7 @@
 -- Each entry gives its row.
-use Rattle.std.proofs.Common.{◌≡◌, ℕ, ◌++◌, ◌∷◌, [], ℤ, map, reverse, w32, sym, ap, subst, ◌∙◌, append_assoc, append-nil, rules}
+use Rattle.std.proofs.Common.{◌≡◌, ℕ, ◌++◌, ◌∷◌, [], ℤ, map, reverse, w32, sym, ap, ◌∙◌, append_assoc, append-nil, rules}
 use mir.Val.{SFits}
 use Rattle.std.proofs.lemmas.Int.{to_z-of_z}
-use Rattle.hat_division.specs.declared.tables.TableRow.{TableRow}
 use Rattle.homology_cert.specs.Inner.Ranks.{row_of}
 use Rattle.homology_cert.proofs.TableLemmas.{AreReversed-reverse}
 use Rattle.homology_cert.proofs.ranks.rows_of.Goals as goal

@@ -1,5 +1,5 @@
 -- Each Alexander degree is done in turn; in the end the map has all ranks.
-use Rattle.std.proofs.Common.{◌≡◌, ◌<◌, ◌^◌, List, ◌∷◌, [], ℤ, None, length, map, w32, All, sym, ap, subst, ◌∙◌, rules}
+use Rattle.std.proofs.Common.{◌≡◌, ◌<◌, ◌^◌, List, ◌∷◌, [], ℤ, None, length, map, w32, All, sym, subst, ◌∙◌, rules}
 use mir.Val.{SFits, of_z, to_z}
 use Rattle.std.specs.BTreeMap as tree
 use Rattle.std.proofs.lemmas.Int.{to_z-of_z}

@@ -1,5 +1,5 @@
 -- The live cells are the cells of the slice.
-use Rattle.std.proofs.Common.{ℕ, List, length, sym, ap, subst, ◌∙◌}
+use Rattle.std.proofs.Common.{ℕ, List, length, subst}
 use Rattle.std.proofs.lemmas.Result.{IfOk-weaker}
 use Rattle.f2_algebra.specs.Slice.{slice_complex}
 use Rattle.sparse_complex.specs.declared.slices.Cell.{Cell}
