@@ -11,14 +11,8 @@ use Rattle.f2_algebra.specs.Chain.{codes, of_codes}
 use Rattle.f2_algebra.specs.Complex.{Complex}
 use Rattle.f2_algebra.specs.Cancel.{Entry}
 use Rattle.f2_algebra.specs.Certificate.{IsAllCells}
-<<<<<<< HEAD
 use Rattle.f2_algebra.proofs.Ranks.Pigeonhole.{pigeonhole}
 use Rattle.f2_algebra.proofs.Chains.Sets.{any, holds-of_codes, IsApart, cardinality-length, cardinality-of_codes}
-use Rattle.state_rank.specs.declared.TheConstants.{MAX_SIZE}
-=======
-use Rattle.f2_algebra.proofs.Ranks.Pigeonhole.{pigeonhole}
-use Rattle.f2_algebra.proofs.Chains.Sets.{any, holds-of_codes, IsApart, cardinality-length, cardinality-of_codes}
->>>>>>> f007a1f (cancel, homology_cert: lemmas on lists and visits stand once)
 use Rattle.state_rank.specs.States.{factorial}
 use Rattle.state_rank.proofs.MemberLemmas.{Contains-map, member_of_map, Contains-filter, member_of_filter, pairs_head, pairs_tail, pairs_map, pairs_filter}
 use Rattle.torus_geom.specs.Marks.{Marks, size, IsGrid}

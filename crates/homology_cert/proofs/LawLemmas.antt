@@ -12,12 +12,7 @@ use Rattle.torus_geom.specs.Marks.{Marks, size, IsGrid}
 use Rattle.torus_geom.specs.Degrees.{bidegree}
 use Rattle.torus_geom.specs.GridComplex.{grid_complex}
 use Rattle.torus_geom.specs.Homology.{IsHomologyRank, IsHomologyTable, Row, StandsBefore}
-<<<<<<< HEAD
 use Rattle.rectangles.proofs.Law.GridComplexLemmas.{grid_complex_rules}
-use Rattle.homology_cert.proofs.TableLemmas.{state_degree}
-=======
-use Rattle.rectangles.proofs.Law.GridComplexLemmas.{grid_complex_rules}
->>>>>>> f007a1f (cancel, homology_cert: lemmas on lists and visits stand once)
 
 -- ---- each bidegree has a rank
 same_bidegree : ℤ × ℤ → ℤ × ℤ → Bool
