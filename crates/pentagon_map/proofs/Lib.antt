@@ -1,0 +1,3 @@
+pub mod ChainMap
+mod Examples
+pub mod Rows
