@@ -8,7 +8,7 @@ mod commutations;
 mod turns;
 
 pub use commutations::{Axis, commutes, swap};
-pub use turns::{Side, turn};
+pub use turns::{Side, one_down, one_up, turn};
 
 #[cfg(test)]
 mod tests;

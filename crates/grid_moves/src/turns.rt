@@ -19,8 +19,8 @@ pub enum Side {
     Down,
 }
 
-// The number after `c` on a circle of `n`.
-pub(crate) fn one_up(n: u8, c: u8) -> u8
+/// The number after `c` on a circle of `n`.
+pub fn one_up(n: u8, c: u8) -> u8
     requires { c < n }
     ensures value { result ≡ one_up_of n c }
     ensures below { result < n }
@@ -28,8 +28,8 @@ pub(crate) fn one_up(n: u8, c: u8) -> u8
     if c + 1 < n { c + 1 } else { 0 }
 }
 
-// The number before `c` on a circle of `n`.
-pub(crate) fn one_down(n: u8, c: u8) -> u8
+/// The number before `c` on a circle of `n`.
+pub fn one_down(n: u8, c: u8) -> u8
     requires { c < n }
     ensures value { result ≡ one_down_of n c }
     ensures below { result < n }

@@ -126,7 +126,6 @@ border_of_state-nil g =
     ap (λ ys. of_codes (map rank ys)) (filter-none (λ y. is_odd (length (filter (is_step g [] y) (rectangles (size g))))) (states (size g))
     (none_leads (size g) (λ r. is_empty [] r && is_unmarked g r)))
 
-
 -- the image of a chain across columns
 unfoldable pub image_by_columns : Marks → ℕ → Corner → Chain → Chain
 image_by_columns g c corner z = sum_over z (λ code. column_image g c corner (unrank (size g) code))

@@ -51,7 +51,7 @@ module _ (g : Marks) (s : IsGrid g) (c : ℕ) (corner : Corner) where
   is : AreInverse n transpose transpose
   is = transpose_AreInverse n
 
-  rows_IsOfStates : IsOfStates n (image_of_state Rows g c corner)
+  pub rows_IsOfStates : IsOfStates n (image_of_state Rows g c corner)
   rows_IsOfStates =
       let sG = column_image_IsOfStates t n (size-transposed g) c corner in
       record {
@@ -99,3 +99,8 @@ image-border Rows g s c l h corner z =
     ∙ ap (transposed_chain n) (image_by_columns-border t st c four corner (transposed_chain n z))
     ∙ sym (border-transposed_back (swapped_columns t c) n (length-swap t.o (one_down (size t) c) c ∙ size-transposed g) (IsGrid-swapped_columns t c st lt) (image_by_columns t c corner (transposed_chain n z)))
     ∙ ap (border (swapped Rows g c)) (sym (image-by_rows g s c corner z))
+
+-- the image of a state has ranks of states, and the empty list has none
+pub image_of_state_IsOfStates : (axis : Axis) (g : Marks) → IsGrid g → (c : ℕ) (corner : Corner) → IsOfStates (size g) (image_of_state axis g c corner)
+image_of_state_IsOfStates Cols g s c corner = column_image_IsOfStates g (size g) refl c corner
+image_of_state_IsOfStates Rows g s c corner = rows_IsOfStates g s c corner

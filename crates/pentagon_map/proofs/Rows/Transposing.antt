@@ -22,10 +22,8 @@ use Rattle.rectangles.proofs.BorderLemmas.{border_of_state-below}
 use Rattle.rectangles.proofs.ColumnTests.{all_below-same}
 use Rattle.rectangles.proofs.CyclicOrder.{between}
 use Rattle.rectangles.proofs.EmptyRectangles.{free, free_rows, is_between, is_clear_of}
-
 use Rattle.rectangles.proofs.OpenRectangles.{is_open, unmarked}
 use Rattle.rectangles.proofs.RectangleSums.{weight-border_of_state}
-
 use Rattle.rectangles.proofs.TwoSteps.{differ}
 use Rattle.grid_moves.proofs.CarriedChains.{AreInverse, IsOfStates, eqb_alike, sum_over-carried}
 use Rattle.grid_moves.specs.Carried.{transposed_chain}
