@@ -1,2 +1,3 @@
+pub mod CarriedChains
 pub mod TurnLemmas
 pub mod SwapGridLemmas

@@ -1,0 +1,29 @@
+-- Chains carried along a map of states: turned with the grid, or transposed with it. A chain is a finite
+-- set of states of size n, by their ranks.
+--     moved n f code          the rank of f x, where `code` is the rank of the state x of size n; a number that
+--                             is the rank of no state stays
+--     carried n f z           the codes of z, each moved
+--     turned_state side x     the state x after a turn of the grid: its points move with the squares
+--     turned_chain side n z   the chain of the turned states
+--     transposed_chain n z    the chain of the transposed states
+use Rattle.std.specs.Prelude.{ℕ, List, length, map, nat_lt, if◌then◌else◌}
+use Rattle.f2_algebra.specs.Chain.{Chain, codes, of_codes}
+use Rattle.state_rank.specs.States.{rank, unrank, factorial, transpose}
+use Rattle.grid_moves.specs.declared.turns.Side.{Side}
+use Rattle.grid_moves.specs.Moves.{turned_rows}
+
+abbrev pub moved : ℕ → (List ℕ → List ℕ) → ℕ → ℕ
+moved n f code = if nat_lt code (factorial n) then rank (f (unrank n code)) else code
+
+unfoldable pub carried : ℕ → (List ℕ → List ℕ) → Chain → Chain
+carried n f z = of_codes (map (moved n f) (codes z))
+
+-- a point goes with the circle left of it and the circle below it, as the mark up and right of it does
+abbrev pub turned_state : Side → List ℕ → List ℕ
+turned_state side x = turned_rows side (length x) x
+
+abbrev pub turned_chain : Side → ℕ → Chain → Chain
+turned_chain side n z = carried n (turned_state side) z
+
+abbrev pub transposed_chain : ℕ → Chain → Chain
+transposed_chain n z = carried n transpose z

@@ -1,0 +1,9 @@
+pub mod CyclicSteps
+pub mod PairedTerms
+pub mod RowArcs
+pub mod Pentagons
+pub mod ThinAnnuli
+pub mod FourRows
+pub mod StepSums
+pub mod PentagonSums
+pub mod ImageOfBorder

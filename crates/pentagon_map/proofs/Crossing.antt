@@ -1,0 +1,2 @@
+pub mod FourNumbers
+pub mod CrossingRow

@@ -1,0 +1,5 @@
+pub mod ChainMap
+pub mod Crossing
+mod Examples
+pub mod Rows
+pub mod Targets

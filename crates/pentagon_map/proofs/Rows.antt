@@ -1,0 +1,3 @@
+pub mod Reindexing
+pub mod Transposing
+pub mod ImageByRows

@@ -1,0 +1,4 @@
+pub mod PushLemmas
+pub mod InOrder
+pub mod OddSums
+pub mod LoopLemmas
