@@ -1,5 +1,6 @@
 pub mod ChainMap
 pub mod Crossing
 mod Examples
+pub mod FrontStates
 pub mod Rows
 pub mod Targets

@@ -2,9 +2,10 @@
 ghost use Rattle.std.specs.Prelude.{◌≡◌, ℕ, List, ◌<◌, length, map, slice_index, IsTrue, IfOk, OnOk};
 ghost use Rattle.std.specs.List.{All};
 ghost use Rattle.std.specs.Int.{bit_at};
-ghost use Rattle.f2_algebra.specs.Chain.{Chain as Codes, codes as codes_of, ◌⊕◌};
+ghost use Rattle.f2_algebra.specs.Chain.{Chain as Codes, codes as codes_of, single, ◌⊕◌};
 ghost use Rattle.state_rank.specs.States.{IsState, rank, factorial};
 ghost use Rattle.torus_geom.specs.Border.{border};
+ghost use Rattle.torus_geom.specs.Front.{plus_state, minus_state};
 ghost use Rattle.torus_geom.specs.Marks.{Marks, IsGrid, size};
 ghost use Rattle.grid_moves.specs.Moves.{are_commuting, swapped};
 ghost use Rattle.pentagon_map.specs.Pentagon.{crossing_row as crossing_row_of, image_of_state, image as image_of};
@@ -76,6 +77,14 @@ pub fn image(
     // call answers.
     ensures chain_map { (y : Codes) → image_of axis g.now c corner (border g.now y)
         ≡ border (swapped axis g.now c) (image_of axis g.now c corner y) }
+
+    // `Over` carries the state of the upper right corners of the X to that of the exchanged grid.
+    ensures over { image_of axis g.now c Corner.Over (single (rank (plus_state g.now)))
+        ≡ single (rank (plus_state (swapped axis g.now c))) }
+
+    // `Under` carries the state of their lower left corners.
+    ensures under { image_of axis g.now c Corner.Under (single (rank (minus_state g.now)))
+        ≡ single (rank (minus_state (swapped axis g.now c))) }
 {
     let _ = g.size();
     image_sum(alloc, g, axis, c, corner, z)

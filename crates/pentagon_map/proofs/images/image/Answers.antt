@@ -1,6 +1,13 @@
 -- The laws hold of any chain.
+use Rattle.pentagon_map.proofs.FrontStates.ByAxis.{image-plus_state, image-minus_state}
 use Rattle.pentagon_map.proofs.Rows.ImageByRows.{image-border}
 use Rattle.pentagon_map.proofs.images.image.Goals as goal
 
 pub returns-clause-chain_map : goal.returns-clause-chain_map
 returns-clause-chain_map c = image-border c.args.axis c.args.g.now c.size.ensures.grid c.args.c c.requires.below c.requires.commutes c.args.corner
+
+pub returns-clause-over : goal.returns-clause-over
+returns-clause-over c = image-plus_state c.args.axis c.args.g.now c.size.ensures.grid c.args.c c.requires.below c.requires.commutes
+
+pub returns-clause-under : goal.returns-clause-under
+returns-clause-under c = image-minus_state c.args.axis c.args.g.now c.size.ensures.grid c.args.c c.requires.below c.requires.commutes

@@ -1,0 +1,4 @@
+pub mod CyclicRows
+pub mod PlusState
+pub mod MinusState
+pub mod ByAxis
