@@ -21,13 +21,13 @@ use Rattle.torus_geom.proofs.Circles.TurnLemmas.{one_down_below}
 use Rattle.torus_geom.specs.Border.{border, border_of_state, is_step}
 use Rattle.torus_geom.specs.Range.{one_down, one_up}
 use Rattle.torus_geom.specs.Marks.{IsGrid, Marks, size}
-use Rattle.torus_geom.specs.Rectangle.{is_empty, is_unmarked, leads, rectangles}
+use Rattle.torus_geom.specs.Rectangle.{is_empty, is_same, is_unmarked, leads, rectangles}
 use Rattle.torus_geom.specs.declared.rects.Rect.{Rect}
 use Rattle.rectangles.proofs.Square.CyclicOrder.{first, second}
 use Rattle.rectangles.proofs.Square.Exchanges.{exchanged}
 use Rattle.rectangles.proofs.Square.OpenRectangles.{is_open}
 use Rattle.rectangles.proofs.Square.RectangleSums.{parity-rectangles, weight-border_of_state}
-use Rattle.rectangles.proofs.Square.RectangleTests.{slice_index-swap}
+use Rattle.rectangles.proofs.Square.RectangleTests.{corners, slice_index-swap}
 use Rattle.rectangles.proofs.Square.TwoSteps.{differ}
 use Rattle.grid_moves.proofs.CarriedChains.{unrank-past}
 use Rattle.grid_moves.proofs.SwapGridLemmas.{IsGrid-swapped_columns}
@@ -102,15 +102,18 @@ filter-none : {A : Type 0} (test : A → Bool) (xs : List A) → ((x : A) → te
 filter-none test [] h = refl
 filter-none test (x ∷ xs) h = ap (λ b. cond b (x ∷ filter test xs) (filter test xs)) (h x) ∙ filter-none test xs h
 
+leads_nowhere : (j k : ℕ) (s t : Bool) → (differ j k && ((eqb 0 j && (eqb 0 k && s)) && t)) ≡ false
+leads_nowhere j k s t = by j k s t
+  where
+    by : (j k : ℕ) (s t : Bool) → (not (eqb j k) && ((eqb 0 j && (eqb 0 k && s)) && t)) ≡ false
+    by j k s t = grind arith
+
 none_leads : (n : ℕ) (ok : Rect → Bool) (y : List ℕ) → is_odd (length (filter (λ r. leads r [] y && ok r) (rectangles n))) ≡ false
 none_leads n ok y =
     is_odd-filter (λ r. leads r [] y && ok r) (rectangles n) ∙ parity-rectangles (λ r. leads r [] y && ok r) n
     ∙ parity_below-none n _ (λ a la. parity_below-none n _ (λ b lb.
-    ap (λ t. differ a b && t) (parity_below-none n _ (λ j lj. parity_below-none n _ (λ k lk. by j k _)))
+    ap (λ t. differ a b && t) (parity_below-none n _ (λ j lj. parity_below-none n _ (λ k lk. leads_nowhere j k (is_same (swap [] a b) y) (ok (corners a b j k)))))
     ∙ same 1 (λ d. d && false) (λ d. false) refl (differ a b)))
-  where
-    by : (j k : ℕ) (t : Bool) → (not (eqb j k) && ((eqb 0 j && (eqb 0 k && true)) && t)) ≡ false
-    by j k t = grind arith
 
 -- no pentagon leaves the empty list
 pub column_image-nil : (g : Marks) (c : ℕ) (corner : Corner) → column_image g c corner [] ≡ nothing

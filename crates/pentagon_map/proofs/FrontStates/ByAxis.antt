@@ -2,15 +2,16 @@
 -- the lower left corners, for columns and for rows: transposing carries each to that of the transposed grid.
 use Rattle.std.proofs.Common.{List, ap, arith, refl, slice_index, subst, sym, true, ℕ, ◌<◌, ◌∙◌, ◌≡◌}
 use Rattle.std.proofs.lemmas.List.Edits.{length-swap}
-use Rattle.f2_algebra.proofs.Sums.{sum_over-single}
+use Rattle.f2_algebra.proofs.Chains.Sums.{sum_over-single}
 use Rattle.f2_algebra.specs.Chain.{single}
 use Rattle.state_rank.proofs.BijectionLemmas.{column_of-below, one_to_one, row-column_of, same_list}
 use Rattle.state_rank.proofs.RankLemmas.{unrank-rank}
 use Rattle.state_rank.specs.Bijection.{IsBijection, column_of}
 use Rattle.state_rank.specs.States.{rank, transpose, unrank}
 use Rattle.torus_geom.proofs.TransposeLemmas.{IsBijection-transposed, IsGrid-transposed, slice_index-transpose}
-use Rattle.torus_geom.proofs.TurnLemmas.{one_down-one_up, one_down_below, one_up-one_down, one_up_below}
-use Rattle.torus_geom.specs.Front.{minus_state, one_down, one_up, plus_state}
+use Rattle.torus_geom.proofs.Circles.TurnLemmas.{one_down-one_up, one_down_below, one_up-one_down, one_up_below}
+use Rattle.torus_geom.specs.Front.{minus_state, plus_state}
+use Rattle.torus_geom.specs.Range.{one_down, one_up}
 use Rattle.torus_geom.specs.Marks.{IsGrid, Marks, size}
 use Rattle.torus_geom.specs.Transposed.{transposed}
 use Rattle.grid_moves.proofs.CarriedChains.{carried-single}

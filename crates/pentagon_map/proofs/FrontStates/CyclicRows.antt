@@ -1,11 +1,11 @@
 -- Ranges of columns and rows that begin or end at the number after another.
 use Rattle.std.proofs.Common.{ap, arith, false, inl, inr, refl, true, ℕ, ◌&&◌, ◌+◌, ◌<◌, ◌||◌, ◌∙◌, ◌≡◌, ◌≢◌}
 use Rattle.std.proofs.lemmas.Bool.{cases_eq, eq-eqb}
-use Rattle.f2_algebra.proofs.Tables.{and-false, same}
-use Rattle.torus_geom.proofs.TurnLemmas.{one_up_below}
-use Rattle.torus_geom.specs.Front.{one_down, one_up}
-use Rattle.rectangles.proofs.CyclicOrder.{between}
-use Rattle.rectangles.proofs.TwoSteps.{differ, differ-self}
+use Rattle.f2_algebra.proofs.Chains.Tables.{and-false, same}
+use Rattle.torus_geom.proofs.Circles.TurnLemmas.{one_up_below}
+use Rattle.torus_geom.specs.Range.{one_down, one_up}
+use Rattle.rectangles.proofs.Square.CyclicOrder.{between}
+use Rattle.rectangles.proofs.Square.TwoSteps.{differ, differ-self}
 use Rattle.pentagon_map.proofs.ChainMap.CyclicSteps.{between-one_down, between-one_up, between-thin, one_up_cases}
 use Rattle.pentagon_map.proofs.ChainMap.RowArcs.{above_of}
 

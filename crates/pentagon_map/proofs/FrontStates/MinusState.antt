@@ -4,19 +4,20 @@
 -- to c.
 use Rattle.std.proofs.Common.{Bool, List, ap, ap₂, cond, eqb, false, inl, inr, not, refl, slice_index, swap, sym, true, true≢false, ℕ, ◌&&◌, ◌<◌, ◌||◌, ◌∙◌, ◌≡◌, ◌≢◌, ◌⊎◌}
 use Rattle.std.proofs.lemmas.Bool.{cases_eq, eq-eqb, false_from_ne_true, ne_eqb}
-use Rattle.f2_algebra.proofs.ParityLemmas.{below, parity-and, parity_below-one, parity_below-same}
-use Rattle.f2_algebra.proofs.Sets.{holds-single, same_chain}
-use Rattle.f2_algebra.proofs.Tables.{and-false, and-true, same}
+use Rattle.f2_algebra.proofs.Chains.ParityLemmas.{below, parity-and, parity_below-one, parity_below-same}
+use Rattle.f2_algebra.proofs.Chains.Sets.{holds-single, same_chain}
+use Rattle.f2_algebra.proofs.Chains.Tables.{and-false, and-true, same}
 use Rattle.f2_algebra.specs.Chain.{single}
 use Rattle.state_rank.specs.States.{rank}
-use Rattle.torus_geom.proofs.AllBelowLemmas.{at_all_below}
-use Rattle.torus_geom.proofs.TurnLemmas.{one_down_below, one_up-one_down}
-use Rattle.torus_geom.specs.Front.{minus_state, one_down}
+use Rattle.torus_geom.proofs.Sums.AllBelowLemmas.{at_all_below}
+use Rattle.torus_geom.proofs.Circles.TurnLemmas.{one_down_below, one_up-one_down}
+use Rattle.torus_geom.specs.Front.{minus_state}
+use Rattle.torus_geom.specs.Range.{one_down}
 use Rattle.torus_geom.specs.Marks.{IsGrid, Marks, size}
-use Rattle.rectangles.proofs.CyclicOrder.{between, between_same, between_start}
-use Rattle.rectangles.proofs.EmptyRectangles.{free, is_clear_of}
-use Rattle.rectangles.proofs.OpenRectangles.{marks}
-use Rattle.rectangles.proofs.TwoSteps.{differ, differ-self, differ-true}
+use Rattle.rectangles.proofs.Square.CyclicOrder.{between, between_same, between_start}
+use Rattle.rectangles.proofs.Square.EmptyRectangles.{free, is_clear_of}
+use Rattle.rectangles.proofs.Square.OpenRectangles.{marks}
+use Rattle.rectangles.proofs.Square.TwoSteps.{differ, differ-self, differ-true}
 use Rattle.grid_moves.specs.Moves.{are_commuting_columns, swapped_columns}
 use Rattle.pentagon_map.proofs.ChainMap.CyclicSteps.{between-thin, one_down-other}
 use Rattle.pentagon_map.proofs.ChainMap.PentagonSums.{crossing_row-below, holds-column_image, pentagon_at}

@@ -4,26 +4,27 @@
 use Rattle.std.proofs.Common.{Bool, List, ap, ap₂, arith, cond, eqb, false, inl, inr, length, not, refl, slice_index, swap, sym, true, true≢false, ℕ, ◌&&◌, ◌<◌, ◌||◌, ◌∙◌, ◌≡◌, ◌≢◌, ◌⊎◌}
 use Rattle.std.proofs.lemmas.Bool.{cases_Bool, cases_eq, eq-eqb, false_from_ne_true, ne_eqb}
 use Rattle.std.proofs.lemmas.List.Edits.{length-swap}
-use Rattle.f2_algebra.proofs.ParityLemmas.{below, parity-and, parity_below-one, parity_below-same}
-use Rattle.f2_algebra.proofs.Sets.{holds-single, same_chain}
-use Rattle.f2_algebra.proofs.Tables.{and-false, and-true, same}
+use Rattle.f2_algebra.proofs.Chains.ParityLemmas.{below, parity-and, parity_below-one, parity_below-same}
+use Rattle.f2_algebra.proofs.Chains.Sets.{holds-single, same_chain}
+use Rattle.f2_algebra.proofs.Chains.Tables.{and-false, and-true, same}
 use Rattle.f2_algebra.specs.Chain.{single}
 use Rattle.state_rank.proofs.BijectionLemmas.{one_to_one, same_list}
 use Rattle.state_rank.proofs.OrderLemmas.{length-tabulate}
 use Rattle.state_rank.specs.Bijection.{IsBijection}
 use Rattle.state_rank.specs.States.{rank}
-use Rattle.torus_geom.proofs.AllBelowLemmas.{at_all_below}
-use Rattle.torus_geom.proofs.TabulateLemmas.{slice_index-tabulate}
-use Rattle.torus_geom.proofs.TurnLemmas.{composed_one, one_down-one_up, one_down_below, one_down_one, one_up-one_down, one_up_below, one_up_one}
-use Rattle.torus_geom.specs.Front.{one_down, one_up, plus_state}
+use Rattle.torus_geom.proofs.Sums.AllBelowLemmas.{at_all_below}
+use Rattle.torus_geom.proofs.Sums.TabulateLemmas.{slice_index-tabulate}
+use Rattle.torus_geom.proofs.Circles.TurnLemmas.{composed_one, one_down-one_up, one_down_below, one_down_one, one_up-one_down, one_up_below, one_up_one}
+use Rattle.torus_geom.specs.Front.{plus_state}
+use Rattle.torus_geom.specs.Range.{one_down, one_up}
 use Rattle.torus_geom.specs.Marks.{IsGrid, Marks, size}
-use Rattle.rectangles.proofs.CyclicOrder.{between, between_end}
-use Rattle.rectangles.proofs.EmptyRectangles.{free, is_clear_of}
-use Rattle.rectangles.proofs.Exchanges.{exchanged, exchanged-first, exchanged-other, exchanged-second}
-use Rattle.rectangles.proofs.OpenRectangles.{marks}
-use Rattle.rectangles.proofs.RectangleTests.{slice_index-swap}
+use Rattle.rectangles.proofs.Square.CyclicOrder.{between, between_end}
+use Rattle.rectangles.proofs.Square.EmptyRectangles.{free, is_clear_of}
+use Rattle.rectangles.proofs.Square.Exchanges.{exchanged, exchanged-first, exchanged-other, exchanged-second}
+use Rattle.rectangles.proofs.Square.OpenRectangles.{marks}
+use Rattle.rectangles.proofs.Square.RectangleTests.{slice_index-swap}
 use Rattle.state_rank.proofs.SwapLemmas.{IsBijection-swap}
-use Rattle.rectangles.proofs.TwoSteps.{differ, differ-self, differ-true}
+use Rattle.rectangles.proofs.Square.TwoSteps.{differ, differ-self, differ-true}
 use Rattle.grid_moves.specs.Moves.{are_commuting_columns, swapped_columns}
 use Rattle.pentagon_map.proofs.ChainMap.CyclicSteps.{between-thin, one_down-other, one_up-other}
 use Rattle.pentagon_map.proofs.ChainMap.PentagonSums.{crossing_row-below, holds-column_image, pentagon_at}

@@ -19,7 +19,7 @@ use Rattle.torus_geom.specs.Range.{in_range}
 use Rattle.torus_geom.specs.Rectangle.{is_empty}
 use Rattle.torus_geom.specs.Transposed.{transposed}
 use Rattle.rectangles.proofs.Square.TwoSteps.{differ, differ-self, differ_comm}
-use Rattle.rectangles.specs.Open.{leaving}
+use Rattle.rectangles.specs.Inner.Open.{leaving}
 use Rattle.grid_moves.proofs.CarriedChains.{eqb-renamed, eqb_alike, holds-carried, moved-rank, moved-undone}
 use Rattle.grid_moves.specs.Carried.{moved}
 use Rattle.grid_moves.specs.Moves.{turned}

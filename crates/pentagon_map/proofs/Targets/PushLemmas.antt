@@ -12,7 +12,7 @@ use Rattle.torus_geom.specs.Marks.{Marks, size}
 use Rattle.torus_geom.specs.Range.{in_range}
 use Rattle.torus_geom.specs.Rectangle.{is_empty}
 use Rattle.torus_geom.specs.declared.rects.Rect.{Rect}
-use Rattle.rectangles.specs.Open.{leaving}
+use Rattle.rectangles.specs.Inner.Open.{leaving}
 use Rattle.pentagon_map.specs.Inner.Exchanges.{is_odd_circle, is_pentagon_at, is_set, lowers, picked, raises}
 use Rattle.pentagon_map.specs.Pentagon.{has_mark_from, is_pentagonal, is_unmarked_beside}
 

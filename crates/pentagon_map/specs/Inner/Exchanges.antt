@@ -18,7 +18,7 @@ use Rattle.torus_geom.specs.Rectangle.{is_empty}
 use Rattle.torus_geom.specs.Transposed.{transposed}
 use Rattle.grid_moves.specs.declared.commutations.Axis.{Axis}
 use Rattle.grid_moves.specs.declared.commutations.Axis.TheVariants.{Cols, Rows}
-use Rattle.rectangles.specs.Open.{leaving}
+use Rattle.rectangles.specs.Inner.Open.{leaving}
 use Rattle.pentagon_map.specs.Pentagon.{is_pentagonal}
 
 abbrev pub across : Axis → Marks → Marks
