@@ -26,9 +26,16 @@ fn a_slice_of_an_unknot(rt: HostRuntime) -> Result<(), Fail> {
         assert_eq!(rt; slice.is_live(code), maslov.is_some(), "of {code}");
         assert_eq!(rt; slice.is_arrow(code, 2), has_arrow, "from {code}");
     }
+    let mut codes = Vec::new(rt.alloc());
+    slice.sources_of(2, &mut codes)?;
+    assert_eq!(rt; codes.len(), 3);
+    slice.targets_of(0, &mut codes)?;
+    assert_eq!(rt; codes.as_slice(), [2].as_slice());
+    assert_eq!(rt; slice.live_cells(rt.alloc())?.len(), 4);
     let bump = Bump::new(rt.alloc());
     let log = reduce(rt.alloc(), &mut slice, &bump)?;
     assert!(rt; slice.any_arrow().is_none());
+    assert_eq!(rt; slice.live_cells(rt.alloc())?.len(), 2);
     assert_eq!(rt; log.entries().len(), 1);
     let entry = log.entries().first().ok_or("entry")?;
     assert_eq!(rt; entry.y, 2);

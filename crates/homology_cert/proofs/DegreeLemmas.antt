@@ -7,7 +7,7 @@ use Rattle.std.proofs.lemmas.Cmp.{int_cmp_total, tied_itself}
 use Rattle.state_rank.specs.States.{factorial, unrank}
 use Rattle.torus_geom.specs.Marks.{Marks, size}
 use Rattle.torus_geom.specs.Degrees.{maslov_o, alexander}
-use Rattle.homology_cert.specs.Tables.{IsSmallDegree}
+use Rattle.gradings.specs.Degrees.{IsSmallDegree}
 use Rattle.homology_cert.specs.Inner.Ranks.{AreSmall, HasDegrees}
 
 -- before the first state there is none

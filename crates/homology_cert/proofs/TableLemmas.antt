@@ -35,7 +35,8 @@ use Rattle.torus_geom.specs.Homology.{IsHomologyRank, IsHomologyTable, Row, Stan
 use Rattle.sparse_complex.specs.declared.slices.Cell.{Cell}
 use Rattle.hat_division.specs.Table.{comes_before, IsTable}
 use Rattle.hat_division.specs.declared.tables.TableRow.{TableRow}
-use Rattle.homology_cert.specs.Tables.{homology_row, IsSmallDegree, HasSmallDegrees}
+use Rattle.gradings.specs.Degrees.{IsSmallDegree}
+use Rattle.homology_cert.specs.Tables.{homology_row, HasSmallDegrees}
 use Rattle.homology_cert.specs.Inner.Ranks.{degree_cmp, Ranks, rank_in, row_of, AreSmall, HasHomology, HasDegrees, HasRanks, AreCounted, IsTold, IsDone, AreReversed, AreRows}
 use Rattle.homology_cert.proofs.CountLemmas.{degree_cmp_total, exact_degrees, told-counted, told-other}
 use Rattle.homology_cert.proofs.SliceRanks.{one_homology_rank}

@@ -42,7 +42,8 @@ impl AlexSlice {
 
 // The cells of the degree `a`, by Maslov degree, and by code among those of one degree.
 fn cells_of(alloc: Global, g: &Grid, a: i32) -> Result<Vec<Cell>, NoMemory>
-    ensures { IfOk result (λ cells. AreCells (at_second a (grid_complex g.now)) (factorial (size g.now)) cells.items) }
+    ensures { IfOk result (λ cells.
+        AreCells (at_second a (grid_complex g.now)) (factorial (size g.now)) cells.items) }
 {
     let tables = DegreeTables::of(g);
     let mut cells = Vec::new(alloc);
@@ -100,7 +101,8 @@ fn links_of(
 ) -> Result<Links, NoMemory>
     requires cells { AreCells (at_second a (grid_complex g.now)) (factorial (size g.now)) cells.now }
     requires keys { AreKeys keys.now cells.now }
-    ensures { IfOk result (λ links. AreLinksBelow (at_second a (grid_complex g.now)) cells.now (length cells.now) links) }
+    ensures { IfOk result (λ links.
+        AreLinksBelow (at_second a (grid_complex g.now)) cells.now (length cells.now) links) }
 {
     let mut links = Links::new(alloc, cells.len())?;
     for key in 0..cells.len() {

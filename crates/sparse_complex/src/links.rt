@@ -29,7 +29,8 @@ pub(crate) struct Links {
 impl Links {
     // No arrows between `keys` keys.
     pub(crate) fn new(alloc: Global, keys: usize) -> Result<Links, NoMemory>
-        ensures { IfOk result (λ l. AreListed l × (width l ≡ keys) × ((s t : ℕ) → has_arrow l s t ≡ false)) }
+        ensures { IfOk result (λ l.
+            AreListed l × (width l ≡ keys) × ((s t : ℕ) → has_arrow l s t ≡ false)) }
     {
         let none = Head {
             first_out: NO_NODE,
@@ -149,7 +150,8 @@ impl Links {
     pub(crate) fn fill(&mut self, x: u32, y: u32)
         requires listed { AreListed self.old }
         requires ends { (x < width self.old) × (y < width self.old) }
-        requires room { length (others x (sources self.old y)) * length (others y (targets self.old x)) ≤ self.old.pool.spare }
+        requires room { length (others x (sources self.old y)) * length (others y (targets self.old x))
+            ≤ self.old.pool.spare }
         ensures { IsFilled x y self.old self.new }
     {
         let mut at = self.heads[y as usize].first_in;

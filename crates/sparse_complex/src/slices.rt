@@ -265,8 +265,10 @@ fn find_key(keys: &[u32], code: u32) -> u32
 fn first_with_arrow(links: &Links, from: u32) -> u32
     requires { (from ≤ width links.now) × (width links.now ≤ no_key) }
     ensures within { (from ≤ result) × (result ≤ width links.now) }
-    ensures none_before { (k : ℕ) → from ≤ k → k < result → (head_at links.now.heads.items k).first_out ≡ no_id }
-    ensures some_here { result < width links.now → eqb (head_at links.now.heads.items result).first_out no_id ≡ false }
+    ensures none_before { (k : ℕ) → from ≤ k → k < result
+        → (head_at links.now.heads.items k).first_out ≡ no_id }
+    ensures some_here { result < width links.now
+        → eqb (head_at links.now.heads.items result).first_out no_id ≡ false }
 {
     let mut key = from;
     while (key as usize) < links.heads.len() {

@@ -32,7 +32,8 @@ use Rattle.torus_geom.specs.Homology.{IsHomologyRank}
 use Rattle.sparse_complex.specs.declared.slices.Cell.{Cell}
 use Rattle.hat_division.specs.Table.{comes_before}
 use Rattle.hat_division.specs.declared.tables.TableRow.{TableRow}
-use Rattle.homology_cert.specs.Tables.{IsSmallDegree, HasSmallRank}
+use Rattle.gradings.specs.Degrees.{IsSmallDegree}
+use Rattle.homology_cert.specs.Tables.{HasSmallRank}
 
 abbrev pub degree_cmp : ℤ × ℤ → ℤ × ℤ → Ordering
 degree_cmp p q = ordering_then (int_cmp p.0 q.0) (int_cmp p.1 q.1)
