@@ -2,15 +2,19 @@
 //!
 //! Read `reduce` first. Its contract says that the slice is then what cancelling the entries of the log
 //! in order gives, and has no arrow; and that each log that stands so has the laws of its lifts, rests,
-//! pulls and corrections (`f2_algebra`, specs/Laws.antt). Contracts see a log as its list of entries,
-//! and the sources and targets of an entry as lists of codes, each code once. In memory a log lies in an
-//! arena, which is given up as a whole. Stands on `sparse_complex`.
+//! pulls and corrections (`f2_algebra`, specs/Laws.antt). `lift`, `push` and `pull` are these maps.
+//! Contracts see a log as its list of entries, and the sources and targets of an entry as lists of codes,
+//! each code once. In memory a log lies in an arena, which is given up as a whole. Stands on
+//! `sparse_complex` and `f2_chain`.
 #![tactic(auto)]
 
 mod logs;
+mod maps;
 mod reductions;
+mod steps;
 #[cfg(test)]
 mod tests;
 
 pub use logs::{CancelLog, LogEntry};
+pub use maps::{Pushed, lift, pull, push};
 pub use reductions::reduce;

@@ -1,5 +1,7 @@
 //! The log of a reduction.
 ghost use Rattle.std.specs.Prelude.{◌≡◌};
+ghost use Rattle.std.specs.List.{All};
+ghost use Rattle.cancel.specs.Logs.{HasEachOnce};
 
 use std::marker::Model;
 
@@ -26,11 +28,17 @@ impl<'a> Model for CancelLog<'a> {
     ghost Value = { List LogEntry };
 
     ghost view = { λ l. l.list.now };
+
+    ghost use Rattle.std.specs.List.{All};
+    ghost use Rattle.cancel.specs.Logs.{HasEachOnce};
+
+    ghost invariant = { λ l. All HasEachOnce l.list.now };
 }
 
 impl<'a> CancelLog<'a> {
     // The log of these entries.
     pub(crate) fn of(list: &'a [LogEntry<'a>]) -> CancelLog<'a>
+        requires { All HasEachOnce list.now }
         ensures { result ≡ list.now }
     {
         CancelLog { list }
@@ -38,7 +46,10 @@ impl<'a> CancelLog<'a> {
 
     /// The entries, from the first to the last.
     pub fn entries(&self) -> &'a [LogEntry<'a>]
-        ensures { result.now ≡ self.now }
+        ensures entries { result.now ≡ self.now }
+
+        // No entry of a log names a source twice, or a target.
+        ensures once { All HasEachOnce self.now }
     {
         self.list
     }

@@ -42,7 +42,7 @@ xor-beq odd parity held is_in e h = ap₂ (λ a b. not (beq a b)) e h ∙ same 2
 
 -- ---- a hashed set
 -- the chain of a set's keys holds what the set contains
-holds-keys : (ks : List ℕ) (q : ℕ) → list_any (eqb q) ks ≡ holds (of_codes ks) q
+pub holds-keys : (ks : List ℕ) (q : ℕ) → list_any (eqb q) ks ≡ holds (of_codes ks) q
 holds-keys ks q = sym (holds-of_codes ks q)
 
 -- a set that contains code exactly if the old one did not, and of the rest what the old one did, has the chain with code toggled

@@ -1,6 +1,6 @@
 //! Sets of codes in the making.
 ghost use Rattle.std.specs.Prelude.{◌≡◌, IfOk, OnOk, OnErr};
-ghost use Rattle.f2_algebra.specs.Chain.{nothing, single as single_of, ◌⊕◌};
+ghost use Rattle.f2_algebra.specs.Chain.{nothing, holds as is_in, single as single_of, ◌⊕◌};
 
 use crate::code_sets::CodeSet;
 use grid_ports::NoMemory;
@@ -49,6 +49,13 @@ impl Builder {
             self.set.insert(code)?;
         }
         Ok(())
+    }
+
+    /// Whether `code` was toggled an odd number of times.
+    pub fn holds(&self, code: u32) -> bool
+        ensures { result ≡ is_in self.now code }
+    {
+        self.set.contains(&code)
     }
 
     /// The set of the codes that were toggled an odd number of times.
