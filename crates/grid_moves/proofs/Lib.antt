@@ -1,3 +1,5 @@
 pub mod CarriedChains
+pub mod ComponentLemmas
+pub mod CycleCounts
 pub mod TurnLemmas
 pub mod SwapGridLemmas

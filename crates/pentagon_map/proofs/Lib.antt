@@ -1,5 +1,6 @@
 pub mod ChainMap
 pub mod Crossing
+pub mod Degrees
 mod Examples
 pub mod FrontStates
 pub mod Rows

@@ -2,9 +2,10 @@
 ghost use Rattle.std.specs.Prelude.{◌≡◌, ℕ, List, ◌<◌, length, map, slice_index, IsTrue, IfOk, OnOk};
 ghost use Rattle.std.specs.List.{All};
 ghost use Rattle.std.specs.Int.{bit_at};
-ghost use Rattle.f2_algebra.specs.Chain.{Chain as Codes, codes as codes_of, single, ◌⊕◌};
+ghost use Rattle.f2_algebra.specs.Chain.{Chain as Codes, codes as codes_of, holds, single, ◌⊕◌};
 ghost use Rattle.state_rank.specs.States.{IsState, rank, factorial};
 ghost use Rattle.torus_geom.specs.Border.{border};
+ghost use Rattle.torus_geom.specs.Degrees.{maslov_o, alexander};
 ghost use Rattle.torus_geom.specs.Front.{plus_state, minus_state};
 ghost use Rattle.torus_geom.specs.Marks.{Marks, IsGrid, size};
 ghost use Rattle.grid_moves.specs.Moves.{are_commuting, swapped};
@@ -42,9 +43,14 @@ pub fn pentagon_targets(
     requires commutes { IsTrue (are_commuting axis g.now c) }
     ensures image { map rank result.items ≡ codes_of (image_of_state axis g.now c corner x.now) }
     ensures states { All (λ y. IsState y × (length y ≡ size g.now)) result.items }
+
+    // Each state of the image has the degrees, in the exchanged grid, that `x` has in `g`.
+    ensures keeps_maslov { All (λ y. maslov_o (swapped axis g.now c) y ≡ maslov_o g.now x.now) result.items }
+    ensures keeps_alexander { All (λ y. alexander (swapped axis g.now c) y ≡ alexander g.now x.now) result.items }
     ensures inline { result.capacity ≡ 45 }
 {
     let _ = g.size();
+    let _ = x.size();
     let t = across(g, axis);
     let w = crossing_row(&t, c, corner);
     targets_across(alloc, &t, axis, c, w, x)
@@ -77,6 +83,16 @@ pub fn image(
     // call answers.
     ensures chain_map { (y : Codes) → image_of axis g.now c corner (border g.now y)
         ≡ border (swapped axis g.now c) (image_of axis g.now c corner y) }
+
+    // Each state of the image of a state has, in the exchanged grid, the Maslov degree of that state.
+    ensures keeps_maslov { (x y : List ℕ) → IsState x → length x ≡ size g.now → IsState y → length y ≡ size g.now
+        → IsTrue (holds (image_of_state axis g.now c corner x) (rank y))
+        → maslov_o (swapped axis g.now c) y ≡ maslov_o g.now x }
+
+    // And its Alexander degree.
+    ensures keeps_alexander { (x y : List ℕ) → IsState x → length x ≡ size g.now → IsState y → length y ≡ size g.now
+        → IsTrue (holds (image_of_state axis g.now c corner x) (rank y))
+        → alexander (swapped axis g.now c) y ≡ alexander g.now x }
 
     // `Over` carries the state of the upper right corners of the X to that of the exchanged grid.
     ensures over { image_of axis g.now c Corner.Over (single (rank (plus_state g.now)))

@@ -1,4 +1,5 @@
--- The laws hold of any chain.
+-- The laws hold of any chain and any state.
+use Rattle.pentagon_map.proofs.Degrees.KeptDegrees.{maslov_o-image_of_state, alexander-image_of_state}
 use Rattle.pentagon_map.proofs.FrontStates.ByAxis.{image-plus_state, image-minus_state}
 use Rattle.pentagon_map.proofs.Rows.ImageByRows.{image-border}
 use Rattle.pentagon_map.proofs.images.image.Goals as goal
@@ -11,3 +12,9 @@ returns-clause-over c = image-plus_state c.args.axis c.args.g.now c.size.ensures
 
 pub returns-clause-under : goal.returns-clause-under
 returns-clause-under c = image-minus_state c.args.axis c.args.g.now c.size.ensures.grid c.args.c c.requires.below c.requires.commutes
+
+pub returns-clause-keeps_maslov : goal.returns-clause-keeps_maslov
+returns-clause-keeps_maslov c = maslov_o-image_of_state c.args.axis c.args.g.now c.size.ensures.grid c.args.c c.requires.below c.requires.commutes c.args.corner
+
+pub returns-clause-keeps_alexander : goal.returns-clause-keeps_alexander
+returns-clause-keeps_alexander c = alexander-image_of_state c.args.axis c.args.g.now c.size.ensures.grid c.args.c c.requires.below c.requires.commutes c.args.corner
