@@ -6,11 +6,17 @@
 --     turned_state side x     the state x after a turn of the grid: its points move with the squares
 --     turned_chain side n z   the chain of the turned states
 --     transposed_chain n z    the chain of the transposed states
+--     target_column side n c  the column to which the marks of column c come
+--     turned_place axis side n c  where columns, or rows, c - 1 and c come
 use Rattle.std.specs.Prelude.{ℕ, List, length, map, nat_lt, if◌then◌else◌}
 use Rattle.f2_algebra.specs.Chain.{Chain, codes, of_codes}
 use Rattle.state_rank.specs.States.{rank, unrank, factorial, transpose}
+use Rattle.torus_geom.specs.Front.{one_up, one_down}
 use Rattle.grid_moves.specs.declared.turns.Side.{Side}
-use Rattle.grid_moves.specs.Moves.{turned_rows}
+use Rattle.grid_moves.specs.declared.turns.Side.TheVariants.{Left, Right, Up, Down}
+use Rattle.grid_moves.specs.declared.commutations.Axis.{Axis}
+use Rattle.grid_moves.specs.declared.commutations.Axis.TheVariants.{Cols, Rows}
+use Rattle.grid_moves.specs.Moves.{turned_rows, moved_row}
 
 abbrev pub moved : ℕ → (List ℕ → List ℕ) → ℕ → ℕ
 moved n f code = if nat_lt code (factorial n) then rank (f (unrank n code)) else code
@@ -27,3 +33,13 @@ turned_chain side n z = carried n (turned_state side) z
 
 abbrev pub transposed_chain : ℕ → Chain → Chain
 transposed_chain n z = carried n transpose z
+
+abbrev pub target_column : Side → ℕ → ℕ → ℕ
+target_column Left n c = one_down n c
+target_column Right n c = one_up n c
+target_column Up n c = c
+target_column Down n c = c
+
+abbrev pub turned_place : Axis → Side → ℕ → ℕ → ℕ
+turned_place Cols side n c = target_column side n c
+turned_place Rows side n c = moved_row side n c

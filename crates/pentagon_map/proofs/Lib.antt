@@ -5,3 +5,4 @@ mod Examples
 pub mod FrontStates
 pub mod Rows
 pub mod Targets
+pub mod Turns

@@ -8,7 +8,9 @@ ghost use Rattle.torus_geom.specs.Border.{border};
 ghost use Rattle.torus_geom.specs.Degrees.{maslov_o, alexander};
 ghost use Rattle.torus_geom.specs.Front.{plus_state, minus_state};
 ghost use Rattle.torus_geom.specs.Marks.{Marks, IsGrid, size};
-ghost use Rattle.grid_moves.specs.Moves.{are_commuting, swapped};
+ghost use Rattle.grid_moves.specs.Carried.{turned_chain, turned_place};
+ghost use Rattle.grid_moves.specs.Moves.{are_commuting, swapped, turned};
+ghost use Rattle.grid_moves.specs.declared.turns.Side.{Side};
 ghost use Rattle.pentagon_map.specs.Pentagon.{crossing_row as crossing_row_of, image_of_state, image as image_of};
 ghost use Rattle.pentagon_map.specs.Inner.Exchanges.{across as across_of};
 
@@ -83,6 +85,11 @@ pub fn image(
     // call answers.
     ensures chain_map { (y : Codes) → image_of axis g.now c corner (border g.now y)
         ≡ border (swapped axis g.now c) (image_of axis g.now c corner y) }
+
+    // A turn carries the image of any chain to the image of the turned chain, at the turned place.
+    ensures turns { (side : Side) (y : Codes)
+        → image_of axis (turned side g.now) (turned_place axis side (size g.now) c) corner (turned_chain side (size g.now) y)
+        ≡ turned_chain side (size g.now) (image_of axis g.now c corner y) }
 
     // Each state of the image of a state has, in the exchanged grid, the Maslov degree of that state.
     ensures keeps_maslov { (x y : List ℕ) → IsState x → length x ≡ size g.now → IsState y → length y ≡ size g.now

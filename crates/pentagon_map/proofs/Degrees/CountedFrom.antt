@@ -9,10 +9,10 @@ use Rattle.rectangles.proofs.CyclicOrder.{between}
 abbrev pub counted_from : ℕ → ℕ → ℕ → ℕ
 counted_from n b t = cond (leb b t) (t - b) (t + (n - b))
 
-counted_from-high : (n b t : ℕ) → b ≤ t → counted_from n b t ≡ t - b
+pub counted_from-high : (n b t : ℕ) → b ≤ t → counted_from n b t ≡ t - b
 counted_from-high n b t h = let e : leb b t ≡ true = grind arith in ap (λ r. cond r (t - b) (t + (n - b))) e
 
-counted_from-low : (n b t : ℕ) → t < b → counted_from n b t ≡ t + (n - b)
+pub counted_from-low : (n b t : ℕ) → t < b → counted_from n b t ≡ t + (n - b)
 counted_from-low n b t h = let e : leb b t ≡ false = grind arith in ap (λ r. cond r (t - b) (t + (n - b))) e
 
 pub counted_from-self : (n b : ℕ) → counted_from n b b ≡ 0

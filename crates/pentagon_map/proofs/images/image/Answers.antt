@@ -2,6 +2,7 @@
 use Rattle.pentagon_map.proofs.Degrees.KeptDegrees.{maslov_o-image_of_state, alexander-image_of_state}
 use Rattle.pentagon_map.proofs.FrontStates.ByAxis.{image-plus_state, image-minus_state}
 use Rattle.pentagon_map.proofs.Rows.ImageByRows.{image-border}
+use Rattle.pentagon_map.proofs.Turns.TurnedByAxis.{image-turned}
 use Rattle.pentagon_map.proofs.images.image.Goals as goal
 
 pub returns-clause-chain_map : goal.returns-clause-chain_map
@@ -18,3 +19,6 @@ returns-clause-keeps_maslov c = maslov_o-image_of_state c.args.axis c.args.g.now
 
 pub returns-clause-keeps_alexander : goal.returns-clause-keeps_alexander
 returns-clause-keeps_alexander c = alexander-image_of_state c.args.axis c.args.g.now c.size.ensures.grid c.args.c c.requires.below c.requires.commutes c.args.corner
+
+pub returns-clause-turns : goal.returns-clause-turns
+returns-clause-turns c side y = image-turned c.args.axis side c.args.g.now c.size.ensures.grid c.args.c c.requires.below c.args.corner y

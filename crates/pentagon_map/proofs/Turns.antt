@@ -1,0 +1,4 @@
+pub mod Shifts
+pub mod TurnedPentagons
+pub mod TurnedImages
+pub mod TurnedByAxis
