@@ -4,11 +4,11 @@ use Rattle.std.proofs.Math.Seq.{drop-cons, drop-length}
 use Rattle.std.proofs.lemmas.Bool.{eqb-true, eq-eqb, false≢true, cases_Bool}
 use Rattle.f2_algebra.specs.Chain.{Chain, holds, nothing, single, of_codes, ◌⊕◌, where_code, pairs_oddly}
 use Rattle.f2_algebra.specs.Cancel.{Entry, is_one_of, without, rest_of_one, lift_of_one, pull_of_one, rest, lift, pull, correction}
-use Rattle.f2_algebra.proofs.Tables.{◌⊻◌, same, xor-false}
-use Rattle.f2_algebra.proofs.Sets.{any, same_chain, holds-single, holds-add, holds-where_code, IsApart, pairs_oddly-comm}
-use Rattle.f2_algebra.proofs.Sums.{add_comm, add_assoc, add-nothing}
-use Rattle.f2_algebra.proofs.Lists.{of_codes-cons}
-use Rattle.f2_algebra.proofs.LogLemmas.{correction_by, correction-by}
+use Rattle.f2_algebra.proofs.Chains.Tables.{◌⊻◌, same, xor-false}
+use Rattle.f2_algebra.proofs.Chains.Sets.{any, same_chain, holds-single, holds-add, holds-where_code, IsApart, pairs_oddly-comm}
+use Rattle.f2_algebra.proofs.Chains.Sums.{add_comm, add_assoc, add-nothing}
+use Rattle.f2_algebra.proofs.Chains.Lists.{of_codes-cons}
+use Rattle.f2_algebra.proofs.Cancelling.LogLemmas.{correction_by, correction-by}
 use Rattle.cancel.specs.declared.logs.LogEntry.{LogEntry}
 use Rattle.cancel.specs.Logs.{entry_of, log_of}
 use Rattle.cancel.specs.Inner.Passes.{held, correction_by_marks}

@@ -11,9 +11,9 @@ use Rattle.torus_geom.specs.Counts.{count_below}
 use Rattle.torus_geom.specs.Marks.{Marks, size, IsGrid}
 use Rattle.torus_geom.specs.Components.{column_after, walk, is_first, components}
 use Rattle.torus_geom.specs.Degrees.{maslov_o, maslov_x, alexander, bidegree}
-use Rattle.torus_geom.proofs.AllBelowLemmas.{at_all_below, all_below-true}
-use Rattle.torus_geom.proofs.TabulateLemmas.{pos-length-filter-ascending}
-use Rattle.torus_geom.proofs.CycleLemmas.{after, PicksOne, picks_first}
+use Rattle.torus_geom.proofs.Sums.AllBelowLemmas.{at_all_below, all_below-true}
+use Rattle.torus_geom.proofs.Sums.TabulateLemmas.{pos-length-filter-ascending}
+use Rattle.torus_geom.proofs.Cycles.CycleLemmas.{after, PicksOne, picks_first}
 use Rattle.grid_moves.proofs.CycleCounts.{same_cycles, same_cycles_along}
 
 module _ (g : Marks) (grid : IsGrid g) where

@@ -7,9 +7,9 @@ use Rattle.std.proofs.lemmas.Bool.{cases_eq, cases_Bool, eqb-true, eq-eqb, ne_eq
 use Rattle.state_rank.proofs.BijectionLemmas.{IsOneToOne}
 use Rattle.state_rank.proofs.Pigeonhole.{onto}
 use Rattle.torus_geom.specs.Counts.{one_if, count_below, all_below}
-use Rattle.torus_geom.proofs.AllBelowLemmas.{all_below-false}
-use Rattle.torus_geom.proofs.SumLemmas.{sum_below_same, sum_below_swap, sum_below-at_only, sum_below_reindex, sum_below_vanishes, at_only}
-use Rattle.torus_geom.proofs.CycleLemmas.{after, after-add, after_below, Meets, PicksOne, soon, meets_back}
+use Rattle.torus_geom.proofs.Sums.AllBelowLemmas.{all_below-false}
+use Rattle.torus_geom.proofs.Sums.SumLemmas.{sum_below_same, sum_below_swap, sum_below-at_only, sum_below_reindex, sum_below_vanishes, at_only}
+use Rattle.torus_geom.proofs.Cycles.CycleLemmas.{after, after-add, after_below, Meets, PicksOne, soon, meets_back}
 
 module _ (n : ℕ) (s : ℕ → ℕ) (one : IsOneToOne n s) where
   -- whether the walk from d comes to c

@@ -2,7 +2,7 @@
 use Rattle.std.proofs.Common.{List, ap, arith, length, refl, slice_index, subst, sym, ℕ, ◌<◌, ◌∙◌, ◌≡◌}
 use Rattle.state_rank.proofs.BijectionLemmas.{same_list}
 use Rattle.state_rank.specs.Bijection.{IsBijection}
-use Rattle.torus_geom.proofs.TurnLemmas.{one_down-one_up, one_up-one_down}
+use Rattle.torus_geom.proofs.Circles.TurnLemmas.{one_down-one_up, one_up-one_down}
 use Rattle.grid_moves.proofs.CarriedChains.{AreInverse}
 use Rattle.grid_moves.proofs.TurnLemmas.{IsBijection-turned_rows, slice_index-turned_rows, source_column-one_to_one}
 use Rattle.grid_moves.specs.Carried.{target_column, turned_state}

@@ -11,7 +11,7 @@
 use Rattle.std.specs.Prelude.{ℕ, List, length, map, nat_lt, if◌then◌else◌}
 use Rattle.f2_algebra.specs.Chain.{Chain, codes, of_codes}
 use Rattle.state_rank.specs.States.{rank, unrank, factorial, transpose}
-use Rattle.torus_geom.specs.Front.{one_up, one_down}
+use Rattle.torus_geom.specs.Range.{one_up, one_down}
 use Rattle.grid_moves.specs.declared.turns.Side.{Side}
 use Rattle.grid_moves.specs.declared.turns.Side.TheVariants.{Left, Right, Up, Down}
 use Rattle.grid_moves.specs.declared.commutations.Axis.{Axis}

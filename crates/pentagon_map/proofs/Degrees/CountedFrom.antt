@@ -2,8 +2,8 @@
 use Rattle.std.proofs.Common.{Bool, ap, ap₂, arith, cond, false, inl, inr, leb, ltb, not, refl, sym, true, ℕ, ◌&&◌, ◌+◌, ◌-◌, ◌<◌, ◌||◌, ◌∙◌, ◌≡◌, ◌≢◌, ◌≤◌}
 use Rattle.std.proofs.lemmas.Bool.{and_from, cases_lt}
 use mathlib.Core.Bool.{beq}
-use Rattle.f2_algebra.proofs.Tables.{Table, beq_same, given, implies, same, ◌⊻◌}
-use Rattle.rectangles.proofs.CyclicOrder.{between}
+use Rattle.f2_algebra.proofs.Chains.Tables.{Table, beq_same, given, implies, same, ◌⊻◌}
+use Rattle.rectangles.proofs.Square.CyclicOrder.{between}
 
 -- t counted from b, of n numbers
 abbrev pub counted_from : ℕ → ℕ → ℕ → ℕ

@@ -5,18 +5,18 @@ use Rattle.std.proofs.Common.{Bool, ap, arith, cond, eqb, false, inl, inr, not, 
 use Rattle.std.proofs.Math.IntN.{pos, ◌+ℤ◌}
 use Rattle.std.proofs.lemmas.Bool.{cases_eq}
 use Rattle.std.proofs.lemmas.Int.{ints}
-use Rattle.f2_algebra.proofs.Tables.{same}
+use Rattle.f2_algebra.proofs.Chains.Tables.{same}
 use Rattle.state_rank.proofs.BijectionLemmas.{IsOneToOne}
-use Rattle.torus_geom.proofs.ExchangeLaw.{IsExchange, marks_between, pairs-exchanged_both, pairs-exchanged_left, points_within}
-use Rattle.torus_geom.proofs.PairLemmas.{maslov_by_pairs}
-use Rattle.torus_geom.proofs.SumLemmas.{at_only, sum_below-at_only, sum_below_same, sum_below_vanishes}
-use Rattle.torus_geom.proofs.TurnLemmas.{one_down_below, one_up-one_down}
+use Rattle.torus_geom.proofs.Pairs.ExchangeLaw.{IsExchange, marks_between, pairs-exchanged_both, pairs-exchanged_left, points_within}
+use Rattle.torus_geom.proofs.Pairs.PairLemmas.{maslov_by_pairs}
+use Rattle.torus_geom.proofs.Sums.SumLemmas.{at_only, sum_below-at_only, sum_below_same, sum_below_vanishes}
+use Rattle.torus_geom.proofs.Circles.TurnLemmas.{one_down_below, one_up-one_down}
 use Rattle.torus_geom.specs.Counts.{one_if}
-use Rattle.torus_geom.specs.Front.{one_down}
-use Rattle.rectangles.proofs.CyclicOrder.{between}
-use Rattle.rectangles.proofs.EmptyRectangles.{is_between}
-use Rattle.rectangles.proofs.Exchanges.{exchanged, exchanged-first, exchanged-other, exchanged-second}
-use Rattle.rectangles.proofs.TwoSteps.{differ, differ-self}
+use Rattle.torus_geom.specs.Range.{one_down}
+use Rattle.rectangles.proofs.Square.CyclicOrder.{between}
+use Rattle.rectangles.proofs.Square.EmptyRectangles.{is_between}
+use Rattle.rectangles.proofs.Square.Exchanges.{exchanged, exchanged-first, exchanged-other, exchanged-second}
+use Rattle.rectangles.proofs.Square.TwoSteps.{differ, differ-self}
 use Rattle.pentagon_map.proofs.ChainMap.CyclicSteps.{between-thin, one_down-other, one_down_cases}
 
 module _ (n : ℕ) (o x : ℕ → ℕ) (oo : IsOneToOne n o) (ox : IsOneToOne n x) (c : ℕ) (lc : c < n) (big : 2 ≤ n) where

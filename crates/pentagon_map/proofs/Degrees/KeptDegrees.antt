@@ -1,37 +1,37 @@
 -- The image of a state has its Maslov and its Alexander degree, in the exchanged grid: for columns by its pentagons, for
 -- rows since transposing keeps degrees.
-use Rattle.rectangles.proofs.RectangleTests.{slice_index-swap as slice_index-exchanged}
+use Rattle.rectangles.proofs.Square.RectangleTests.{slice_index-swap as slice_index-exchanged}
 use Rattle.std.proofs.Common.{All, Bool, List, ap, arith, eqb, false, get_or, inl, inr, length, map, not, refl, slice_index, subst, suc, swap, sym, true, true≢false, zero, ℕ, ◌&&◌, ◌<◌, ◌||◌, ◌∙◌, ◌≡◌, ◌≢◌, ◌⊎◌}
 use Rattle.std.proofs.Math.IntN.{pos}
 use Rattle.std.proofs.lemmas.Bool.{and_parts, cases_Bool, eqb-true, ne_eqb, or_cases}
 use Rattle.std.proofs.lemmas.List.{get_or-map, length-map}
 use Rattle.std.proofs.lemmas.List.Edits.{length-swap}
-use Rattle.f2_algebra.proofs.Lists.{All-codes}
-use Rattle.f2_algebra.proofs.ParityLemmas.{below, parity_below}
-use Rattle.f2_algebra.proofs.Tables.{same, ◌⊻◌}
+use Rattle.f2_algebra.proofs.Chains.Lists.{All-codes}
+use Rattle.f2_algebra.proofs.Chains.ParityLemmas.{below, parity_below}
+use Rattle.f2_algebra.proofs.Chains.Tables.{same, ◌⊻◌}
 use Rattle.f2_algebra.specs.Chain.{Chain, codes, holds}
 use Rattle.state_rank.proofs.BijectionLemmas.{column_of-below, one_to_one}
 use Rattle.state_rank.proofs.RankLemmas.{rank_one_to_one}
 use Rattle.state_rank.proofs.SwapLemmas.{exchanged, exchanged_below, exchanged_back, slice_index-swap, slice_index-swap_first, slice_index-swap_second, slice_index-swap_other, IsBijection-swap}
 use Rattle.state_rank.specs.Bijection.{IsBijection, column_of}
 use Rattle.state_rank.specs.States.{IsState, rank, transpose}
-use Rattle.torus_geom.proofs.AllBelowLemmas.{at_all_below}
-use Rattle.torus_geom.proofs.ExchangeLaw.{IsExchange, points_within}
-use Rattle.torus_geom.proofs.PairLemmas.{maslov-by_pairs, maslov_by_pairs}
-use Rattle.torus_geom.proofs.RowPairLemmas.{maslov_by_pairs-column_of, maslov_by_pairs_same}
-use Rattle.torus_geom.proofs.SumLemmas.{sum_below_vanishes}
+use Rattle.torus_geom.proofs.Sums.AllBelowLemmas.{at_all_below}
+use Rattle.torus_geom.proofs.Pairs.ExchangeLaw.{IsExchange, points_within}
+use Rattle.torus_geom.proofs.Pairs.PairLemmas.{maslov-by_pairs, maslov_by_pairs}
+use Rattle.torus_geom.proofs.Pairs.RowPairLemmas.{maslov_by_pairs-column_of, maslov_by_pairs_same}
+use Rattle.torus_geom.proofs.Sums.SumLemmas.{sum_below_vanishes}
 use Rattle.torus_geom.proofs.TransposeLemmas.{IsBijection-transposed, IsGrid-transposed, length-transpose, slice_index-transpose}
-use Rattle.torus_geom.proofs.TurnLemmas.{one_down_below}
+use Rattle.torus_geom.proofs.Circles.TurnLemmas.{one_down_below}
 use Rattle.torus_geom.specs.Components.{column_after, components}
 use Rattle.torus_geom.specs.Counts.{one_if}
 use Rattle.torus_geom.specs.Degrees.{alexander, maslov, maslov_o, maslov_x}
-use Rattle.torus_geom.specs.Front.{one_down}
+use Rattle.torus_geom.specs.Range.{one_down}
 use Rattle.torus_geom.specs.Marks.{IsGrid, Marks, size}
 use Rattle.torus_geom.specs.Transposed.{transposed}
-use Rattle.rectangles.proofs.CyclicOrder.{between}
-use Rattle.rectangles.proofs.EmptyRectangles.{free, is_between, is_clear_of}
-use Rattle.rectangles.proofs.OpenRectangles.{marks}
-use Rattle.rectangles.proofs.TwoSteps.{differ, differ_apart}
+use Rattle.rectangles.proofs.Square.CyclicOrder.{between}
+use Rattle.rectangles.proofs.Square.EmptyRectangles.{free, is_between, is_clear_of}
+use Rattle.rectangles.proofs.Square.OpenRectangles.{marks}
+use Rattle.rectangles.proofs.Square.TwoSteps.{differ, differ_apart}
 use Rattle.grid_moves.proofs.CarriedChains.{holds-carried, moved-rank}
 use Rattle.grid_moves.proofs.ComponentLemmas.{alexander_same, components-along, components-back, row-column_after}
 use Rattle.grid_moves.proofs.SwapGridLemmas.{IsGrid-swapped_columns}

@@ -4,18 +4,18 @@ use Rattle.std.proofs.Common.{Bool, ap, ap₂, arith, cond, eqb, false, inl, inr
 use Rattle.std.proofs.Math.IntN.{pos, ◌+ℤ◌}
 use Rattle.std.proofs.lemmas.Bool.{cases_eq, eq-eqb, ne_eqb}
 use Rattle.std.proofs.lemmas.Int.{ints}
-use Rattle.f2_algebra.proofs.Tables.{same, ◌⊻◌}
+use Rattle.f2_algebra.proofs.Chains.Tables.{same, ◌⊻◌}
 use Rattle.state_rank.proofs.BijectionLemmas.{IsOneToOne}
-use Rattle.torus_geom.proofs.ExchangeLaw.{IsExchange, marks_between, maslov-exchanged, points_within}
-use Rattle.torus_geom.proofs.PairLemmas.{maslov_by_pairs}
-use Rattle.torus_geom.proofs.SumLemmas.{at_only, sum_below-at_only, sum_below_same}
-use Rattle.torus_geom.proofs.TurnLemmas.{one_down_below}
+use Rattle.torus_geom.proofs.Pairs.ExchangeLaw.{IsExchange, marks_between, maslov-exchanged, points_within}
+use Rattle.torus_geom.proofs.Pairs.PairLemmas.{maslov_by_pairs}
+use Rattle.torus_geom.proofs.Sums.SumLemmas.{at_only, sum_below-at_only, sum_below_same}
+use Rattle.torus_geom.proofs.Circles.TurnLemmas.{one_down_below}
 use Rattle.torus_geom.specs.Counts.{one_if}
-use Rattle.torus_geom.specs.Front.{one_down}
-use Rattle.rectangles.proofs.CyclicOrder.{between, between_end, between_start}
-use Rattle.rectangles.proofs.Exchanges.{exchanged, exchanged-first, exchanged-other, exchanged-second}
-use Rattle.rectangles.proofs.OpenRectangles.{marks}
-use Rattle.rectangles.proofs.TwoSteps.{differ, differ-self}
+use Rattle.torus_geom.specs.Range.{one_down}
+use Rattle.rectangles.proofs.Square.CyclicOrder.{between, between_end, between_start}
+use Rattle.rectangles.proofs.Square.Exchanges.{exchanged, exchanged-first, exchanged-other, exchanged-second}
+use Rattle.rectangles.proofs.Square.OpenRectangles.{marks}
+use Rattle.rectangles.proofs.Square.TwoSteps.{differ, differ-self}
 use Rattle.pentagon_map.proofs.ChainMap.CyclicSteps.{between-one_down, one_down-other}
 use Rattle.pentagon_map.proofs.ChainMap.RowArcs.{above_of}
 use Rattle.pentagon_map.proofs.Degrees.ExchangedColumns.{maslov-columns, one'}

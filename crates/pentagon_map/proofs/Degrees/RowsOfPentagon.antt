@@ -3,9 +3,9 @@
 -- Route: count the rows from the crossing row w; there ranges are those of numbers with 0 for w.
 use Rattle.std.proofs.Common.{ap, arith, false, inl, inr, leb, ltb, not, refl, sym, true, true≢false, ℕ, ◌&&◌, ◌<◌, ◌∙◌, ◌≡◌, ◌≢◌, ◌≤◌}
 use Rattle.std.proofs.lemmas.Bool.{cases_eq, cases_lt}
-use Rattle.f2_algebra.proofs.Tables.{and-true, same, ◌⊻◌}
-use Rattle.rectangles.proofs.CyclicOrder.{between, between_end}
-use Rattle.rectangles.proofs.TwoSteps.{differ-true}
+use Rattle.f2_algebra.proofs.Chains.Tables.{and-true, same, ◌⊻◌}
+use Rattle.rectangles.proofs.Square.CyclicOrder.{between, between_end}
+use Rattle.rectangles.proofs.Square.TwoSteps.{differ-true}
 use Rattle.pentagon_map.proofs.ChainMap.RowArcs.{above_of}
 use Rattle.pentagon_map.proofs.Degrees.CountedFrom.{between-counted_from, counted_from, counted_from-apart, counted_from-one, counted_from-self}
 

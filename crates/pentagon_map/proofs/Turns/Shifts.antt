@@ -2,10 +2,10 @@
 use Rattle.std.proofs.Common.{ap, arith, eqb, inl, inr, not, refl, sym, ℕ, ◌<◌, ◌∙◌, ◌≡◌, ◌≤◌}
 use Rattle.std.proofs.lemmas.Bool.{cases_eq, eq-eqb, ne_eqb}
 use Rattle.state_rank.proofs.BijectionLemmas.{IsOneToOne}
-use Rattle.torus_geom.proofs.TurnLemmas.{one_down-one_up, one_down_one, one_up-one_down, one_up_below, one_up_one}
-use Rattle.torus_geom.specs.Front.{one_down, one_up}
-use Rattle.rectangles.proofs.CyclicOrder.{between}
-use Rattle.rectangles.proofs.TwoSteps.{differ}
+use Rattle.torus_geom.proofs.Circles.TurnLemmas.{one_down-one_up, one_down_one, one_up-one_down, one_up_below, one_up_one}
+use Rattle.torus_geom.specs.Range.{one_down, one_up}
+use Rattle.rectangles.proofs.Square.CyclicOrder.{between}
+use Rattle.rectangles.proofs.Square.TwoSteps.{differ}
 use Rattle.grid_moves.specs.Carried.{target_column}
 use Rattle.grid_moves.specs.Moves.{moved_row}
 use Rattle.grid_moves.specs.declared.turns.Side.{Side}

@@ -2,7 +2,7 @@
 -- of the one kind a turn of the other.
 use Rattle.std.proofs.Common.{List, ap, arith, inl, inr, refl, slice_index, sym, ℕ, ◌<◌, ◌∙◌, ◌≡◌, ◌≤◌}
 use Rattle.std.proofs.lemmas.Bool.{cases_lt}
-use Rattle.f2_algebra.proofs.Sets.{same_chain}
+use Rattle.f2_algebra.proofs.Chains.Sets.{same_chain}
 use Rattle.f2_algebra.specs.Chain.{Chain, holds}
 use Rattle.state_rank.proofs.BijectionLemmas.{one_to_one, same_list}
 use Rattle.state_rank.proofs.Pigeonhole.{onto}
@@ -10,7 +10,7 @@ use Rattle.state_rank.proofs.RankLemmas.{IsBijection-unrank}
 use Rattle.state_rank.specs.Bijection.{IsBijection}
 use Rattle.state_rank.specs.States.{factorial, rank, transpose, unrank}
 use Rattle.torus_geom.proofs.TransposeLemmas.{IsBijection-transposed, IsGrid-transposed}
-use Rattle.torus_geom.proofs.TurnLemmas.{composed_one}
+use Rattle.torus_geom.proofs.Circles.TurnLemmas.{composed_one}
 use Rattle.torus_geom.specs.Marks.{IsGrid, Marks, size}
 use Rattle.torus_geom.specs.Transposed.{transposed}
 use Rattle.grid_moves.proofs.CarriedChains.{AreInverse-back, holds-carried, moved-below, moved-past, moved-rank, moved-undone}

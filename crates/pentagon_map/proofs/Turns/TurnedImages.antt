@@ -1,16 +1,16 @@
 -- A turn carries the image of a chain across columns to the image, in the turned grid, of the turned chain.
 use Rattle.std.proofs.Common.{Bool, List, ap, ap₂, arith, cond, eqb, false, refl, slice_index, subst, swap, sym, true, ℕ, ◌&&◌, ◌<◌, ◌∙◌, ◌≡◌}
-use Rattle.f2_algebra.proofs.ParityLemmas.{parity_below, parity_below-same}
+use Rattle.f2_algebra.proofs.Chains.ParityLemmas.{parity_below, parity_below-same}
 use Rattle.f2_algebra.specs.Chain.{Chain, holds, sum_over}
 use Rattle.state_rank.proofs.BijectionLemmas.{same_list}
 use Rattle.state_rank.proofs.Pigeonhole.{onto}
 use Rattle.state_rank.proofs.RankLemmas.{rank_one_to_one}
-use Rattle.rectangles.proofs.RectangleTests.{in_range-between}
+use Rattle.rectangles.proofs.Square.RectangleTests.{in_range-between}
 use Rattle.state_rank.proofs.SwapLemmas.{exchanged, exchanged_below, slice_index-swap, IsBijection-swap}
 use Rattle.state_rank.specs.Bijection.{IsBijection}
 use Rattle.state_rank.specs.States.{rank, unrank}
-use Rattle.torus_geom.proofs.TurnLemmas.{one_down_below}
-use Rattle.torus_geom.specs.Front.{one_down}
+use Rattle.torus_geom.proofs.Circles.TurnLemmas.{one_down_below}
+use Rattle.torus_geom.specs.Range.{one_down}
 use Rattle.torus_geom.specs.Marks.{IsGrid, Marks, size}
 use Rattle.torus_geom.specs.Range.{in_range}
 use Rattle.grid_moves.proofs.CarriedChains.{eqb_alike, sum_over-carried}

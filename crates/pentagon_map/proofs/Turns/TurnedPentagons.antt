@@ -1,11 +1,11 @@
 -- A turn carries pentagons to pentagons: with the columns moved by f and the rows by h, each test of a pentagon is
 -- that of the turned one, since tests of all columns may be taken in another order.
 use Rattle.std.proofs.Common.{ap, ap₂, not, sym, ℕ, ◌&&◌, ◌<◌, ◌||◌, ◌∙◌, ◌≡◌}
-use Rattle.rectangles.proofs.ColumnTests.{all_below-same}
-use Rattle.rectangles.proofs.CyclicOrder.{between}
-use Rattle.rectangles.proofs.EmptyRectangles.{free, is_between, is_clear_of}
-use Rattle.rectangles.proofs.OpenRectangles.{marks}
-use Rattle.rectangles.proofs.TwoSteps.{differ}
+use Rattle.rectangles.proofs.Square.ColumnTests.{all_below-same}
+use Rattle.rectangles.proofs.Square.CyclicOrder.{between}
+use Rattle.rectangles.proofs.Square.EmptyRectangles.{free, is_between, is_clear_of}
+use Rattle.rectangles.proofs.Square.OpenRectangles.{marks}
+use Rattle.rectangles.proofs.Square.TwoSteps.{differ}
 use Rattle.pentagon_map.proofs.ChainMap.Pentagons.{is_open_pentagon, lacks, penta, two}
 use Rattle.pentagon_map.proofs.ChainMap.RowArcs.{above_of}
 use Rattle.pentagon_map.proofs.Rows.Reindexing.{all_below_reindex}

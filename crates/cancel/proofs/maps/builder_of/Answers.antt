@@ -1,9 +1,9 @@
 -- The codes of a chain are distinct.
 use Rattle.std.proofs.Common.{◌≢◌, AllPairs, sym, ap, ap₂, subst, ◌∙◌}
 use Rattle.f2_algebra.specs.Chain.{codes, of_codes, ◌⊕◌}
-use Rattle.f2_algebra.proofs.Sets.{IsApart-codes}
-use Rattle.f2_algebra.proofs.Sums.{nothing-add}
-use Rattle.f2_algebra.proofs.Lists.{of_codes-codes}
+use Rattle.f2_algebra.proofs.Chains.Sets.{IsApart-codes}
+use Rattle.f2_algebra.proofs.Chains.Sums.{nothing-add}
+use Rattle.f2_algebra.proofs.Chains.Lists.{of_codes-codes}
 use Rattle.cancel.proofs.MapLemmas.{pairs-IsApart}
 use Rattle.cancel.proofs.maps.builder_of.Goals as goal
 

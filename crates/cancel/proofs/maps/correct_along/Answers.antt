@@ -1,6 +1,6 @@
 -- From the last entry to the first.
 use Rattle.std.proofs.Common.{◌-◌, true, false, sym, arith}
-use Rattle.f2_algebra.proofs.Sums.{add-nothing}
+use Rattle.f2_algebra.proofs.Chains.Sums.{add-nothing}
 use Rattle.cancel.proofs.MapLemmas.{correction-back}
 use Rattle.cancel.proofs.maps.correct_along.Goals as goal
 

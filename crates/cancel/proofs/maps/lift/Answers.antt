@@ -1,5 +1,5 @@
 -- The laws of a log.
-use Rattle.f2_algebra.proofs.Laws.{log_laws}
+use Rattle.f2_algebra.proofs.Cancelling.Laws.{log_laws}
 use Rattle.cancel.proofs.maps.lift.Goals as goal
 
 pub returns-clause-borders : goal.returns-clause-borders

@@ -2,7 +2,7 @@
 use Rattle.std.proofs.Common.{◌-◌, ◌∙◌, sym, ap, refl, arith}
 use Rattle.f2_algebra.specs.Chain.{single, ◌⊕◌}
 use Rattle.f2_algebra.specs.Cancel.{lift}
-use Rattle.f2_algebra.proofs.Sums.{nothing-add}
+use Rattle.f2_algebra.proofs.Chains.Sums.{nothing-add}
 use Rattle.cancel.proofs.MapLemmas.{none_ahead, lift-back}
 use Rattle.cancel.proofs.maps.lift_along.Goals as goal
 

@@ -3,8 +3,8 @@ use Rattle.std.proofs.Common.{ap, sym, subst, ◌∙◌}
 use Rattle.std.proofs.lemmas.Result.{IfOk-weaker}
 use Rattle.f2_algebra.specs.Chain.{single}
 use Rattle.f2_algebra.specs.Cancel.{IsPull, pull}
-use Rattle.f2_algebra.proofs.LogLemmas.{pull_IsPull}
-use Rattle.f2_algebra.proofs.Laws.{log_laws}
+use Rattle.f2_algebra.proofs.Cancelling.LogLemmas.{pull_IsPull}
+use Rattle.f2_algebra.proofs.Cancelling.Laws.{log_laws}
 use Rattle.cancel.specs.Logs.{log_of}
 use Rattle.cancel.proofs.maps.pull.Goals as goal
 

@@ -1,7 +1,7 @@
 -- Each code adds one to the parity where the chain holds it.
 use Rattle.std.proofs.Common.{sym, ap, ◌∙◌, take_all, arith}
 use Rattle.f2_algebra.specs.Chain.{holds}
-use Rattle.f2_algebra.proofs.Sets.{parity, pairs_oddly-list}
+use Rattle.f2_algebra.proofs.Chains.Sets.{parity, pairs_oddly-list}
 use Rattle.f2_chain.proofs.SetLemmas.{parity-take, xor-beq}
 use Rattle.cancel.proofs.MapLemmas.{IsApart-pairs}
 use Rattle.cancel.proofs.steps.shares_oddly.Goals as goal
