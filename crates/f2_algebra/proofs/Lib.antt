@@ -4,27 +4,3 @@ pub mod Ranks
 pub mod Certificates
 pub mod Duals
 pub mod Example
--- by their names without a topic
-pub use Rattle.f2_algebra.proofs.Chains.Tables
-pub use Rattle.f2_algebra.proofs.Chains.ParityLemmas
-pub use Rattle.f2_algebra.proofs.Chains.Sets
-pub use Rattle.f2_algebra.proofs.Chains.Sums
-pub use Rattle.f2_algebra.proofs.Chains.Lists
-pub use Rattle.f2_algebra.proofs.Cancelling.Cancellation
-pub use Rattle.f2_algebra.proofs.Cancelling.LogLemmas
-pub use Rattle.f2_algebra.proofs.Cancelling.LogCounts
-pub use Rattle.f2_algebra.proofs.Cancelling.Slice
-pub use Rattle.f2_algebra.proofs.Cancelling.Laws
-pub use Rattle.f2_algebra.proofs.Ranks.Pigeonhole
-pub use Rattle.f2_algebra.proofs.Ranks.RankLemmas
-pub use Rattle.f2_algebra.proofs.Ranks.Existence
-pub use Rattle.f2_algebra.proofs.Ranks.Part
-pub use Rattle.f2_algebra.proofs.Ranks.Bigraded
-pub use Rattle.f2_algebra.proofs.Ranks.Maps
-pub use Rattle.f2_algebra.proofs.Certificates.Verdict
-pub use Rattle.f2_algebra.proofs.Certificates.VerdictParts
-pub use Rattle.f2_algebra.proofs.Certificates.Span
-pub use Rattle.f2_algebra.proofs.Certificates.Certificate
-pub use Rattle.f2_algebra.proofs.Certificates.LogCertificate
-pub use Rattle.f2_algebra.proofs.Certificates.CertificateRanks
-pub use Rattle.f2_algebra.proofs.Duals.Dual

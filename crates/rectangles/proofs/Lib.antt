@@ -1,22 +1,3 @@
 pub mod Square
 pub mod Sweep
 pub mod Law
--- by their names without a topic
-pub use Rattle.rectangles.proofs.Square.TwoSteps
-pub use Rattle.rectangles.proofs.Square.CyclicOrder
-pub use Rattle.rectangles.proofs.Square.ColumnTests
-pub use Rattle.rectangles.proofs.Square.EmptyRectangles
-pub use Rattle.rectangles.proofs.Square.Exchanges
-pub use Rattle.rectangles.proofs.Square.OpenRectangles
-pub use Rattle.rectangles.proofs.Square.ThreeColumns
-pub use Rattle.rectangles.proofs.Square.RectangleTests
-pub use Rattle.rectangles.proofs.Square.RectangleSums
-pub use Rattle.rectangles.proofs.Square.SquareLemmas
-pub use Rattle.rectangles.proofs.Square.BorderLemmas
-pub use Rattle.rectangles.proofs.Sweep.SweepLemmas
-pub use Rattle.rectangles.proofs.Sweep.OddPairLemmas
-pub use Rattle.rectangles.proofs.Sweep.TargetLemmas
-pub use Rattle.rectangles.proofs.Sweep.PushLemmas
-pub use Rattle.rectangles.proofs.Sweep.LoopLemmas
-pub use Rattle.rectangles.proofs.Law.RectangleLaw
-pub use Rattle.rectangles.proofs.Law.GridComplexLemmas
