@@ -1,6 +1,9 @@
 pub mod CarriedChains
 pub mod ComponentLemmas
 pub mod CycleCounts
+pub mod TransposedGrids
 pub mod TurnLemmas
+pub mod TurnedDegrees
 pub mod TurnedStates
 pub mod SwapGridLemmas
+pub mod SwappedTwice

@@ -1,10 +1,12 @@
 -- A turn of states has the turn to the other side for its inverse.
-use Rattle.std.proofs.Common.{List, ap, arith, length, refl, slice_index, subst, sym, ℕ, ◌<◌, ◌∙◌, ◌≡◌}
-use Rattle.state_rank.proofs.BijectionLemmas.{same_list}
-use Rattle.state_rank.specs.Bijection.{IsBijection}
-use Rattle.torus_geom.proofs.Circles.TurnLemmas.{one_down-one_up, one_up-one_down}
+use Rattle.std.proofs.Common.{List, ap, arith, length, refl, slice_index, subst, sym, take, ℕ, ◌<◌, ◌∙◌, ◌≡◌, ◌≤◌}
+use Rattle.state_rank.proofs.BijectionLemmas.{IsOneToOne, same_list}
+use Rattle.state_rank.specs.Bijection.{IsBijection, IsSize}
+use Rattle.state_rank.specs.States.{IsState}
+use Rattle.torus_geom.proofs.Circles.TurnLemmas.{one_down-one_up, one_down_one, one_up-one_down, one_up_one}
+use Rattle.torus_geom.specs.Marks.{size}
 use Rattle.grid_moves.proofs.CarriedChains.{AreInverse}
-use Rattle.grid_moves.proofs.TurnLemmas.{IsBijection-turned_rows, slice_index-turned_rows, source_column-one_to_one}
+use Rattle.grid_moves.proofs.TurnLemmas.{HasTurned, IsBijection-turned_rows, length-turned_rows, slice_index-turned_rows, source_column-one_to_one, take-turned}
 use Rattle.grid_moves.specs.Carried.{target_column, turned_state}
 use Rattle.grid_moves.specs.Moves.{moved_row, source_column, turned_rows}
 use Rattle.grid_moves.specs.declared.turns.Side.{Side}
@@ -72,3 +74,28 @@ turned_AreInverse side n = record {
   undone = turned_state-back side n;
   redone = λ x sx. ap (λ s. turned_state s (turned_state (opposite side) x)) (sym (opposite-opposite side)) ∙ turned_state-back (opposite side) n x sx;
 }
+
+-- the targets are all columns, each once
+pub target_column-one_to_one : (side : Side) (n : ℕ) → IsOneToOne n (target_column side n)
+target_column-one_to_one Left n = one_down_one n
+target_column-one_to_one Right n = one_up_one n
+target_column-one_to_one Up n = record { small = λ c l. l; apart = λ b c lb lc p. p }
+target_column-one_to_one Down n = record { small = λ c l. l; apart = λ b c lb lc p. p }
+
+-- a turned state is a state
+pub length-turned_state : (side : Side) (x : List ℕ) → length (turned_state side x) ≡ length x
+length-turned_state side x = length-turned_rows side (length x) x
+
+pub IsState-turned_state : (side : Side) (x : List ℕ) → IsState x → IsState (turned_state side x)
+IsState-turned_state side x s =
+    let e = length-turned_state side x in
+    record {
+      size = let P : ℕ → Type 0 = IsSize in subst P (sym e) s.size;
+      bijection = let P : ℕ → Type 0 = λ n. IsBijection n (turned_state side x) in subst P (sym e) (IsBijection-turned_state side (length x) x s.bijection);
+    }
+
+-- where an array has all circles, it begins with the turned state
+pub take-turned_state : (side : Side) (x rows : List ℕ) (n k : ℕ) → IsState x → n ≡ length x → n ≤ k → HasTurned side n x rows k → take n rows ≡ turned_state side x
+take-turned_state side x rows n k s e far h =
+    take-turned side n x rows (let m = s.size.greatest in omega arith) (record { long = h.long; each = λ c l. h.each c (omega arith) })
+    ∙ ap (λ m. turned_rows side m x) e

@@ -58,8 +58,12 @@ pub fn commutes(g: &Grid, axis: Axis, c: u8) -> bool
 pub fn swap(g: &Grid, axis: Axis, c: u8) -> Grid
     requires below { c < size g.now }
     requires commutes { IsTrue (are_commuting axis g.now c) }
-    ensures { result ≡ swapped axis g.now c }
+    ensures grid { result ≡ swapped axis g.now c }
+
+    // Twice at one place gives the grid back.
+    ensures twice { swapped axis (swapped axis g.now c) c ≡ g.now }
 {
+    let _ = g.size();
     match axis {
         Axis::Cols => swapped_columns(g, c),
         Axis::Rows => swapped_columns(&g.transpose(), c).transpose(),

@@ -1,9 +1,13 @@
 //! Cyclic turns of a grid.
-ghost use Rattle.std.specs.Prelude.{◌≡◌, ℕ, ◌<◌, length, slice_index};
+ghost use Rattle.std.specs.Prelude.{◌≡◌, ℕ, List, ◌<◌, length, slice_index};
+ghost use Rattle.state_rank.specs.States.{IsState};
+ghost use Rattle.torus_geom.specs.Components.{components};
+ghost use Rattle.torus_geom.specs.Degrees.{maslov_o, alexander};
 ghost use Rattle.torus_geom.specs.Marks.{Marks, IsGrid, size};
+ghost use Rattle.grid_moves.specs.Carried.{turned_state as turned_state_of};
 ghost use Rattle.grid_moves.specs.Moves.{source_column as source_column_of, moved_row as moved_row_of, turned};
 
-use state_rank::ROOM;
+use state_rank::{ROOM, State};
 use torus_geom::{Grid, one_down, one_up};
 
 /// The side to which a grid is turned by one column or row.
@@ -47,7 +51,14 @@ fn moved_row(side: Side, n: u8, r: u8) -> u8
 /// It is a cyclic permutation of the grid diagram, which keeps its link (Ozsváth, Stipsicz and Szabó,
 /// "Grid Homology for Knots and Links", chapter 3).
 pub fn turn(g: &Grid, side: Side) -> Grid
-    ensures { result ≡ turned side g.now }
+    ensures grid { result ≡ turned side g.now }
+
+    // It keeps the number of components, and the degrees of each state, which turns with the grid.
+    ensures keeps_components { components (turned side g.now) ≡ components g.now }
+    ensures keeps_maslov { (x : List ℕ) → IsState x → length x ≡ size g.now
+        → maslov_o (turned side g.now) (turned_state_of side x) ≡ maslov_o g.now x }
+    ensures keeps_alexander { (x : List ℕ) → IsState x → length x ≡ size g.now
+        → alexander (turned side g.now) (turned_state_of side x) ≡ alexander g.now x }
 {
     let n = g.size();
     let mut o = [0; ROOM];
@@ -58,4 +69,18 @@ pub fn turn(g: &Grid, side: Side) -> Grid
         x[c as usize] = moved_row(side, n, g.x(source));
     }
     Grid::from_marks(&o[..n as usize], &x[..n as usize])
+}
+
+/// The state `x` after a turn of its grid to `side`: to the left each circle takes the point of the next one,
+/// up each point is one circle higher, all mod n.
+pub fn turn_state(x: &State, side: Side) -> State
+    ensures state { result ≡ turned_state_of side x.now }
+    ensures size { length result ≡ length x.now }
+{
+    let n = x.size();
+    let mut rows = [0; ROOM];
+    for c in 0..n {
+        rows[c as usize] = moved_row(side, n, x.row(source_column(side, n, c)));
+    }
+    State::of(&rows[..n as usize]).unwrap()
 }

@@ -42,7 +42,7 @@ use Rattle.pentagon_map.proofs.ChainMap.PentagonSums.{crossing_row-below, holds-
 use Rattle.pentagon_map.proofs.ChainMap.Pentagons.{lacks, two}
 use Rattle.pentagon_map.proofs.Crossing.CrossingRow.{IsCrossing, crossing_row_IsCrossing}
 use Rattle.pentagon_map.proofs.Degrees.MarksInPentagon.{IsPentagonOf, maslov-pentagon}
-use Rattle.pentagon_map.proofs.Rows.Transposing.{size-transposed, transpose-at, transpose-transpose, transpose_AreInverse}
+use Rattle.grid_moves.proofs.TransposedGrids.{size-transposed, transpose-at, transpose-transpose, transpose_AreInverse}
 use Rattle.pentagon_map.specs.Pentagon.{column_image, crossing_row, image_of_state}
 use Rattle.pentagon_map.specs.declared.Corner.{Corner}
 

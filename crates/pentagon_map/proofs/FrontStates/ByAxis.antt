@@ -22,7 +22,7 @@ use Rattle.grid_moves.specs.declared.commutations.Axis.{Axis}
 use Rattle.grid_moves.specs.declared.commutations.Axis.TheVariants.{Cols, Rows}
 use Rattle.pentagon_map.proofs.FrontStates.MinusState.{column_image-minus_state}
 use Rattle.pentagon_map.proofs.FrontStates.PlusState.{IsBijection-plus_state, column_image-plus_state, length-plus_state, plus_state-at}
-use Rattle.pentagon_map.proofs.Rows.Transposing.{size-transposed, transpose-at, transpose_AreInverse}
+use Rattle.grid_moves.proofs.TransposedGrids.{size-transposed, transpose-at, transpose_AreInverse}
 use Rattle.pentagon_map.specs.Pentagon.{column_image, image, image_of_state}
 use Rattle.pentagon_map.specs.declared.Corner.{Corner}
 use Rattle.pentagon_map.specs.declared.Corner.TheVariants.{Over, Under}

@@ -22,7 +22,8 @@ use Rattle.grid_moves.specs.declared.commutations.Axis.TheVariants.{Cols, Rows}
 use Rattle.pentagon_map.proofs.ChainMap.FourRows.{HasFourRows-commuting}
 use Rattle.pentagon_map.proofs.ChainMap.ImageOfBorder.{column_image-nil, image_by_columns, image_by_columns-border}
 use Rattle.pentagon_map.proofs.ChainMap.PentagonSums.{column_image-below}
-use Rattle.pentagon_map.proofs.Rows.Transposing.{border-transposed, size-transposed, transpose_AreInverse}
+use Rattle.grid_moves.proofs.TransposedGrids.{size-transposed, transpose_AreInverse}
+use Rattle.pentagon_map.proofs.Rows.Transposing.{border-transposed}
 use Rattle.pentagon_map.specs.Pentagon.{column_image, image, image_of_state}
 use Rattle.pentagon_map.specs.declared.Corner.{Corner}
 

@@ -26,6 +26,7 @@ use Rattle.rectangles.proofs.Square.OpenRectangles.{is_open, unmarked}
 use Rattle.rectangles.proofs.Square.RectangleSums.{weight-border_of_state}
 use Rattle.rectangles.proofs.Square.TwoSteps.{differ}
 use Rattle.grid_moves.proofs.CarriedChains.{AreInverse, IsOfStates, eqb_alike, sum_over-carried}
+use Rattle.grid_moves.proofs.TransposedGrids.{transpose-at, transpose-transpose, size-transposed, transpose_AreInverse}
 use Rattle.grid_moves.specs.Carried.{transposed_chain}
 use Rattle.pentagon_map.proofs.ChainMap.ImageOfBorder.{border_of_state-nil}
 use Rattle.pentagon_map.proofs.Rows.Reindexing.{all_below_reindex, parity_below_reindex_both}
@@ -40,29 +41,6 @@ pub held_by : (n : ℕ) (g : Marks) → size g ≡ n → IsGrid g → (x : List 
 held_by n g e s =
     let P : ℕ → Type 0 = λ m. (x : List ℕ) → IsBijection m x → (q : ℕ) → holds (border_of_state g x) q ≡ parity_below m (λ a. parity_below m (leads_to m g x q a)) in
     subst P e (λ x sx q. sym (weight-at (border_of_state g x) q) ∙ weight-border_of_state g s x sx (λ t. eqb q t))
-
--- ---- lists
--- the column of the row of column c is c
-pub transpose-at : (n : ℕ) (x : List ℕ) → IsBijection n x → (c : ℕ) → c < n → slice_index (transpose x) (slice_index x c) ≡ c
-transpose-at n x sx c l = slice_index-transpose n x (slice_index x c) sx.long (sx.small c l) ∙ column_of-is n (slice_index x) (one_to_one n x sx) c (slice_index x c) l refl
-
--- Transposing twice is nothing.
-pub transpose-transpose : (n : ℕ) (x : List ℕ) → IsBijection n x → transpose (transpose x) ≡ x
-transpose-transpose n x sx =
-    let su = IsBijection-transposed n x sx in
-    same_list n (transpose (transpose x)) x (IsBijection-transposed n (transpose x) su).long sx.long (λ c l.
-    ap (slice_index (transpose (transpose x))) (sym (transpose-at n x sx c l)) ∙ transpose-at n (transpose x) su (slice_index x c) (sx.small c l))
-
--- the same of grids
-pub transposed-transposed : (g : Marks) → IsGrid g → transposed (transposed g) ≡ g
-transposed-transposed g s = λ i. record { o = transpose-transpose (size g) g.o s.o i; x = transpose-transpose (size g) g.x s.x i }
-
-pub size-transposed : (g : Marks) → size (transposed g) ≡ size g
-size-transposed g = length-transpose g.o
-
--- transposing undoes itself
-pub transpose_AreInverse : (n : ℕ) → AreInverse n transpose transpose
-transpose_AreInverse n = record { kept = IsBijection-transposed n; kept_back = IsBijection-transposed n; undone = transpose-transpose n; redone = transpose-transpose n }
 
 -- ---- exchanges
 -- the exchange of two rows, where f is one to one

@@ -28,7 +28,8 @@ use Rattle.grid_moves.specs.declared.commutations.Axis.TheVariants.{Cols, Rows}
 use Rattle.pentagon_map.proofs.ChainMap.PentagonSums.{crossing_row-below, holds-column_image, passes_at-pentagon, pentagon_at}
 use Rattle.pentagon_map.proofs.ChainMap.Pentagons.{two}
 use Rattle.pentagon_map.proofs.Rows.Reindexing.{parity_below_reindex}
-use Rattle.pentagon_map.proofs.Rows.Transposing.{size-transposed, transpose-swap, transpose-transpose, transpose_AreInverse}
+use Rattle.grid_moves.proofs.TransposedGrids.{size-transposed, transpose-transpose, transpose_AreInverse}
+use Rattle.pentagon_map.proofs.Rows.Transposing.{transpose-swap}
 use Rattle.pentagon_map.proofs.Targets.InOrder.{codes-in_order, in_order_states}
 use Rattle.pentagon_map.specs.Inner.Exchanges.{across, in_order, is_odd_circle, is_pentagon_at, is_set}
 use Rattle.pentagon_map.specs.Pentagon.{column_image, crossing_row, has_mark_from, image_of_state, is_unmarked_beside}

@@ -24,7 +24,7 @@ use Rattle.grid_moves.specs.declared.turns.Side.{Side}
 use Rattle.grid_moves.specs.declared.turns.Side.TheVariants.{Down, Left, Right, Up}
 use Rattle.pentagon_map.proofs.ChainMap.ImageOfBorder.{image_by_columns}
 use Rattle.pentagon_map.proofs.Rows.ImageByRows.{image-by_columns, image-by_rows}
-use Rattle.pentagon_map.proofs.Rows.Transposing.{size-transposed, transpose-at, transpose_AreInverse}
+use Rattle.grid_moves.proofs.TransposedGrids.{size-transposed, transpose-at, transpose_AreInverse}
 use Rattle.pentagon_map.proofs.Turns.Shifts.{IsShift-moved_row, IsShift-target_column}
 use Rattle.pentagon_map.proofs.Turns.TurnedImages.{image_by_columns-turned}
 use Rattle.pentagon_map.specs.Pentagon.{image}

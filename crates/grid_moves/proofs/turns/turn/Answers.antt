@@ -3,6 +3,7 @@ use Rattle.std.proofs.Common.{◌≡◌, take, slice_index, ap, sym, ◌∙◌, 
 use Rattle.torus_geom.specs.Marks.{Marks, IsGrid}
 use Rattle.grid_moves.specs.Moves.{turned, moved_row}
 use Rattle.grid_moves.proofs.TurnLemmas.{HasTurned-more, take-turned_marks, IsGrid-turned}
+use Rattle.grid_moves.proofs.TurnedDegrees.{components-turned, maslov_o-turned, alexander-turned}
 use Rattle.grid_moves.proofs.turns.turn.Goals as goal
 
 pub loop-c-preserved : goal.loop-c-preserved
@@ -22,5 +23,14 @@ done c = take-turned_marks c.args.side c.args.g.now c.loop-c.o c.loop-c.x c.size
 pub from_marks-requires : goal.from_marks-requires
 from_marks-requires c = let P : Marks → Type 0 = IsGrid in subst P (sym (done c)) (IsGrid-turned c.args.side c.args.g.now c.size-n.ensures.grid)
 
-pub returns : goal.returns
-returns c = c.from_marks.ensures ∙ take-turned_marks c.args.side c.args.g.now c.loop-c.o c.loop-c.x c.size-n.result c.loop-c.c c.size-n.ensures.grid c.size-n.ensures.size c.loop-c-test.false c.loop-c.invariant.o c.loop-c.invariant.x
+pub returns-clause-grid : goal.returns-clause-grid
+returns-clause-grid c = c.from_marks.ensures ∙ take-turned_marks c.args.side c.args.g.now c.loop-c.o c.loop-c.x c.size-n.result c.loop-c.c c.size-n.ensures.grid c.size-n.ensures.size c.loop-c-test.false c.loop-c.invariant.o c.loop-c.invariant.x
+
+pub returns-clause-keeps_components : goal.returns-clause-keeps_components
+returns-clause-keeps_components c = components-turned c.args.side c.args.g.now c.size-n.ensures.grid
+
+pub returns-clause-keeps_maslov : goal.returns-clause-keeps_maslov
+returns-clause-keeps_maslov c = maslov_o-turned c.args.side c.args.g.now c.size-n.ensures.grid
+
+pub returns-clause-keeps_alexander : goal.returns-clause-keeps_alexander
+returns-clause-keeps_alexander c = alexander-turned c.args.side c.args.g.now c.size-n.ensures.grid
