@@ -1,0 +1,13 @@
+-- The empty chain has no states.
+use Rattle.std.proofs.Common.{◌<◌, sym, ap, ◌∙◌}
+use Rattle.std.proofs.lemmas.Bool.{false≢true}
+use Rattle.f2_algebra.specs.Chain.{holds}
+use Rattle.f2_algebra.proofs.Sets.{holds-nothing}
+use Rattle.f2_algebra.proofs.Lists.{All-codes}
+use Rattle.state_rank.specs.States.{factorial}
+use Rattle.torus_geom.specs.Marks.{size}
+use Rattle.legendrian_class.proofs.followers.Follower.new.Goals as goal
+
+pub invariant_of-result : goal.invariant_of-result
+invariant_of-result c =
+    All-codes (λ code. code < factorial (size c.args.g.now)) c.empty.result (λ s h. absurd (false≢true (sym (ap (λ z. holds z s) c.empty.ensures ∙ holds-nothing s) ∙ h)))

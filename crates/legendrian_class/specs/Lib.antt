@@ -1,0 +1,4 @@
+pub mod States
+pub mod Verdicts
+pub mod Followed
+pub mod Inner

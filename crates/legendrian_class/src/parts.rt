@@ -1,0 +1,88 @@
+//! The part of a chain at one Alexander degree.
+ghost use Rattle.std.specs.Prelude.{◌≡◌, ◌<◌, IfOk, IfSome, IsNone};
+ghost use Rattle.f2_algebra.specs.Chain.{nothing, where_code};
+ghost use Rattle.f2_algebra.specs.Complex.{AllCells, border as border_in};
+ghost use Rattle.f2_algebra.specs.Bigraded.{at_second};
+ghost use Rattle.state_rank.specs.Bijection.{IsSize};
+ghost use Rattle.state_rank.specs.States.{factorial};
+ghost use Rattle.torus_geom.specs.Marks.{size};
+ghost use Rattle.torus_geom.specs.GridComplex.{grid_complex};
+ghost use Rattle.legendrian_class.specs.States.{HasStates};
+ghost use Rattle.legendrian_class.specs.Inner.Parts.{IsLeast, has_alexander, IsPartVerdict};
+
+use bumpalo::Bump;
+use cancel::{pull, push, reduce};
+use f2_chain::{Builder, Chain, Cochain};
+use gradings::DegreeTables;
+use grid_ports::NoMemory;
+use sparse_complex::AlexSlice;
+use state_rank::State;
+use std::alloc::Global;
+use torus_geom::Grid;
+
+// What a cycle of one Alexander degree is, with the evidence.
+#[derive(Drop)]
+pub(crate) enum PartVerdict {
+    Null { bound: Chain },
+    Alive { cocycle: Cochain },
+}
+
+// The least code, if there is one.
+pub(crate) fn first_code(z: &Chain) -> Option<u32>
+    ensures least { IfSome result (IsLeast z.now) }
+    ensures none { IsNone result → z.now ≡ nothing }
+{
+    z.codes().first().copied()
+}
+
+// The part of `z` at the Alexander degree `a`.
+pub(crate) fn part_at(alloc: Global, g: &Grid, a: i32, z: &Chain) -> Result<Chain, NoMemory>
+    requires states { HasStates g.now z.now }
+    ensures { IfOk result (λ part. part ≡ where_code (has_alexander g.now a) z.now) }
+{
+    let n = g.size();
+    let tables = DegreeTables::of(g);
+    let mut part = Builder::new(alloc);
+    for code in z.codes() {
+        if is_at(&tables, n, a, *code) {
+            part.toggle(*code)?;
+        }
+    }
+    part.finish()
+}
+
+// Whether the state of rank `code` has the Alexander degree `a`.
+fn is_at(tables: &DegreeTables, n: u8, a: i32, code: u32) -> bool
+    requires size { n ≡ size tables.now }
+    requires is_size { IsSize n }
+    requires state { code < factorial n }
+    ensures { result ≡ has_alexander tables.now a code }
+{
+    tables.alexander(&State::unrank(n, code)) == a
+}
+
+// The verdict of a cycle at the Alexander degree `a`. Slice, log and arena are given back.
+pub(crate) fn part_verdict(
+    alloc: Global,
+    g: &Grid,
+    a: i32,
+    part: &Chain,
+) -> Result<PartVerdict, NoMemory>
+    requires cells { AllCells (at_second a (grid_complex g.now)) part.now }
+    requires cycle { border_in (at_second a (grid_complex g.now)) part.now ≡ nothing }
+    ensures { IfOk result (IsPartVerdict (at_second a (grid_complex g.now)) part.now) }
+{
+    let _size = g.size();
+    let mut slice = AlexSlice::build(alloc, g, a)?;
+    let bump = Bump::new(alloc);
+    let log = reduce(alloc, &mut slice, &bump)?;
+    drop(slice);
+    let pushed = push(alloc, &log, part)?;
+    let Some(code) = first_code(&pushed.rest) else {
+        return Ok(PartVerdict::Null {
+            bound: pushed.correction,
+        });
+    };
+    let cocycle = pull(alloc, &log, code)?;
+    Ok(PartVerdict::Alive { cocycle })
+}
