@@ -11,19 +11,19 @@ use Rattle.f2_algebra.specs.Cancel.{Entry, IsLog, after, rest, pull, correction}
 use Rattle.f2_algebra.specs.Slice.{Slice, slice_complex, IsReduced}
 use Rattle.f2_algebra.specs.Bigraded.{first_at, at_second}
 use Rattle.f2_algebra.specs.Verdict.{IsNullBy, IsAliveBy}
-use Rattle.f2_algebra.proofs.Tables.{◌⊻◌, same}
-use Rattle.f2_algebra.proofs.Sets.{same_chain, holds-nothing, holds-add, holds-where_code, weight, weight-same, weight-none, weight-where, xor-true}
-use Rattle.f2_algebra.proofs.Sums.{add_comm, add_assoc, add_self, add-nothing, add_back, holds-sum_over}
-use Rattle.f2_algebra.proofs.Cancellation.{border-add, border-nothing}
-use Rattle.f2_algebra.proofs.LogLemmas.{none_where, correction-by}
-use Rattle.f2_algebra.proofs.Bigraded.{place, at_second_IsPartOf}
-use Rattle.f2_algebra.proofs.Verdict.{null_by_correction, alive_by_pull}
-use Rattle.f2_algebra.proofs.VerdictParts.{null_of_part, alive_of_part, null_sum, alive_sum}
+use Rattle.f2_algebra.proofs.Chains.Tables.{◌⊻◌, same}
+use Rattle.f2_algebra.proofs.Chains.Sets.{same_chain, holds-nothing, holds-add, holds-where_code, weight, weight-same, weight-none, weight-where, xor-true}
+use Rattle.f2_algebra.proofs.Chains.Sums.{add_comm, add_assoc, add_self, add-nothing, add_back, holds-sum_over}
+use Rattle.f2_algebra.proofs.Cancelling.Cancellation.{border-add, border-nothing}
+use Rattle.f2_algebra.proofs.Cancelling.LogLemmas.{none_where, correction-by}
+use Rattle.f2_algebra.proofs.Ranks.Bigraded.{place, at_second_IsPartOf}
+use Rattle.f2_algebra.proofs.Certificates.Verdict.{null_by_correction, alive_by_pull}
+use Rattle.f2_algebra.proofs.Certificates.VerdictParts.{null_of_part, alive_of_part, null_sum, alive_sum}
 use Rattle.state_rank.specs.States.{factorial, unrank}
 use Rattle.torus_geom.specs.Marks.{Marks, size, IsGrid}
 use Rattle.torus_geom.specs.Degrees.{alexander}
 use Rattle.torus_geom.specs.GridComplex.{grid_complex}
-use Rattle.rectangles.proofs.GridComplexLemmas.{grid_complex_rules}
+use Rattle.rectangles.proofs.Law.GridComplexLemmas.{grid_complex_rules}
 use Rattle.sparse_complex.proofs.GridPartLemmas.{part_rules, degree-cell, degree-other, no_cell_past}
 use Rattle.legendrian_class.specs.States.{HasStates}
 use Rattle.legendrian_class.specs.Verdicts.{alexander_at}

@@ -5,17 +5,17 @@ use Rattle.f2_algebra.specs.Chain.{Chain, holds, nothing, pairs_oddly}
 use Rattle.f2_algebra.specs.Complex.{Complex, AllCells, border as border_in}
 use Rattle.f2_algebra.specs.Bigraded.{up_m}
 use Rattle.f2_algebra.specs.Verdict.{IsNotCycleBy, IsNullBy, IsAliveBy}
-use Rattle.f2_algebra.proofs.Sets.{any, holds-nothing, weight-nothing, pairs_oddly-weight}
-use Rattle.f2_algebra.proofs.Lists.{All-codes}
-use Rattle.f2_algebra.proofs.Cancellation.{same_some}
-use Rattle.f2_algebra.proofs.Verdict.{even_with_borders, exists_verdict}
+use Rattle.f2_algebra.proofs.Chains.Sets.{any, holds-nothing, weight-nothing, pairs_oddly-weight}
+use Rattle.f2_algebra.proofs.Chains.Lists.{All-codes}
+use Rattle.f2_algebra.proofs.Cancelling.Cancellation.{same_some}
+use Rattle.f2_algebra.proofs.Certificates.Verdict.{even_with_borders, exists_verdict}
 use Rattle.state_rank.specs.States.{factorial, unrank}
 use Rattle.torus_geom.specs.Marks.{Marks, size, IsGrid}
 use Rattle.torus_geom.specs.Border.{border_of_state, border}
 use Rattle.torus_geom.specs.Degrees.{maslov_o, alexander, bidegree}
 use Rattle.torus_geom.specs.GridComplex.{grid_complex}
-use Rattle.rectangles.proofs.BorderLemmas.{border-border, border-grid_complex, border-below}
-use Rattle.rectangles.proofs.GridComplexLemmas.{grid_complex_rules}
+use Rattle.rectangles.proofs.Square.BorderLemmas.{border-border, border-grid_complex, border-below}
+use Rattle.rectangles.proofs.Law.GridComplexLemmas.{grid_complex_rules}
 use Rattle.legendrian_class.specs.declared.verdicts.ClassVerdict.TheVariants as verdict
 use Rattle.legendrian_class.specs.States.{HasStates}
 use Rattle.legendrian_class.specs.Verdicts.{IsOneAbove, HaveOneDegree, IsBorderOf, IsNotCycle, IsNull, IsAlive, IsVerdict, HasVerdict, HasOneVerdict}

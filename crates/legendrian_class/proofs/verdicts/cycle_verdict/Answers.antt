@@ -9,7 +9,7 @@ use Rattle.state_rank.specs.States.{factorial, unrank}
 use Rattle.torus_geom.specs.Marks.{size}
 use Rattle.torus_geom.specs.Degrees.{alexander}
 use Rattle.torus_geom.specs.GridComplex.{grid_complex}
-use Rattle.rectangles.proofs.BorderLemmas.{border-grid_complex}
+use Rattle.rectangles.proofs.Square.BorderLemmas.{border-grid_complex}
 use Rattle.legendrian_class.specs.Verdicts.{alexander_at}
 use Rattle.legendrian_class.specs.Inner.Parts.{IsPartVerdict, IsNullBut}
 use Rattle.legendrian_class.proofs.ChainLemmas.{each_code}

@@ -2,8 +2,8 @@
 use Rattle.std.proofs.Common.{◌<◌, sym, ap, ◌∙◌}
 use Rattle.std.proofs.lemmas.Bool.{false≢true}
 use Rattle.f2_algebra.specs.Chain.{holds}
-use Rattle.f2_algebra.proofs.Sets.{holds-nothing}
-use Rattle.f2_algebra.proofs.Lists.{All-codes}
+use Rattle.f2_algebra.proofs.Chains.Sets.{holds-nothing}
+use Rattle.f2_algebra.proofs.Chains.Lists.{All-codes}
 use Rattle.state_rank.specs.States.{factorial}
 use Rattle.torus_geom.specs.Marks.{size}
 use Rattle.legendrian_class.proofs.followers.Follower.new.Goals as goal
