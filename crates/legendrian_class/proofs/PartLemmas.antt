@@ -16,7 +16,7 @@ use Rattle.f2_algebra.proofs.Chains.Sets.{same_chain, holds-nothing, holds-add, 
 use Rattle.f2_algebra.proofs.Chains.Sums.{add_comm, add_assoc, add_self, add-nothing, add_back, holds-sum_over}
 use Rattle.f2_algebra.proofs.Cancelling.Cancellation.{border-add, border-nothing}
 use Rattle.f2_algebra.proofs.Cancelling.LogLemmas.{none_where, correction-by}
-use Rattle.f2_algebra.proofs.Ranks.Bigraded.{place, at_second_IsPartOf}
+use Rattle.f2_algebra.proofs.Ranks.Bigraded.{with_second, at_second_IsPartOf}
 use Rattle.f2_algebra.proofs.Certificates.Verdict.{null_by_correction, alive_by_pull}
 use Rattle.f2_algebra.proofs.Certificates.VerdictParts.{null_of_part, alive_of_part, null_sum, alive_sum}
 use Rattle.state_rank.specs.States.{factorial, unrank}
@@ -153,7 +153,7 @@ module _ (g : Marks) (grid : IsGrid g) (z : Chain) (states : HasStates g z) (a :
   alive-whole cycle f alive =
       let C = grid_complex g in
       let cells : AllCells (at_second a C) part = subst (AllCells (at_second a C)) (sym is_part) (part-cells g a grid z states) in
-      let there : IsAliveBy C part f = alive_of_part C (place a) (at_second a C) (at_second_IsPartOf a C refl) (grid_complex_rules g grid) part f cells alive in
+      let there : IsAliveBy C part f = alive_of_part C (with_second a) (at_second a C) (at_second_IsPartOf a C refl) (grid_complex_rules g grid) part f cells alive in
       let (m, of, _) = alive.degree in
       subst (λ c. IsAliveBy C c f) (ap (λ c. part ⊕ c) (add_comm z part) ∙ add_back part z)
       (alive_sum C part (z ⊕ part) f
@@ -191,7 +191,7 @@ module _ (g : Marks) (grid : IsGrid g) (z : Chain) (states : HasStates g z) (a :
               subst (λ c. IsNullBy C c (bound ⊕ b)) (add_assoc z left part)
               (null_sum C (z ⊕ left) part bound b
               (λ s h p. in_both z left s (part_in_z s p).0 (part_in_left s p) h)
-              but.null (null_of_part C (place a) (at_second a C) (at_second_IsPartOf a C refl) part b null));
+              but.null (null_of_part C (with_second a) (at_second a C) (at_second_IsPartOf a C refl) part b null));
         }
 
     -- and less is left
