@@ -2,3 +2,4 @@ pub mod ReportLemmas
 pub mod OutcomeLemmas
 pub mod ModeLemmas
 pub mod WrittenLemmas
+pub mod ChainLemmas

@@ -50,16 +50,11 @@ one_status Run text Refused No a b x y = absurd y
 
 -- ---- an outcome
 built_or_not : (c : Command) → IsBuiltCommand c ⊎ (IsBuiltCommand c → ⊥)
-built_or_not command.Front = inl tt
-built_or_not command.Ranks = inl tt
 built_or_not command.Hat = inr (λ b. b)
 built_or_not (command.Class sign) = inr (λ b. b)
-built_or_not (command.Border x) = inl tt
-built_or_not (command.Chain z) = inr (λ b. b)
-built_or_not command.Show = inr (λ b. b)
 built_or_not command.Bounds = inr (λ b. b)
 built_or_not (command.Turn side) = inr (λ b. b)
-built_or_not (command.Commute axis c corner) = inr (λ b. b)
+built_or_not other = inl tt
 
 pub all_built_or_not : (cs : List Command) → All IsBuiltCommand cs ⊎ (All IsBuiltCommand cs → ⊥)
 all_built_or_not [] = inl (All-nil IsBuiltCommand)

@@ -42,11 +42,11 @@ exists_answer p command.Ranks grid built = exists_table p.grid grid
 exists_answer p command.Hat grid built = absurd built
 exists_answer p (command.Class sign) grid built = absurd built
 exists_answer p (command.Border x) grid built = (_, refl)
-exists_answer p (command.Chain z) grid built = absurd built
-exists_answer p command.Show grid built = absurd built
+exists_answer p (command.Chain z) grid built = ([], refl)
+exists_answer p command.Show grid built = (_, refl)
 exists_answer p command.Bounds grid built = absurd built
 exists_answer p (command.Turn side) grid built = absurd built
-exists_answer p (command.Commute axis c corner) grid built = absurd built
+exists_answer p (command.Commute axis c corner) grid built = ([], refl)
 
 grid-after : (g : Marks) (c : Command) → IsGrid g → IsAllowed g c → IsGrid (grid_after g c)
 grid-after g c grid allowed = (IsGridOf-grid_after (size g) g c (record { grid = grid; same_size = refl }) allowed).grid

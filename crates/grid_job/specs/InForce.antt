@@ -3,7 +3,8 @@
 --     InForce            a grid and a chain
 --     in_force_code      how its values are told apart
 --     at_start g         before the first command: the grid of the document, and the empty chain
---     after p c          after the command c, where p was in force before it
+--     chain_after p c    the chain after the command c, where p was in force before it
+--     after p c          the grid and the chain after it
 --     after_all p cs     after these commands, in order
 use Rattle.std.specs.Prelude.{List, [], ◌∷◌, ℕ, map, refl}
 use Rattle.std.specs.Coded.{Coded, code_by, coded×, coded_list, coded_ℕ}
@@ -11,6 +12,7 @@ use Rattle.std.specs.FinSet as finite_set
 use Rattle.f2_algebra.specs.Chain.{Chain, nothing, of_codes}
 use Rattle.state_rank.specs.States.{rank}
 use Rattle.torus_geom.specs.Marks.{Marks}
+use Rattle.pentagon_map.specs.Pentagon.{image}
 use Rattle.grid_text.specs.Commands.{grid_after}
 use Rattle.grid_text.specs.declared.commands.Command.{Command}
 use Rattle.grid_text.specs.declared.commands.Command.TheVariants as command
@@ -28,22 +30,15 @@ in_force_code =
 abbrev pub at_start : Marks → InForce
 at_start g = record { grid = g; chain = nothing }
 
--- `chain` puts its states in the place of the chain. Turns and commutations are not built yet, and have no answer:
--- what becomes of a chain under them is not said here
-abbrev pub chain_after : Chain → Command → Chain
-chain_after z command.Front = z
-chain_after z command.Ranks = z
-chain_after z command.Hat = z
-chain_after z (command.Class sign) = z
-chain_after z (command.Border x) = z
-chain_after z (command.Chain xs) = of_codes (map rank xs)
-chain_after z command.Show = z
-chain_after z command.Bounds = z
-chain_after z (command.Turn side) = z
-chain_after z (command.Commute axis c corner) = z
+-- `chain` puts its states in the place of the chain, and a commutation its image. A turn is not built yet, and has no
+-- answer: what becomes of a chain under it is not said here
+abbrev pub chain_after : InForce → Command → Chain
+chain_after p (command.Chain xs) = of_codes (map rank xs)
+chain_after p (command.Commute axis c corner) = image axis p.grid c corner p.chain
+chain_after p other = p.chain
 
 abbrev pub after : InForce → Command → InForce
-after p c = record { grid = grid_after p.grid c; chain = chain_after p.chain c }
+after p c = record { grid = grid_after p.grid c; chain = chain_after p c }
 
 abbrev pub after_all : InForce → List Command → InForce
 after_all p [] = p

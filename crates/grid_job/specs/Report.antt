@@ -21,16 +21,11 @@ use Rattle.grid_text.specs.declared.commands.Command.TheVariants as command
 use Rattle.grid_job.specs.InForce.{InForce, at_start, after}
 
 abbrev pub IsBuiltCommand : Command → Type 0
-IsBuiltCommand command.Front = Unit {0}
-IsBuiltCommand command.Ranks = Unit {0}
 IsBuiltCommand command.Hat = ⊥
 IsBuiltCommand (command.Class sign) = ⊥
-IsBuiltCommand (command.Border x) = Unit {0}
-IsBuiltCommand (command.Chain z) = ⊥
-IsBuiltCommand command.Show = ⊥
 IsBuiltCommand command.Bounds = ⊥
 IsBuiltCommand (command.Turn side) = ⊥
-IsBuiltCommand (command.Commute axis c corner) = ⊥
+IsBuiltCommand other = Unit {0}
 
 abbrev pub IsBuilt : GridScript → Type 0
 IsBuilt s = All IsBuiltCommand s.commands
@@ -41,19 +36,19 @@ pub record IsTableText (g : Marks) (text : List ℕ) : Type 0 where
   pub table : IsHomologyTable g (map homology_row rows)
   pub lines : text ≡ table_lines rows
 
--- the classical invariants of the front; the table of ranks; the states of the border, in ascending order.
--- The other commands have no answer yet
+-- the classical invariants of the front; the table of ranks; the states of the border, and those of the chain in
+-- force, in ascending order; nothing where a command makes a chain. The other commands have no answer yet
 abbrev pub IsAnswer : InForce → Command → List ℕ → Type 0
 IsAnswer p command.Front text = text ≡ front_line (thurston_bennequin p.grid) (rotation p.grid) (components p.grid)
 IsAnswer p command.Ranks text = IsTableText p.grid text
 IsAnswer p command.Hat text = ⊥
 IsAnswer p (command.Class sign) text = ⊥
 IsAnswer p (command.Border x) text = text ≡ set_line (codes "border") (size p.grid) (border_of_state p.grid x)
-IsAnswer p (command.Chain z) text = ⊥
-IsAnswer p command.Show text = ⊥
+IsAnswer p (command.Chain z) text = text ≡ []
+IsAnswer p command.Show text = text ≡ set_line (codes "chain") (size p.grid) p.chain
 IsAnswer p command.Bounds text = ⊥
 IsAnswer p (command.Turn side) text = ⊥
-IsAnswer p (command.Commute axis c corner) text = ⊥
+IsAnswer p (command.Commute axis c corner) text = text ≡ []
 
 -- one answer to each command, in order, and nothing else
 abbrev pub AreAnswers : InForce → List Command → List ℕ → Type 0

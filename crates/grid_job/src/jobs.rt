@@ -22,7 +22,7 @@ use std::alloc::Global;
 ///
 /// The words are those after the program's name. All is read before anything is written. A text that is
 /// no document is refused by one line, which tells its first fault and the line that has it; so is a
-/// document with a command that is not built yet. The ranks that a report tells are those of the homology
+/// document with a command that is not built yet. A chain that the document names is followed across the commutations of the grid. The ranks that a report tells are those of the homology
 /// of the fully blocked grid complex over F2 (Ozsváth, Stipsicz and Szabó, "Grid Homology for Knots and
 /// Links", chapter 4).
 ///

@@ -68,8 +68,8 @@ fn is_built(command: &Command) -> bool
     ensures { IsTrue result ↔ IsBuiltCommand command.now }
 {
     match command {
-        Command::Front | Command::Ranks | Command::Border(_) => true,
-        _ => false,
+        Command::Hat | Command::Class(_) | Command::Bounds | Command::Turn(_) => false,
+        _ => true,
     }
 }
 
@@ -96,7 +96,7 @@ pub fn write_report<K: Sink>(
     for command in commands {
         let text = answer_to(alloc, &in_force, command)?;
         write_all(out, &text)?;
-        in_force.follow(command);
+        in_force.follow(alloc, command)?;
     }
     Ok(())
 }
@@ -112,6 +112,8 @@ fn answer_to(alloc: Global, p: &InForce, command: &Command) -> Result<Vec<u8>, N
         Command::Front => front_line(alloc, &front(g)),
         Command::Ranks => ranks_lines(alloc, g),
         Command::Border(state) => border_line(alloc, g, state),
+        Command::Show => set_line(alloc, "chain", g.size(), p.chain()),
+        Command::Chain(_) | Command::Commute(_, _, _) => Ok(Vec::new(alloc)),
         _ => unreachable!(),
     }
 }

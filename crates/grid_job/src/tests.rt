@@ -116,7 +116,7 @@ const SMALL: &str = "grid 2\nO 1 0\nX 0 1\n";
 const LARGE: &str = "grid 5\nO 0 1 2 3 4\nX 2 3 4 0 1\n";
 
 /// Texts that are refused, each in two parts, and the line that says so.
-const FAULTS: [(&str, &str, &str); 21] = [
+const FAULTS: [(&str, &str, &str); 19] = [
     (LARGE, "cols 1 over\nend\n", "refused NotCommuting line 4\n"),
     (SMALL, "", "refused NoEnd line 4\n"),
     (SMALL, "end\nfront\n", "refused AfterEnd line 5\n"),
@@ -143,13 +143,51 @@ const FAULTS: [(&str, &str, &str); 21] = [
         "refused RepeatedState line 4\n",
     ),
     (SMALL, "cols 1 over\nend\n", "refused NotCommuting line 4\n"),
-    (SMALL, "show\nend\n", "refused NotBuilt line 0\n"),
     (SMALL, "front\nhat\nend\n", "refused NotBuilt line 0\n"),
     (SMALL, "class +\nend\n", "refused NotBuilt line 0\n"),
-    (SMALL, "chain 01\nend\n", "refused NotBuilt line 0\n"),
     (SMALL, "bounds\nend\n", "refused NotBuilt line 0\n"),
     (SMALL, "turn left\nend\n", "refused NotBuilt line 0\n"),
     (SMALL, "show\nfronts\n", "refused BadWord line 5\n"),
+];
+
+/// Documents with chains and commutations, each in two parts, and their reports.
+const FOLLOWED: [(&str, &str, &str); 8] = [
+    (
+        "grid 3\nO 2 1 0\nX 1 0 2\n",
+        "chain 120 012\nshow\nend\n",
+        "chain 012 120\n",
+    ),
+    (SMALL, "show\nchain\nshow\nend\n", "chain\nchain\n"),
+    (
+        "grid 4\nO 0 2 1 3\nX 1 3 2 0\n",
+        "chain 1203\ncols 1 over\nshow\nend\n",
+        "chain 1023\n",
+    ),
+    (
+        "grid 4\nO 0 2 1 3\nX 1 3 2 0\n",
+        "chain 1203\ncols 1 under\nshow\nend\n",
+        "chain 2103\n",
+    ),
+    (
+        "grid 4\nO 0 2 1 3\nX 1 3 2 0\n",
+        "chain 1203\ncols 1 over\ncols 1 over\nshow\nranks\nend\n",
+        "chain 1203\nranks 4\nrank 0 0 1\nrank -1 -1 3\nrank -2 -2 3\nrank -3 -3 1\n",
+    ),
+    (
+        "grid 4\nO 2 1 3 0\nX 3 2 0 1\n",
+        "chain 2031\ncols 0 over\nshow\nend\n",
+        "chain 0231\n",
+    ),
+    (
+        "grid 4\nO 0 2 1 3\nX 3 0 2 1\n",
+        "chain 2013\nrows 1 over\nshow\nend\n",
+        "chain 1023\n",
+    ),
+    (
+        "grid 4\nO 0 2 1 3\nX 1 3 2 0\n",
+        "chain 2031\ncols 1 over\nshow\nend\n",
+        "chain 0231 2301\n",
+    ),
 ];
 
 /// Documents of large grids, and their tables, as an independent program gives them.
@@ -213,6 +251,23 @@ fn documents_ends_and_words(rt: HostRuntime) -> Result<(), Fail> {
             bytes.as_slice(),
             written.as_bytes(),
             "what {words:?} writes on {text:?}"
+        );
+    }
+    Ok(())
+}
+
+#[test]
+fn chains_are_followed(rt: HostRuntime) -> Result<(), Fail> {
+    let alloc = rt.alloc();
+    for (first, later, report) in FOLLOWED {
+        let mut text = Vec::from_slice(alloc, first.as_bytes())?;
+        text.extend_from_slice(later.as_bytes())?;
+        let (status, written) = answer(alloc, "run", text, (0, 0))?;
+        assert_eq!(rt; status, 0, "the status on {first:?} {later:?}");
+        assert_eq!(rt;
+            written.as_slice(),
+            report.as_bytes(),
+            "the report of {first:?} {later:?}"
         );
     }
     Ok(())

@@ -1,0 +1,105 @@
+-- The chain of a list of states that ascends: each is toggled once, so that all of them are in the chain.
+use Rattle.std.proofs.Common.{◌≡◌, ℕ, zero, suc, ◌+◌, ◌<◌, Bool, true, false, ◌||◌, eqb, List, [], ◌∷◌, ◌++◌, length, get_or, map, take, All, inl, inr, refl, sym, ap, ap₂, subst, ◌∙◌, arith}
+use Rattle.std.specs.List.{AllPairs, Contains}
+use Rattle.std.proofs.lemmas.Bool.{cases_Bool, eqb-true, true≢false}
+use Rattle.std.proofs.lemmas.List.{take_more, take_all, length-map, get_or-map}
+use Rattle.std.proofs.lemmas.List.Elements.{All-contains, All-head, All-map, All-tail}
+use Rattle.f2_algebra.specs.Chain.{Chain, codes, nothing, of_codes, single, ◌⊕◌}
+use Rattle.f2_algebra.proofs.Chains.Lists.{All-codes}
+use Rattle.f2_algebra.proofs.Chains.Sets.{any, any-append, holds-add, holds-nothing, holds-of_codes, holds-single, same_chain}
+use Rattle.f2_algebra.proofs.Chains.Tables.{◌⊻◌}
+use Rattle.state_rank.specs.Bijection.{IsBijection}
+use Rattle.state_rank.specs.States.{IsState, rank, factorial}
+use Rattle.state_rank.proofs.MemberLemmas.{member_cases, pairs_head, pairs_tail}
+use Rattle.state_rank.proofs.RankLemmas.{rank-below, ranks_rise}
+use Rattle.torus_geom.specs.Marks.{Marks, size, IsGrid}
+use Rattle.grid_moves.specs.Moves.{swapped}
+use Rattle.grid_moves.specs.declared.commutations.Axis.{Axis}
+use Rattle.pentagon_map.specs.declared.Corner.{Corner}
+use Rattle.grid_text.specs.Commands.{IsAllowed, IsStateOf}
+use Rattle.grid_text.specs.declared.commands.Command.TheVariants as command
+use Rattle.grid_text.proofs.Lines.ScriptLemmas.{IsGridOf-grid_after}
+use Rattle.grid_text.specs.States.{AreStates}
+use Rattle.grid_job.specs.Inner.Ranks.{AreRanks}
+
+-- ---- codes that rise
+not_above : (c x : ℕ) → x < c → eqb c x ≡ false
+not_above c x below = grind arith
+
+-- each code is after those before it
+absent : (cs : List ℕ) (k c : ℕ) → AllPairs (λ i j. i < j) cs → k < length cs → c ≡ get_or cs k c → any c (take k cs) ≡ false
+absent [] k c rising within is = absurd (omega (arith, within))
+absent (x ∷ cs) zero c rising within is = refl
+absent (x ∷ cs) (suc k) c rising within is =
+    let below : x < c = subst (λ y. x < y) (sym is) (rising 0 (suc k) c (omega arith) within) in
+    ap₂ (λ a b. a || b) (not_above c x below) (absent cs k c (pairs_tail (λ i j. i < j) x cs rising) (omega (arith, within)) is)
+
+toggled_or : (a b : Bool) → (b ≡ true → a ≡ false) → (a ⊻ b) ≡ (a || (b || false))
+toggled_or true true apart = absurd (true≢false (apart refl))
+toggled_or true false apart = refl
+toggled_or false true apart = refl
+toggled_or false false apart = refl
+
+-- the next code is toggled in
+toggled-next : (cs : List ℕ) (k c : ℕ) → AllPairs (λ i j. i < j) cs → k < length cs → c ≡ get_or cs k c → of_codes (take k cs) ⊕ single c ≡ of_codes (take (k + 1) cs)
+toggled-next cs k c rising within is = same_chain _ _ (λ q.
+    let apart : eqb q c ≡ true → any q (take k cs) ≡ false = λ e. subst (λ r. any r (take k cs) ≡ false) (sym (eqb-true q c e)) (absent cs k c rising within is) in
+    let more : take (k + 1) cs ≡ take k cs ++ c ∷ [] = take_more cs k c within ∙ ap (λ d. take k cs ++ d ∷ []) (sym is) in
+    holds-add (of_codes (take k cs)) (single c) q
+    ∙ ap₂ (λ a b. a ⊻ b) (holds-of_codes (take k cs) q) (holds-single c q)
+    ∙ toggled_or (any q (take k cs)) (eqb q c) apart
+    ∙ sym (any-append q (take k cs) (c ∷ []))
+    ∙ ap (any q) (sym more)
+    ∙ sym (holds-of_codes (take (k + 1) cs) q))
+
+-- ---- states that ascend
+ranks-rising : (xs : List (List ℕ)) → AreStates xs → AllPairs (λ i j. i < j) (map rank xs)
+ranks-rising [] states = λ i j d l m. absurd (omega arith)
+ranks-rising (x ∷ xs) states =
+    ranks_rise (length x) (x ∷ xs) (λ y inside. bijection y inside) states.ascending
+  where
+    same_size : (y : List ℕ) → Contains (x ∷ xs) y → length x ≡ length y
+    same_size y inside = elim (member_cases x xs y inside) [
+      | inl is ↦ ap length is
+      | inr later ↦ pairs_head (λ (a b : List ℕ). length a ≡ length b) x xs states.one_size y later
+    ]
+
+    bijection : (y : List ℕ) → Contains (x ∷ xs) y → IsBijection (length x) y
+    bijection y inside =
+        let state = All-contains IsState (x ∷ xs) y states.states inside in
+        subst (λ n. IsBijection n y) (sym (same_size y inside)) state.bijection
+
+pub states-next : (xs : List (List ℕ)) (k : ℕ) (x : List ℕ) → AreStates xs → k < length xs → x ≡ get_or xs k x
+    → of_codes (take k (map rank xs)) ⊕ single (rank x) ≡ of_codes (take (k + 1) (map rank xs))
+states-next xs k x states within is =
+    toggled-next (map rank xs) k (rank x) (ranks-rising xs states) (omega (arith, length-map xs rank, within))
+    (ap rank is ∙ sym (get_or-map rank xs k x (rank x) within))
+
+pub states-all : (xs : List (List ℕ)) (k : ℕ) → length xs < k + 1 → of_codes (take k (map rank xs)) ≡ of_codes (map rank xs)
+states-all xs k past = ap of_codes (take_all k (map rank xs) (omega (arith, length-map xs rank, past)))
+
+-- ---- their ranks are those of states of the grid
+any-below : (n : ℕ) (cs : List ℕ) (q : ℕ) → All (λ c. c < n) cs → any q cs ≡ true → q < n
+any-below n [] q below held = absurd (true≢false (sym held))
+any-below n (c ∷ cs) q below held = elim (cases_Bool (eqb q c)) [
+  | inl is ↦ subst (λ d. d < n) (sym (eqb-true q c is)) (All-head (λ d. d < n) c cs below)
+  | inr is_not ↦ any-below n cs q (All-tail (λ d. d < n) c cs below) (sym (ap (λ b. b || any q cs) is_not) ∙ held)
+]
+
+rank-below_state : (g : Marks) (x : List ℕ) → IsStateOf g x → rank x < factorial (size g)
+rank-below_state g x state = rank-below (size g) x (subst (λ n. IsBijection n x) state.same_size state.state.bijection)
+
+pub ranks-below : (g : Marks) (xs : List (List ℕ)) → All (IsStateOf g) xs → AreRanks g (of_codes (map rank xs))
+ranks-below g xs states =
+    let n = factorial (size g) in
+    let ranks = All-map (λ c. c < n) rank xs (λ i d l. rank-below_state g (get_or xs i d) (states i d l)) in
+    All-codes (λ c. c < n) (of_codes (map rank xs)) (λ q held. any-below n (map rank xs) q ranks (sym (holds-of_codes (map rank xs) q) ∙ held))
+
+pub AreRanks-nothing : (g : Marks) → AreRanks g nothing
+AreRanks-nothing g = All-codes (λ c. c < factorial (size g)) nothing (λ q held. absurd (true≢false (sym held ∙ holds-nothing q)))
+
+-- an exchange keeps the size of the grid
+pub AreRanks-commuted : (g h : Marks) (axis : Axis) (c : ℕ) (corner : Corner) (z : Chain) → IsGrid g → IsAllowed g (command.Commute axis c corner) → h ≡ swapped axis g c → AreRanks g z → AreRanks h z
+AreRanks-commuted g h axis c corner z grid allowed is ranks =
+    let same = (IsGridOf-grid_after (size g) g (command.Commute axis c corner) (record { grid = grid; same_size = refl }) allowed).same_size in
+    subst (λ k. AreRanks k z) (sym is) (subst (λ n. All (λ code. code < factorial n) (codes z)) (sym same) ranks)
