@@ -12,8 +12,6 @@ mod logs;
 mod maps;
 mod reductions;
 mod steps;
-#[cfg(test)]
-mod tests;
 
 pub use logs::{CancelLog, LogEntry};
 pub use maps::{Pushed, lift, pull, push};

@@ -14,6 +14,3 @@ mod verdicts;
 
 pub use followers::Follower;
 pub use verdicts::{ClassVerdict, verdict};
-
-#[cfg(test)]
-mod tests;
