@@ -1,1 +1,6 @@
 pub mod OrderLemmas
+pub mod SumLemmas
+pub mod RankLemmas
+pub mod ProductLemmas
+pub mod QuotientLemmas
+pub mod WordLemmas

@@ -1,6 +1,7 @@
 -- Tables of ranks by bidegree.
 --     comes_before p q    p stands before q: its Alexander degree is higher, or that is the same and its
 --                         Maslov degree is higher
+--     AreOrdered rows     the rows are in this order, and no degree comes twice
 --     HasRank row         the rank of the row is from 1 to 2^48
 --     IsTable rows        the rows are in this order, no degree comes twice, and each has a rank
 use Rattle.std.specs.Prelude.{◌≤◌, ◌^◌, Bool, ◌&&◌, ◌||◌, int_lt, List, IsTrue}
@@ -11,10 +12,13 @@ use Rattle.hat_division.specs.declared.tables.TableRow.{TableRow}
 abbrev pub comes_before : TableRow → TableRow → Bool
 comes_before p q = int_lt q.a p.a || (int_eq q.a p.a && int_lt q.m p.m)
 
+abbrev pub AreOrdered : List TableRow → Type 0
+AreOrdered rows = AllPairs (λ p q. IsTrue (comes_before p q)) rows
+
 pub record HasRank (row : TableRow) : Type 0 where
   pub positive : 1 ≤ row.rank
   pub bounded : row.rank ≤ 2 ^ 48
 
 pub record IsTable (rows : List TableRow) : Type 0 where
-  pub ordered : AllPairs (λ p q. IsTrue (comes_before p q)) rows
+  pub ordered : AreOrdered rows
   pub ranks : All HasRank rows

@@ -1,11 +1,16 @@
-//! Tables of ranks by bidegree.
+//! Tables of ranks by bidegree, their products and quotients.
 //!
 //! Read `Table::of` first: it accepts exactly the lists of rows that are in the order of a table. Contracts
-//! see a table as its list of rows.
+//! see a table as its list of rows. `times_factor` multiplies a table by a power of 1 + q^-1 t^-1, where a
+//! row (m, a, d) is the term d q^m t^a, and `divide` is the way back.
 #![tactic(auto)]
 
+mod products;
+mod quotients;
 mod tables;
 
+pub use products::times_factor;
+pub use quotients::divide;
 pub use tables::{MAX_RANK, Table, TableRow};
 
 #[cfg(test)]

@@ -1,7 +1,8 @@
 //! Tables of ranks.
 ghost use Rattle.std.specs.Prelude.{◌≡◌, ℕ, ◌↔◌, ◌≤◌, IsTrue, IsSome, IfSome, length};
-ghost use Rattle.std.specs.List.{All, AllPairs, sum_by};
-ghost use Rattle.hat_division.specs.Table.{IsTable, comes_before, HasRank};
+ghost use Rattle.std.specs.List.{All, sum_by};
+ghost use Rattle.hat_division.specs.Table.{IsTable, comes_before, AreOrdered, HasRank};
+ghost use Rattle.hat_division.specs.Product.{stands_at};
 
 use std::marker::Model;
 
@@ -19,10 +20,17 @@ pub struct TableRow {
 impl TableRow {
     /// Whether this row stands before `other` in a table: its Alexander degree is higher, or that is the
     /// same and its Maslov degree is higher.
-    fn comes_before(&self, other: &TableRow) -> bool
+    pub(crate) fn comes_before(&self, other: &TableRow) -> bool
         ensures { result ≡ comes_before self.now other.now }
     {
         self.a > other.a || (self.a == other.a && self.m > other.m)
+    }
+
+    /// Whether this row stands in the bidegree (`m`, `a`).
+    pub(crate) fn stands_at(&self, m: i32, a: i32) -> bool
+        ensures { result ≡ stands_at self.now m a }
+    {
+        self.m == m && self.a == a
     }
 
     fn has_rank(&self) -> bool
@@ -33,7 +41,7 @@ impl TableRow {
 }
 
 fn are_ordered(rows: &[TableRow]) -> bool
-    ensures { IsTrue result ↔ AllPairs (λ p q. IsTrue (comes_before p q)) rows.now }
+    ensures { IsTrue result ↔ AreOrdered rows.now }
 {
     for i in 1..rows.len() {
         if !rows[i - 1].comes_before(&rows[i]) {
