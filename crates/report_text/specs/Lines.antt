@@ -5,9 +5,10 @@
 --                                components of a front
 --     row_line row               the line of a row of a table: its Maslov degree, its Alexander degree and its rank
 --     table_lines rows           the number of rows of a table, and a line for each row
+--     hat_lines exponent hat     the exponent, the number of rows and a line for each row of a hat, or that there is none
 --     set_line word n z          a word, and the states of size n of a chain, in ascending order
 --     refused_line word number   the word of a fault, and the number of its line
-use Rattle.std.specs.Prelude.{ℕ, ℤ, List, [], ◌∷◌, ◌++◌, length, codes}
+use Rattle.std.specs.Prelude.{ℕ, ℤ, List, [], ◌∷◌, ◌++◌, length, codes, Option, None, Some}
 use Rattle.std.specs.List.{flat_map}
 use Rattle.std.specs.Fmt.{decimal, signed_decimal}
 use Rattle.f2_algebra.specs.Chain.{Chain, codes as ranks}
@@ -28,6 +29,11 @@ row_line row = line
 
 abbrev pub table_lines : List TableRow → List ℕ
 table_lines rows = line (codes "ranks " ++ decimal (length rows)) ++ flat_map row_line rows
+
+abbrev pub hat_lines : ℕ → Option (List TableRow) → List ℕ
+hat_lines exponent None = line (codes "hat none")
+hat_lines exponent (Some rows) = line
+    (codes "hat exponent " ++ decimal exponent ++ codes " rows " ++ decimal (length rows)) ++ flat_map row_line rows
 
 abbrev pub set_line : List ℕ → ℕ → Chain → List ℕ
 set_line word n z = line (word ++ flat_map (λ k. 32 ∷ state_word (unrank n k)) (ranks z))

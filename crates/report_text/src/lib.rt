@@ -7,7 +7,7 @@
 
 mod lines;
 
-pub use lines::{front_line, refused_line, set_line, table_lines};
+pub use lines::{front_line, hat_lines, refused_line, set_line, table_lines};
 
 #[cfg(test)]
 mod tests;

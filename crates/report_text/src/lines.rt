@@ -1,9 +1,11 @@
 //! Lines of values.
-ghost use Rattle.std.specs.Prelude.{◌≡◌, ◌+◌, ◌<◌, ◌∷◌, ◌++◌, length, All, IfOk, OnOk};
+ghost use Rattle.std.specs.Prelude.{◌≡◌, ◌+◌, ◌<◌, ◌∷◌, ◌++◌, length, All, IfOk, OnOk, Some};
+ghost use Rattle.std.specs.List.{flat_map};
+ghost use Rattle.std.specs.Option.{option_copied};
 ghost use Rattle.f2_algebra.specs.Chain.{codes as codes_of};
 ghost use Rattle.state_rank.specs.Bijection.{IsSize};
 ghost use Rattle.state_rank.specs.States.{factorial, state_word};
-ghost use Rattle.report_text.specs.Lines.{front_line as front_line_of, row_line, table_lines as table_lines_of, set_line as set_line_of, refused_line as refused_line_of};
+ghost use Rattle.report_text.specs.Lines.{front_line as front_line_of, row_line, table_lines as table_lines_of, hat_lines as hat_lines_of, set_line as set_line_of, refused_line as refused_line_of};
 
 use f2_chain::Chain;
 use front_data::FrontNumbers;
@@ -45,10 +47,23 @@ pub fn table_lines(alloc: Global, t: &Table) -> Result<Vec<u8>, NoMemory>
     let mut lines = Vec::from_slice(alloc, b"ranks ")?;
     push_number(&mut lines, rows.len())?;
     lines.push(b'\n')?;
-    for row in rows {
-        push_row(&mut lines, row)?;
-    }
+    push_rows(&mut lines, rows)?;
     Ok(lines)
+}
+
+/// The lines of a hat: `hat exponent E rows K` with the exponent and the number of rows, then a line
+/// `rank M A D` for each row, in order; or the one line `hat none`.
+///
+/// # Errors
+///
+/// `NoMemory` if the allocator refuses.
+pub fn hat_lines(alloc: Global, exponent: u8, q: Option<&Table>) -> Result<Vec<u8>, NoMemory>
+    ensures { IfOk result (λ lines. lines.items ≡ hat_lines_of exponent (option_copied q.entry)) }
+{
+    match q {
+        Some(quotient) => quotient_lines(alloc, exponent, quotient),
+        None => Ok(Vec::from_slice(alloc, b"hat none\n")?),
+    }
 }
 
 /// The line of a set of states: `word`, then the states of size `n` whose ranks are in `z`, in ascending
@@ -86,12 +101,36 @@ pub fn refused_line(alloc: Global, word: &str, line: u32) -> Result<Vec<u8>, NoM
     Ok(text)
 }
 
+// The lines of a hat that there is.
+fn quotient_lines(alloc: Global, exponent: u8, quotient: &Table) -> Result<Vec<u8>, NoMemory>
+    ensures { IfOk result (λ lines. lines.items ≡ hat_lines_of exponent (Some quotient.now)) }
+{
+    let hat = quotient.rows();
+    let mut lines = Vec::from_slice(alloc, b"hat exponent ")?;
+    push_number(&mut lines, exponent)?;
+    lines.extend_from_slice(b" rows ")?;
+    push_number(&mut lines, hat.len())?;
+    lines.push(b'\n')?;
+    push_rows(&mut lines, hat)?;
+    Ok(lines)
+}
+
 // Appends the decimal digits of a number.
 fn push_number<I: Integer>(line: &mut Vec<u8>, number: I) -> Result<(), NoMemory>
     ensures { OnOk result (line.new.items ≡ line.old.items ++ I.text number) }
 {
     let mut buffer = Buffer::new();
     line.extend_from_slice(buffer.format(number).as_bytes())?;
+    Ok(())
+}
+
+// Appends the lines of rows.
+fn push_rows(lines: &mut Vec<u8>, rows: &[TableRow]) -> Result<(), NoMemory>
+    ensures { OnOk result (lines.new.items ≡ lines.old.items ++ flat_map row_line rows.now) }
+{
+    for row in rows {
+        push_row(lines, row)?;
+    }
     Ok(())
 }
 

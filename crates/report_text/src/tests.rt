@@ -1,4 +1,4 @@
-use crate::{front_line, refused_line, table_lines};
+use crate::{front_line, hat_lines, refused_line, table_lines};
 use front_data::FrontNumbers;
 use grid_ports::NoMemory;
 use hat_division::{Table, TableRow};
@@ -33,5 +33,21 @@ fn lines_of_rows(rt: HostRuntime) -> Result<(), NoMemory> {
             b"ranks 2\nrank 0 0 1\nrank -1 -1 20\n".as_slice()
         );
     }
+    Ok(())
+}
+
+/// The lines of the hat of a trefoil, and of a table that has no hat.
+#[test]
+fn lines_of_a_hat(rt: HostRuntime) -> Result<(), NoMemory> {
+    let row = |m: i32, a: i32| -> TableRow { TableRow { m, a, rank: 1 } };
+    let rows = vec![in rt.alloc(); row(2, 1), row(1, 0), row(0, -1)]?;
+    let hat = Table::of(rows).expect(&rt, "the rows are those of a table");
+    let lines = hat_lines(rt.alloc(), 4, Some(&hat))?;
+    assert_eq!(rt;
+        lines.as_slice(),
+        b"hat exponent 4 rows 3\nrank 2 1 1\nrank 1 0 1\nrank 0 -1 1\n".as_slice()
+    );
+    let none = hat_lines(rt.alloc(), 1, None)?;
+    assert_eq!(rt; none.as_slice(), b"hat none\n".as_slice());
     Ok(())
 }
