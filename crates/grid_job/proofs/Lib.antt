@@ -1,3 +1,4 @@
+pub mod HatLemmas
 pub mod ReportLemmas
 pub mod OutcomeLemmas
 pub mod ModeLemmas

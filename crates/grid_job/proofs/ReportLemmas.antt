@@ -1,15 +1,10 @@
 -- A report written answer by answer.
--- Each script that is built has a report: a front line and a border line are given, and each grid has a table. So
--- what was written after the first k commands can be completed to a report at any place.
-use Rattle.std.proofs.Common.{◌≡◌, ℕ, zero, suc, ◌+◌, ◌<◌, ◌≤◌, List, [], ◌∷◌, ◌++◌, map, length, get_or, take, drop, All, Option, refl, sym, ap, subst, ◌∙◌, append_assoc, append-nil, drop-cons}
+-- Each script that is built has a report: a front line and a border line are given, and each grid has a table, and a
+-- hat or none. So what was written after the first k commands can be completed to a report at any place.
+use Rattle.std.proofs.Common.{◌≡◌, ℕ, zero, suc, ◌+◌, ◌<◌, ◌≤◌, List, [], ◌∷◌, ◌++◌, length, get_or, take, drop, All, Option, refl, sym, ap, subst, ◌∙◌, append_assoc, append-nil, drop-cons}
 use Rattle.std.specs.Io.KnownBytes.{Appends}
 use Rattle.std.proofs.lemmas.List.{take-append-drop, take_more, take_all}
 use Rattle.std.proofs.lemmas.List.Elements.{All-head, All-tail}
-use Rattle.hat_division.specs.declared.tables.TableRow.{TableRow}
-use Rattle.homology_cert.specs.Tables.{homology_row}
-use Rattle.homology_cert.proofs.ExistenceLemmas.{exists_homology_table}
-use Rattle.report_text.specs.Lines.{table_lines}
-use Rattle.torus_geom.specs.Homology.{IsHomologyTable, Row}
 use Rattle.torus_geom.specs.Marks.{Marks, size, IsGrid}
 use Rattle.grid_text.specs.Commands.{IsAllowed, grid_after}
 use Rattle.grid_text.specs.Script.{AreAllowed}
@@ -19,27 +14,14 @@ use Rattle.grid_text.proofs.Lines.ScriptLemmas.{IsGridOf-grid_after}
 use Rattle.grid_ports.specs.Bytes.{AppendsPrefix}
 use Rattle.grid_ports.proofs.BytesLemmas.{Appends-none, Appends-append}
 use Rattle.grid_job.specs.InForce.{InForce, after, after_all}
-use Rattle.grid_job.specs.Report.{IsBuiltCommand, IsTableText, IsAnswer, AreAnswers}
+use Rattle.grid_job.specs.Report.{IsBuiltCommand, IsAnswer, AreAnswers}
+use Rattle.grid_job.proofs.HatLemmas.{exists_table, exists_hat_text}
 
 -- ---- each command that is built has an answer
-table_row : Row → TableRow
-table_row row = record { m = row.0; a = row.1; rank = row.2 }
-
-homology_rows : (rows : List Row) → map homology_row (map table_row rows) ≡ rows
-unfolding table_row
-homology_rows [] = refl
-homology_rows (row ∷ rows) = ap (λ rs. row ∷ rs) (homology_rows rows)
-
-exists_table : (g : Marks) → IsGrid g → (text : List ℕ) × IsTableText g text
-exists_table g grid =
-    let found = exists_homology_table g grid in
-    let rows = map table_row found.0 in
-    (table_lines rows, record { rows = rows; table = subst (IsHomologyTable g) (sym (homology_rows found.0)) found.1; lines = refl })
-
 exists_answer : (p : InForce) (c : Command) → IsGrid p.grid → IsBuiltCommand c → (text : List ℕ) × IsAnswer p c text
 exists_answer p command.Front grid built = (_, refl)
 exists_answer p command.Ranks grid built = exists_table p.grid grid
-exists_answer p command.Hat grid built = absurd built
+exists_answer p command.Hat grid built = exists_hat_text p.grid grid
 exists_answer p (command.Class sign) grid built = absurd built
 exists_answer p (command.Border x) grid built = (_, refl)
 exists_answer p (command.Chain z) grid built = ([], refl)

@@ -1,4 +1,5 @@
 pub mod InForce
+pub mod Hat
 pub mod Report
 pub mod Status
 pub mod Outcome

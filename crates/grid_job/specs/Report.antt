@@ -19,9 +19,9 @@ use Rattle.grid_text.specs.Script.{GridScript}
 use Rattle.grid_text.specs.declared.commands.Command.{Command}
 use Rattle.grid_text.specs.declared.commands.Command.TheVariants as command
 use Rattle.grid_job.specs.InForce.{InForce, at_start, after}
+use Rattle.grid_job.specs.Hat.{IsHatText}
 
 abbrev pub IsBuiltCommand : Command → Type 0
-IsBuiltCommand command.Hat = ⊥
 IsBuiltCommand (command.Class sign) = ⊥
 IsBuiltCommand command.Bounds = ⊥
 IsBuiltCommand (command.Turn side) = ⊥
@@ -36,12 +36,13 @@ pub record IsTableText (g : Marks) (text : List ℕ) : Type 0 where
   pub table : IsHomologyTable g (map homology_row rows)
   pub lines : text ≡ table_lines rows
 
--- the classical invariants of the front; the table of ranks; the states of the border, and those of the chain in
--- force, in ascending order; nothing where a command makes a chain. The other commands have no answer yet
+-- the classical invariants of the front; the table of ranks; the hat, or that there is none; the states of the border,
+-- and those of the chain in force, in ascending order; nothing where a command makes a chain. The other commands have
+-- no answer yet
 abbrev pub IsAnswer : InForce → Command → List ℕ → Type 0
 IsAnswer p command.Front text = text ≡ front_line (thurston_bennequin p.grid) (rotation p.grid) (components p.grid)
 IsAnswer p command.Ranks text = IsTableText p.grid text
-IsAnswer p command.Hat text = ⊥
+IsAnswer p command.Hat text = IsHatText p.grid text
 IsAnswer p (command.Class sign) text = ⊥
 IsAnswer p (command.Border x) text = text ≡ set_line (codes "border") (size p.grid) (border_of_state p.grid x)
 IsAnswer p (command.Chain z) text = text ≡ []

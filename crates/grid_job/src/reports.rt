@@ -11,6 +11,7 @@ ghost use Rattle.grid_text.specs.Script.{AreAllowed};
 ghost use Rattle.grid_job.specs.InForce.{at_start};
 ghost use Rattle.grid_job.specs.Report.{IsBuiltCommand, IsAnswer, AreAnswers, IsTableText};
 
+use crate::hats::hat_text;
 use crate::in_force::InForce;
 use front_data::front;
 use grid_ports::{NoMemory, Sink, WriteFault, write_all};
@@ -68,7 +69,7 @@ fn is_built(command: &Command) -> bool
     ensures { IsTrue result ↔ IsBuiltCommand command.now }
 {
     match command {
-        Command::Hat | Command::Class(_) | Command::Bounds | Command::Turn(_) => false,
+        Command::Class(_) | Command::Bounds | Command::Turn(_) => false,
         _ => true,
     }
 }
@@ -111,6 +112,7 @@ fn answer_to(alloc: Global, p: &InForce, command: &Command) -> Result<Vec<u8>, N
     match command {
         Command::Front => front_line(alloc, &front(g)),
         Command::Ranks => ranks_lines(alloc, g),
+        Command::Hat => hat_text(alloc, g),
         Command::Border(state) => border_line(alloc, g, state),
         Command::Show => set_line(alloc, "chain", g.size(), p.chain()),
         Command::Chain(_) | Command::Commute(_, _, _) => Ok(Vec::new(alloc)),

@@ -6,9 +6,12 @@ use std::test::Fail;
 
 const UNKNOT: &str = "grid 2\nO 1 0\nX 0 1\nfront\nend\n";
 
+/// The table and the hat of an unknot.
+const HAT: &str = "grid 2\nO 1 0\nX 0 1\nranks\nhat\nend\n";
+
 /// Calls: the words, what the source has, the read and the write that fail (counted from 1, each moves
 /// one byte), the exit status, and what is written.
-const ROWS: [(&str, &str, (u64, u64), u8, &str); 21] = [
+const ROWS: [(&str, &str, (u64, u64), u8, &str); 22] = [
     ("run", UNKNOT, (0, 0), 0, "front tb -1 rot 0 components 1\n"),
     (
         "run",
@@ -83,13 +86,6 @@ const ROWS: [(&str, &str, (u64, u64), u8, &str); 21] = [
     ),
     (
         "run",
-        "grid 2\nO 1 0\nX 0 1\nhat\nend\n",
-        (0, 0),
-        2,
-        "refused NotBuilt line 0\n",
-    ),
-    (
-        "run",
         "grid 2\nO 1 0\nX 1 0\nend\n",
         (0, 0),
         2,
@@ -103,6 +99,8 @@ const ROWS: [(&str, &str, (u64, u64), u8, &str); 21] = [
         "refused AfterEnd line 5\n",
     ),
     ("run", "", (0, 0), 2, "refused NoEnd line 1\n"),
+    ("run", HAT, (0, 2), 4, "r"),
+    ("run", HAT, (3, 0), 3, ""),
     ("run", UNKNOT, (0, 2), 4, "f"),
     ("run", UNKNOT, (3, 0), 3, ""),
     ("run now", UNKNOT, (0, 0), 1, ""),
@@ -116,7 +114,7 @@ const SMALL: &str = "grid 2\nO 1 0\nX 0 1\n";
 const LARGE: &str = "grid 5\nO 0 1 2 3 4\nX 2 3 4 0 1\n";
 
 /// Texts that are refused, each in two parts, and the line that says so.
-const FAULTS: [(&str, &str, &str); 19] = [
+const FAULTS: [(&str, &str, &str); 18] = [
     (LARGE, "cols 1 over\nend\n", "refused NotCommuting line 4\n"),
     (SMALL, "", "refused NoEnd line 4\n"),
     (SMALL, "end\nfront\n", "refused AfterEnd line 5\n"),
@@ -143,7 +141,6 @@ const FAULTS: [(&str, &str, &str); 19] = [
         "refused RepeatedState line 4\n",
     ),
     (SMALL, "cols 1 over\nend\n", "refused NotCommuting line 4\n"),
-    (SMALL, "front\nhat\nend\n", "refused NotBuilt line 0\n"),
     (SMALL, "class +\nend\n", "refused NotBuilt line 0\n"),
     (SMALL, "bounds\nend\n", "refused NotBuilt line 0\n"),
     (SMALL, "turn left\nend\n", "refused NotBuilt line 0\n"),
@@ -222,6 +219,32 @@ const TABLES: [(&str, &str); 3] = [
     ),
 ];
 
+/// Documents of knots, and of a link of two components, and their hats.
+const HATS: [(&str, &str); 5] = [
+    (
+        HAT,
+        "ranks 2\nrank 0 0 1\nrank -1 -1 1\nhat exponent 1 rows 1\nrank 0 0 1\n",
+    ),
+    (
+        "grid 5\nO 0 1 2 3 4\nX 2 3 4 0 1\nranks\nhat\nend\n",
+        "ranks 7\nrank 2 1 1\nrank 1 0 5\nrank 0 -1 11\nrank -1 -2 14\nrank -2 -3 11\nrank -3 -4 5\nrank -4 -5 1\n\
+         hat exponent 4 rows 3\nrank 2 1 1\nrank 1 0 1\nrank 0 -1 1\n",
+    ),
+    (
+        "grid 4\nO 0 1 2 3\nX 2 3 0 1\nhat\nfront\nend\n",
+        "hat exponent 2 rows 3\nrank 1 1 1\nrank 0 0 2\nrank -1 -1 1\nfront tb 0 rot 0 components 2\n",
+    ),
+    (
+        "grid 7\nO 0 1 2 3 4 5 6\nX 3 4 5 6 0 1 2\nhat\nfront\nend\n",
+        "hat exponent 6 rows 5\nrank 6 3 1\nrank 5 2 1\nrank 2 0 1\nrank 1 -2 1\nrank 0 -3 1\n\
+         front tb 5 rot 0 components 1\n",
+    ),
+    (
+        "grid 8\nO 0 1 2 3 4 5 6 7\nX 3 4 5 6 7 0 1 2\nhat\nend\n",
+        "hat exponent 7 rows 7\nrank 8 4 1\nrank 7 3 1\nrank 4 1 1\nrank 3 0 1\nrank 2 -1 1\nrank 1 -3 1\nrank 0 -4 1\n",
+    ),
+];
+
 /// The exit status of a call, and what it wrote.
 fn answer(
     alloc: Global,
@@ -284,6 +307,22 @@ fn tables_of_large_grids(rt: HostRuntime) -> Result<(), Fail> {
             written.as_slice(),
             table.as_bytes(),
             "the table of {text:?}"
+        );
+    }
+    Ok(())
+}
+
+#[test]
+fn hats_of_knots_and_links(rt: HostRuntime) -> Result<(), Fail> {
+    let alloc = rt.alloc();
+    for (text, report) in HATS {
+        let bytes = Vec::from_slice(alloc, text.as_bytes())?;
+        let (status, written) = answer(alloc, "run", bytes, (0, 0))?;
+        assert_eq!(rt; status, 0, "the status on {text:?}");
+        assert_eq!(rt;
+            written.as_slice(),
+            report.as_bytes(),
+            "the report of {text:?}"
         );
     }
     Ok(())

@@ -1,0 +1,27 @@
+-- The hat of a grid: the quotient of its table by one factor 1 + q^-1 t^-1 for each column beyond one per component,
+-- where a row (m, a, d) is the term d q^m t^a. A grid has at most one.
+--     hat_exponent g     the number of these factors
+--     IsHat g hat        the rows are of positive ranks, in the order of tables, and their product with the factors is the
+--                        table of the grid
+--     IsHatText g text   the exponent and the rows of the hat; or that there is none, exactly where there is none
+use Rattle.std.specs.Prelude.{◌≡◌, ℕ, ◌-◌, List, map, Option, MatchOption}
+use Rattle.hat_division.specs.Product.{IsQuotient}
+use Rattle.hat_division.specs.declared.tables.TableRow.{TableRow}
+use Rattle.homology_cert.specs.Tables.{homology_row}
+use Rattle.report_text.specs.Lines.{hat_lines}
+use Rattle.torus_geom.specs.Components.{components}
+use Rattle.torus_geom.specs.Homology.{IsHomologyTable}
+use Rattle.torus_geom.specs.Marks.{Marks, size}
+
+abbrev pub hat_exponent : Marks → ℕ
+hat_exponent g = size g - components g
+
+pub record IsHat (g : Marks) (hat : List TableRow) : Type 0 where
+  pub rows : List TableRow
+  pub table : IsHomologyTable g (map homology_row rows)
+  pub quotient : IsQuotient (hat_exponent g) rows hat
+
+pub record IsHatText (g : Marks) (text : List ℕ) : Type 0 where
+  pub hat : Option (List TableRow)
+  pub told : MatchOption hat ((q : List TableRow) → ¬ IsHat g q) (λ q. IsHat g q)
+  pub lines : text ≡ hat_lines (hat_exponent g) hat
