@@ -13,7 +13,7 @@ use crate::commands::MAX_COMMANDS;
 use crate::faults::TextFault;
 use crate::places::{Place, next_place};
 use crate::scripts::Script;
-use crate::words::{first_part, words_of};
+use crate::words::{first_line, is_blank, words_of};
 use grid_ports::NoMemory;
 use std::alloc::Global;
 use thiserror::Error;
@@ -52,7 +52,8 @@ impl From<NoMemory> for TextEnd {
 /// The script whose document the text is, or the first fault of the text and the line that has it.
 ///
 /// The lines are taken in order, and the fault is that of the first row of the table that holds for the
-/// first line that may not stand where it does. Lines are counted from 1.
+/// first line that may not stand where it does. Blank lines may stand anywhere. Lines are counted from 1,
+/// blank lines too.
 ///
 /// # Errors
 ///
@@ -98,7 +99,7 @@ fn judge_lines(alloc: Global, text: &[u8]) -> Result<Judged, TextEnd>
     let mut place = Place::Head;
     let mut rest = text;
     let mut line: u32 = 1;
-    while let Some((bytes, after)) = first_part(rest, b'\n') {
+    while let Some((bytes, after)) = first_line(rest) {
         match next_of_line(alloc, place, bytes)? {
             Ok(next) => place = next,
             Err(fault) => return Err(TextEnd::Refused { fault, line }),
@@ -128,5 +129,8 @@ fn next_of_line(
     ensures { IfOk result (IsNext (place_of place) (words_of_line bytes.now)) }
 {
     let words = words_of(alloc, bytes)?;
+    if is_blank(&words) {
+        return Ok(Ok(place));
+    }
     next_place(alloc, place, &words)
 }

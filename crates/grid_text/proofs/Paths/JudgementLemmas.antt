@@ -1,15 +1,17 @@
 -- The lines that were judged so far, and the laws of the judgement. The same lines lead from the head to one place,
 -- so they are those of one script; and a line with a fault leads nowhere, so they have no first fault then.
-use Rattle.std.proofs.Common.{◌≡◌, ◌↔◌, ℕ, ◌+◌, ◌<◌, ◌≤◌, false, List, [], ◌∷◌, ◌++◌, length, map, None, Some, refl, ap, subst, ◌∙◌, sym, arith, inl, inr, true≢false, length-append}
+use Rattle.std.proofs.Common.{◌≡◌, ◌↔◌, ℕ, ◌+◌, ◌<◌, ◌≤◌, Bool, false, List, [], ◌∷◌, ◌++◌, length, map, None, Some, Result, Ok, Err, IfOk, refl, ap, subst, ◌∙◌, sym, arith, inl, inr, true≢false, length-append}
 use Rattle.std.proofs.lemmas.List.{append-nil, append_assoc}
-use Rattle.grid_text.specs.Words.{Word, lines_of, words_of, words_of_lines}
+use Rattle.grid_text.specs.Words.{Word, is_blank, lines_of, words_of, words_of_lines}
 use Rattle.grid_text.specs.Script.{GridScript}
 use Rattle.grid_text.specs.Document.{Place, head, o_line, x_line, body, ended, Leads, Path, AreLinesOf, IsDocument}
 use Rattle.grid_text.specs.Faults.{fault_at, is_after_end, HaveFirstFault, IsFirstFault}
 use Rattle.grid_text.specs.Inner.Reading.{IsPlace}
+use Rattle.grid_text.specs.Inner.Next.{IsNextOn, IsNext}
+use Rattle.grid_text.specs.declared.places.Place.{Place as StoredPlace}
 use Rattle.grid_text.specs.declared.faults.TextFault.{TextFault}
 use Rattle.grid_text.specs.declared.faults.TextFault.TheVariants as fault
-use Rattle.grid_text.proofs.Paths.PlaceLemmas.{IsPlace-next, IsPlace-path, fault_at-leads, leads-no_fault, one_place}
+use Rattle.grid_text.proofs.Paths.PlaceLemmas.{IsPlace-next, IsPlace-path, fault_at-leads, fault_at-filled, leads-no_fault, one_place}
 
 -- the lines before the number lead to the place, and the rest is to be judged
 pub record HasRead (text : List ℕ) (line : ℕ) (rest : List ℕ) (p : Place) : Type 0 where
@@ -78,6 +80,20 @@ pub HasNoEnd-from_place : (text : List ℕ) (line : ℕ) (rest : List ℕ) (p : 
 HasNoEnd-from_place text line rest p h none not_ended =
     let all = HasRead-all text line rest p h none in
     inr (record { place = p; path = all.0; not_ended = not_ended; number = all.1 }, refl)
+
+-- where the form of a line that is not blank leads, the line does
+IsNext-on : (p : Place) (words : List Word) (r : Result StoredPlace TextFault) → is_blank words ≡ false
+    → IsNextOn p words r → IsNext p words r
+IsNext-on p words (Ok q) filled next = (inr next.0, next.1)
+IsNext-on p words (Err f) filled faulty = fault_at-filled p words filled ∙ faulty
+
+-- as the reader has it
+pub next-read : {E : Type 0} (p : Place) (words line : List Word) (blank : Bool)
+    (r : Result (Result StoredPlace TextFault) E) → words ≡ line → blank ≡ is_blank words → blank ≡ false
+    → IfOk r (IsNextOn p words) → IfOk r (IsNext p line)
+next-read p words line blank (Ok r) same tells filled next =
+    subst (λ w. IsNext p w r) same (IsNext-on p words r (sym tells ∙ filled) next)
+next-read p words line blank (Err e) same tells filled next = tt
 
 -- ---- laws
 
