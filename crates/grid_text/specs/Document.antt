@@ -9,7 +9,9 @@
 --     Path p lines q         these lines, in order, lead from p to q
 --     AreLinesOf lines s     lines with these words are a document of the script s
 --     IsDocument text s      the text is a document of the script s
-use Rattle.std.specs.Prelude.{◌≡◌, ◌≢◌, ◌⊎◌, ℕ, ◌<◌, true, List, [], ◌∷◌, length, map, slice_index, codes}
+--     IsHeadLine lines line  the line of this number, counted from 1, is the first of the head: the lines before it
+--                            leave the place at the head, and it leads on from there
+use Rattle.std.specs.Prelude.{◌≡◌, ◌≢◌, ◌⊎◌, ℕ, ◌+◌, ◌<◌, true, List, [], ◌∷◌, ◌++◌, length, map, slice_index, codes}
 use Rattle.std.specs.Fmt.{decimal}
 use Rattle.state_rank.specs.Bijection.{IsSize, IsBijection}
 use Rattle.grid_text.specs.Limits.{max_commands}
@@ -62,3 +64,13 @@ AreLinesOf lines s = Path head lines (ended s)
 
 abbrev pub IsDocument : List ℕ → GridScript → Type 0
 IsDocument text s = AreLinesOf (words_of_lines text) s
+
+pub record IsHeadLine (lines : List (List Word)) (line : ℕ) : Type 0 where
+  pub before : List (List Word)
+  pub words : List Word
+  pub after : List (List Word)
+  pub next : Place
+  pub split : lines ≡ before ++ words ∷ after
+  pub blank : Path head before head
+  pub leads : LeadsOn head words next
+  pub number : line ≡ length before + 1
