@@ -37,6 +37,13 @@ const ROWS: [(&str, &str, (u64, u64), u8, &str); 22] = [
     ("run", "grid 2\nO 1 0\nX 0 1\nend\n", (0, 0), 0, ""),
     (
         "run",
+        "grid 2\n# note\nO 1 0\nX 0 1\nranks\nend\n\n",
+        (0, 0),
+        0,
+        "ranks 2\nrank 0 0 1\nrank -1 -1 1\n",
+    ),
+    (
+        "run",
         "grid 3\nO 2 1 0\nX 1 0 2\nborder 012\nborder 021\nend\n",
         (0, 0),
         0,
@@ -328,13 +335,22 @@ fn hats_of_knots_and_links(rt: HostRuntime) -> Result<(), Fail> {
     Ok(())
 }
 
+// A document with comments of so many bytes in all, and one with a byte more.
 #[test]
-fn a_long_text_is_refused(rt: HostRuntime) -> Result<(), Fail> {
+fn the_longest_text_is_read(rt: HostRuntime) -> Result<(), Fail> {
     let alloc = rt.alloc();
-    let text = vec![in alloc; b'\n'; 65_537]?;
-    let (status, written) = answer(alloc, "run", text, (0, 0))?;
-    assert_eq!(rt; status, 2);
-    assert_eq!(rt; written.as_slice(), b"refused TooLong line 0\n".as_slice());
+    for (comment, code, line) in [
+        (65_536 - 31, 0, ""),
+        (65_537 - 31, 2, "refused TooLong line 0\n"),
+    ] {
+        let mut text = Vec::from_slice(alloc, SMALL.as_bytes())?;
+        text.extend_from_slice(b"# note\n")?;
+        text.extend_from_slice(&vec![in alloc; b'#'; comment]?)?;
+        text.extend_from_slice(b"\nend\n")?;
+        let (status, written) = answer(alloc, "run", text, (0, 0))?;
+        assert_eq!(rt; status, code);
+        assert_eq!(rt; written.as_slice(), line.as_bytes());
+    }
     Ok(())
 }
 

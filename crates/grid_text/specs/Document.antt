@@ -1,17 +1,21 @@
 -- Which texts are documents. The lines of a text are taken in order, each at a place; a line that is
--- allowed there leads to the next place.
+-- allowed there leads to the next place. Blank lines are allowed everywhere and leave the place.
 --     Place                  where a line stands: at the head; at the O line of a size; at the X line of a size
 --                            with the O list; in the body, with the script so far; after the end
 --     grid_word, o_word, x_word, end_word   the first words of the lines of the head, and the last line
---     Leads p words q        a line with these words is allowed at the place p and leads to q
+--     LeadsOn p words q      the words have a form that is allowed at the place p, and the line leads on to q
+--     Leads p words q        a line with these words is allowed at the place p and leads to q: a blank line to p
+--                            itself, another by its form
 --     Path p lines q         these lines, in order, lead from p to q
 --     AreLinesOf lines s     lines with these words are a document of the script s
 --     IsDocument text s      the text is a document of the script s
-use Rattle.std.specs.Prelude.{◌≡◌, ◌≢◌, ◌⊎◌, ℕ, ◌<◌, List, [], ◌∷◌, length, map, slice_index, codes}
+--     IsHeadLine lines line  the line of this number, counted from 1, is the first of the head: the lines before it
+--                            leave the place at the head, and it leads on from there
+use Rattle.std.specs.Prelude.{◌≡◌, ◌≢◌, ◌⊎◌, ℕ, ◌+◌, ◌<◌, true, List, [], ◌∷◌, ◌++◌, length, map, slice_index, codes}
 use Rattle.std.specs.Fmt.{decimal}
 use Rattle.state_rank.specs.Bijection.{IsSize, IsBijection}
 use Rattle.grid_text.specs.Limits.{max_commands}
-use Rattle.grid_text.specs.Words.{Word, words_of_lines}
+use Rattle.grid_text.specs.Words.{Word, words_of_lines, is_blank}
 use Rattle.grid_text.specs.Commands.{IsLineOf, IsAllowed}
 use Rattle.grid_text.specs.Script.{GridScript, grid_in_force, with_command}
 use Rattle.grid_text.specs.declared.commands.Command.{Command}
@@ -35,18 +39,21 @@ x_word = codes "X"
 abbrev pub end_word : Word
 end_word = codes "end"
 
-abbrev pub Leads : Place → List Word → Place → Type 0
-Leads head words q = (n : ℕ) × IsSize n × (words ≡ grid_word ∷ decimal n ∷ []) × (q ≡ o_line n)
-Leads (o_line n) words q =
+abbrev pub LeadsOn : Place → List Word → Place → Type 0
+LeadsOn head words q = (n : ℕ) × IsSize n × (words ≡ grid_word ∷ decimal n ∷ []) × (q ≡ o_line n)
+LeadsOn (o_line n) words q =
     (o : List ℕ) × IsBijection n o × (words ≡ o_word ∷ map decimal o) × (q ≡ x_line n o)
-Leads (x_line n o) words q =
+LeadsOn (x_line n o) words q =
     (x : List ℕ) × IsBijection n x × ((c : ℕ) → c < n → slice_index o c ≢ slice_index x c)
     × (words ≡ x_word ∷ map decimal x) × (q ≡ body (record { grid = record { o = o; x = x }; commands = [] }))
-Leads (body s) words q =
+LeadsOn (body s) words q =
     ((words ≡ end_word ∷ []) × (q ≡ ended s))
     ⊎ ((c : Command) × IsLineOf words c × IsAllowed (grid_in_force s) c × (length s.commands < max_commands)
     × (q ≡ body (with_command s c)))
-Leads (ended s) words q = ⊥
+LeadsOn (ended s) words q = ⊥
+
+abbrev pub Leads : Place → List Word → Place → Type 0
+Leads p words q = ((is_blank words ≡ true) × (p ≡ q)) ⊎ LeadsOn p words q
 
 abbrev pub Path : Place → List (List Word) → Place → Type 0
 Path p [] q = p ≡ q
@@ -57,3 +64,13 @@ AreLinesOf lines s = Path head lines (ended s)
 
 abbrev pub IsDocument : List ℕ → GridScript → Type 0
 IsDocument text s = AreLinesOf (words_of_lines text) s
+
+pub record IsHeadLine (lines : List (List Word)) (line : ℕ) : Type 0 where
+  pub before : List (List Word)
+  pub words : List Word
+  pub after : List (List Word)
+  pub next : Place
+  pub split : lines ≡ before ++ words ∷ after
+  pub blank : Path head before head
+  pub leads : LeadsOn head words next
+  pub number : line ≡ length before + 1

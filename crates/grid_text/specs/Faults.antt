@@ -1,5 +1,5 @@
--- The first fault of lines that are no document. The table has a row for each fault; at a place a line has
--- the fault of the first row whose test passes, and none where no test passes.
+-- The first fault of lines that are no document. The table has a row for each fault; at a place a line that is
+-- not blank has the fault of the first row whose test passes, and none where no test passes. A blank line has none.
 --
 -- Kinds of words, and forms of lines:
 --     Kind                what a word may be: one of some words, a number between two, a state of a size
@@ -33,7 +33,8 @@
 --     rows_of_form p form words        the rows from the first word on, for a line of this form, if it has one
 --     table p words                    all rows, in order, for a line with these words at the place p
 --     first_passed rows                the fault of the first row whose test passes
---     fault_at p words                 the fault of such a line
+--     table_fault p words              the fault that the table gives for such a line
+--     fault_at p words                 the fault of such a line: none of a blank line, and else that of the table
 --     HaveFault lines f line           the line of this number has the fault f, and those before it are allowed
 --     HaveNoEnd lines line             all lines are allowed and `end` was not met; the number is that of the next
 --     HaveFirstFault lines f line      lines with these words have the first fault f at the line of this number,
@@ -52,7 +53,7 @@ use Rattle.grid_moves.specs.declared.commutations.Axis.{Axis}
 use Rattle.grid_moves.specs.declared.commutations.Axis.TheVariants.{Cols, Rows}
 use Rattle.pentagon_map.specs.declared.Corner.TheVariants.{Over}
 use Rattle.grid_text.specs.Limits.{max_commands}
-use Rattle.grid_text.specs.Words.{Word, words_of_lines, is_word, numeral, state_of}
+use Rattle.grid_text.specs.Words.{Word, words_of_lines, is_blank, is_word, numeral, state_of}
 use Rattle.grid_text.specs.Commands.{sign_word, signs, side_word, sides, corner_word, corners, axis_word, Argument, sign, side, corner, number, state, command_row}
 use Rattle.grid_text.specs.Script.{grid_in_force}
 use Rattle.grid_text.specs.Document.{Place, head, o_line, x_line, body, ended, grid_word, o_word, x_word, end_word, Path}
@@ -196,8 +197,11 @@ abbrev pub first_passed : List (TextFault × Bool) → Option TextFault
 first_passed [] = None
 first_passed (row ∷ rows) = if row.1 then Some row.0 else first_passed rows
 
+unfoldable pub table_fault : Place → List Word → Option TextFault
+table_fault p words = first_passed (table p words)
+
 unfoldable pub fault_at : Place → List Word → Option TextFault
-fault_at p words = first_passed (table p words)
+fault_at p words = if is_blank words then None else table_fault p words
 
 -- ---- the first fault
 

@@ -4,15 +4,19 @@
 --                            byte, these as one more part
 --     before_parts b parts   the parts, with the byte before the first
 --     is_line_feed b         the byte is 10
---     is_space b             the byte is 32
+--     is_space b             the byte is a space or a tab, 32 or 9
 --     is_filled bytes        there are some
---     lines_of text          its lines: each is ended by a line feed, but the last may be ended by the text
---     words_of line          the longest runs of bytes other than spaces
+--     without_return bytes   the bytes, without a carriage return, 13, at their end
+--     lines_of text          its lines: each is ended by a line feed, but the last may be ended by the text; one
+--                            carriage return at the end of a line is no part of it
+--     words_of line          the longest runs of bytes other than spaces and tabs
 --     words_of_lines text    the words of each line, in order
+--     is_comment word        the word begins with `#`, 35
+--     is_blank words         a line with these words is blank: it has none, or the first begins with `#`
 --     is_word v w            the two words are the same
 --     numeral low high word  the number from low to high whose decimal form the word is, if there is one
 --     state_of n word        the state of size n whose word it is, if there is one
-use Rattle.std.specs.Prelude.{ℕ, ◌+◌, Bool, true, false, ◌&&◌, List, [], ◌∷◌, map, ◌==◌, if◌then◌else◌}
+use Rattle.std.specs.Prelude.{ℕ, ◌+◌, Bool, true, false, ◌&&◌, ◌||◌, List, [], ◌∷◌, map, ◌==◌, if◌then◌else◌}
 use Rattle.std.specs.declared.option.Option.{Option}
 use Rattle.std.specs.List.{filter, find}
 use Rattle.std.specs.Fmt.{decimal}
@@ -26,7 +30,7 @@ abbrev pub is_line_feed : ℕ → Bool
 is_line_feed b = b == 10
 
 abbrev pub is_space : ℕ → Bool
-is_space b = b == 32
+is_space b = (b == 32) || (b == 9)
 
 abbrev pub before_parts : ℕ → List (List ℕ) → List (List ℕ)
 before_parts b [] = (b ∷ []) ∷ []
@@ -40,14 +44,27 @@ abbrev pub is_filled : List ℕ → Bool
 is_filled [] = false
 is_filled (b ∷ bytes) = true
 
+abbrev pub without_return : List ℕ → List ℕ
+without_return [] = []
+without_return (b ∷ []) = if b == 13 then [] else b ∷ []
+without_return (b ∷ c ∷ bytes) = b ∷ without_return (c ∷ bytes)
+
 abbrev pub lines_of : List ℕ → List (List ℕ)
-lines_of text = parts is_line_feed text
+lines_of text = map without_return (parts is_line_feed text)
 
 abbrev pub words_of : List ℕ → List Word
 words_of line = filter is_filled (parts is_space line)
 
 abbrev pub words_of_lines : List ℕ → List (List Word)
 words_of_lines text = map words_of (lines_of text)
+
+abbrev pub is_comment : Word → Bool
+is_comment [] = false
+is_comment (b ∷ word) = b == 35
+
+abbrev pub is_blank : List Word → Bool
+is_blank [] = true
+is_blank (word ∷ words) = is_comment word
 
 abbrev pub is_word : Word → Word → Bool
 is_word [] [] = true

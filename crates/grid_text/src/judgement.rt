@@ -1,9 +1,9 @@
 //! Which texts are documents.
 ghost use Rattle.std.specs.Prelude.{◌≡◌, ◌↔◌, ◌⊎◌, ◌≤◌, ℕ, List, None, length, map, IfOk, IfErr};
 ghost use Rattle.grid_text.specs.Limits.{max_commands, max_text};
-ghost use Rattle.grid_text.specs.Words.{Word, words_of as words_of_line};
+ghost use Rattle.grid_text.specs.Words.{Word, words_of as words_of_line, words_of_lines};
 ghost use Rattle.grid_text.specs.Script.{GridScript};
-ghost use Rattle.grid_text.specs.Document.{Place as PlaceOf, head, Leads, Path, IsDocument};
+ghost use Rattle.grid_text.specs.Document.{Place as PlaceOf, head, Leads, Path, IsDocument, IsHeadLine};
 ghost use Rattle.grid_text.specs.Faults.{fault_at, IsFirstFault};
 ghost use Rattle.grid_text.specs.Inner.Reading.{IsPlace};
 ghost use Rattle.grid_text.specs.Inner.Next.{place_of, IsNext};
@@ -13,7 +13,7 @@ use crate::commands::MAX_COMMANDS;
 use crate::faults::TextFault;
 use crate::places::{Place, next_place};
 use crate::scripts::Script;
-use crate::words::{first_part, words_of};
+use crate::words::{first_line, is_blank, words_of};
 use grid_ports::NoMemory;
 use std::alloc::Global;
 use thiserror::Error;
@@ -21,7 +21,7 @@ use thiserror::Error;
 /// The greatest number of bytes of a text that is judged.
 pub const MAX_TEXT: usize = 65_536;
 
-/// The script of a document, and the line on which its head begins.
+/// The script of a document, and the line on which its head begins, counted from 1.
 #[derive(Drop)]
 pub struct Judged {
     pub script: Script,
@@ -52,7 +52,8 @@ impl From<NoMemory> for TextEnd {
 /// The script whose document the text is, or the first fault of the text and the line that has it.
 ///
 /// The lines are taken in order, and the fault is that of the first row of the table that holds for the
-/// first line that may not stand where it does. Lines are counted from 1.
+/// first line that may not stand where it does. Blank lines may stand anywhere. Lines are counted from 1,
+/// blank lines too.
 ///
 /// # Errors
 ///
@@ -60,7 +61,7 @@ impl From<NoMemory> for TextEnd {
 pub fn judge(alloc: Global, text: &[u8]) -> Result<Judged, TextEnd>
     requires { length text.now ≤ max_text }
     ensures document { IfOk result (λ j. IsDocument text.now j.script) }
-    ensures head { IfOk result (λ j. j.grid_line ≡ 1) }
+    ensures head { IfOk result (λ j. IsHeadLine (words_of_lines text.now) j.grid_line) }
     ensures refused { IfErr result (IsEnd text.now) }
 
     // Every text is a document or has a first fault, and no text is both.
@@ -92,13 +93,17 @@ pub fn judge(alloc: Global, text: &[u8]) -> Result<Judged, TextEnd>
 fn judge_lines(alloc: Global, text: &[u8]) -> Result<Judged, TextEnd>
     requires { length text.now ≤ max_text }
     ensures document { IfOk result (λ j. IsDocument text.now j.script) }
-    ensures head { IfOk result (λ j. j.grid_line ≡ 1) }
+    ensures head { IfOk result (λ j. IsHeadLine (words_of_lines text.now) j.grid_line) }
     ensures refused { IfErr result (IsEnd text.now) }
 {
     let mut place = Place::Head;
     let mut rest = text;
     let mut line: u32 = 1;
-    while let Some((bytes, after)) = first_part(rest, b'\n') {
+    let mut grid_line: u32 = 1;
+    while let Some((bytes, after)) = first_line(rest) {
+        if let Place::Head = place {
+            grid_line = line;
+        }
         match next_of_line(alloc, place, bytes)? {
             Ok(next) => place = next,
             Err(fault) => return Err(TextEnd::Refused { fault, line }),
@@ -107,10 +112,7 @@ fn judge_lines(alloc: Global, text: &[u8]) -> Result<Judged, TextEnd>
         line += 1;
     }
     match place {
-        Place::Ended(script) => Ok(Judged {
-            script,
-            grid_line: 1,
-        }),
+        Place::Ended(script) => Ok(Judged { script, grid_line }),
         _ => Err(TextEnd::Refused {
             fault: TextFault::NoEnd,
             line,
@@ -128,5 +130,8 @@ fn next_of_line(
     ensures { IfOk result (IsNext (place_of place) (words_of_line bytes.now)) }
 {
     let words = words_of(alloc, bytes)?;
+    if is_blank(&words) {
+        return Ok(Ok(place));
+    }
     next_place(alloc, place, &words)
 }

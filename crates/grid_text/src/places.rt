@@ -5,9 +5,9 @@ ghost use Rattle.std.specs.Fmt.{decimal};
 ghost use Rattle.state_rank.specs.Bijection.{IsSize, IsBijection};
 ghost use Rattle.grid_text.specs.Words.{Word};
 ghost use Rattle.grid_text.specs.Document.{Place as PlaceOf, head, o_line, x_line, body};
-ghost use Rattle.grid_text.specs.Faults.{fault_at, number_between, is_bad};
+ghost use Rattle.grid_text.specs.Faults.{table_fault, number_between, is_bad};
 ghost use Rattle.grid_text.specs.Inner.Reading.{IsPlace, IsRowPlace, AreNumerals};
-ghost use Rattle.grid_text.specs.Inner.Next.{place_of, IsNext};
+ghost use Rattle.grid_text.specs.Inner.Next.{place_of, IsNextOn};
 
 use crate::bodies::read_line;
 use crate::commands::MAX_COMMANDS;
@@ -34,14 +34,14 @@ pub(crate) enum Place {
     Ended(Script),
 }
 
-/// The place to which a line with these words leads, or its fault.
+/// The place to which a line with these words leads, or its fault, where it is not blank.
 pub(crate) fn next_place(
     alloc: Global,
     place: Place,
     words: &[&[u8]],
 ) -> Result<Result<Place, TextFault>, NoMemory>
     requires { IsPlace (place_of place) }
-    ensures { IfOk result (IsNext (place_of place) (map (λ w. w.now) words.now)) }
+    ensures { IfOk result (IsNextOn (place_of place) (map (λ w. w.now) words.now)) }
 {
     match place {
         Place::Head => Ok(read_head(words)),
@@ -54,7 +54,7 @@ pub(crate) fn next_place(
 
 // The place after the line of the head.
 fn read_head(words: &[&[u8]]) -> Result<Place, TextFault>
-    ensures { IsNext head (map (λ w. w.now) words.now) result }
+    ensures { IsNextOn head (map (λ w. w.now) words.now) result }
 {
     let Some(arguments) = words_after(b"grid", words) else {
         return Err(TextFault::BadWord);
@@ -71,7 +71,7 @@ fn read_head(words: &[&[u8]]) -> Result<Place, TextFault>
 // The place after an O line.
 fn read_o_line(n: u8, words: &[&[u8]]) -> Result<Place, TextFault>
     requires { IsSize n }
-    ensures { IsNext (o_line n) (map (λ w. w.now) words.now) result }
+    ensures { IsNextOn (o_line n) (map (λ w. w.now) words.now) result }
 {
     match read_rows(b"O", n, words) {
         Ok(o) => Ok(Place::XLine(o)),
@@ -81,7 +81,7 @@ fn read_o_line(n: u8, words: &[&[u8]]) -> Result<Place, TextFault>
 
 // The place after an X line.
 fn read_x_line(alloc: Global, o: &State, words: &[&[u8]]) -> Result<Place, TextFault>
-    ensures { IsNext (x_line (length o.now) o.now) (map (λ w. w.now) words.now) result }
+    ensures { IsNextOn (x_line (length o.now) o.now) (map (λ w. w.now) words.now) result }
 {
     let x = match read_rows(b"X", o.size(), words) {
         Ok(x) => x,
@@ -99,7 +99,7 @@ fn read_body_line(
     mut script: Script,
     words: &[&[u8]],
 ) -> Result<Result<Place, TextFault>, NoMemory>
-    ensures { IfOk result (IsNext (body script) (map (λ w. w.now) words.now)) }
+    ensures { IfOk result (IsNextOn (body script) (map (λ w. w.now) words.now)) }
 {
     let line = match read_line(alloc, &script, words)? {
         Ok(line) => line,
@@ -121,7 +121,7 @@ fn read_rows(letter: &[u8], n: u8, words: &[&[u8]]) -> Result<State, TextFault>
     ensures ok { IfOk result (λ x. IsBijection n x
         × (map (λ w. w.now) words.now ≡ letter.now ∷ map decimal x)) }
     ensures err { IfErr result (λ f. (p : PlaceOf) → IsRowPlace letter.now n p
-        → fault_at p (map (λ w. w.now) words.now) ≡ Some f) }
+        → table_fault p (map (λ w. w.now) words.now) ≡ Some f) }
 {
     let Some(arguments) = words_after(letter, words) else {
         return Err(TextFault::BadWord);

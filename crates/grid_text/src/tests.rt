@@ -9,7 +9,7 @@ const B: &str = "grid 5\nO 0 1 2 3 4\nX 2 3 4 0 1\n";
 // Each text is refused for this fault at this line.
 #[test]
 fn refusals(rt: HostRuntime) -> Result<(), Fail> {
-    let rows: [(&str, &str, TextFault, u32); 12] = [
+    let rows: [(&str, &str, TextFault, u32); 25] = [
         ("", "", TextFault::NoEnd, 1),
         (A, "", TextFault::NoEnd, 4),
         (A, "end\nfront\n", TextFault::AfterEnd, 5),
@@ -27,6 +27,32 @@ fn refusals(rt: HostRuntime) -> Result<(), Fail> {
         (A, "class *\n", TextFault::BadChoice, 4),
         (A, "border 011\n", TextFault::BadState, 4),
         (A, "chain 01 01\n", TextFault::RepeatedState, 4),
+        // blank lines are counted, and a comment after a word is none
+        (
+            "# a\n\n\tgrid 2\r\n",
+            "O 1 1\n",
+            TextFault::NotPermutation,
+            4,
+        ),
+        (A, "\n# a\n \t\r\n", TextFault::NoEnd, 7),
+        (A, "end\n\n#\nshow\n", TextFault::AfterEnd, 7),
+        (A, "show # a\n", TextFault::BadCount, 4),
+        // one carriage return is dropped, and only at the end of a line
+        (A, "show\r\r\n", TextFault::BadWord, 4),
+        (A, "class\r+\n", TextFault::BadWord, 4),
+        // lines that are made to be misread
+        (A, "cols 1 over over\n", TextFault::BadCount, 4),
+        (
+            A,
+            "cols 99999999999999999999999 over\n",
+            TextFault::BadNumber,
+            4,
+        ),
+        (A, "cols 01 over\n", TextFault::BadNumber, 4),
+        (A, "rows 0 upper\n", TextFault::BadChoice, 4),
+        (A, "chain 01 011 01\n", TextFault::BadState, 4),
+        (A, "turn sideways\n", TextFault::BadChoice, 4),
+        (A, "\0\n", TextFault::BadWord, 4),
     ];
     for (head, rest, fault, line) in rows {
         let text = format!(in rt.alloc(); "{head}{rest}")?;
@@ -56,11 +82,11 @@ fn a_document(rt: HostRuntime) -> Result<(), Fail> {
     Ok(())
 }
 
-// One space between words, the states of a chain ascending, and each line ended.
+// One space between words, the states of a chain ascending, each line ended, and no blank line.
 #[test]
 fn the_plain_form(rt: HostRuntime) -> Result<(), Fail> {
     let text = format!(in rt.alloc();
-        "{A} front\nchain  10 01\nclass - \nborder 10\nturn up\nend"
+        "# a\n{A} front\r\nchain\t10 \t01\n\nclass - \n\t# b\nborder 10\nturn up\nend\r\n \n# c"
     )?;
     if text.len() > MAX_TEXT {
         return Err(Fail::from("long"));

@@ -1,7 +1,8 @@
-//! Parts, words and numbers.
-ghost use Rattle.std.specs.Prelude.{◌≡◌, ◌≢◌, ◌↔◌, ℕ, ◌^◌, ◌<◌, ◌≤◌, ◌==◌, [], ◌∷◌, map, length, slice_index, IsTrue, IfSome, IfNone, IfOk};
+//! Lines, words and numbers.
+ghost use Rattle.std.specs.Prelude.{◌≡◌, ◌≢◌, ◌↔◌, ℕ, ◌^◌, ◌<◌, ◌≤◌, true, false, [], ◌∷◌, map, length, slice_index, IsTrue, IfSome, IfNone, IfOk};
 ghost use Rattle.std.specs.Fmt.{decimal};
-ghost use Rattle.grid_text.specs.Words.{is_word as is_word_of, numeral as numeral_of, parts, words_of as words_of_line};
+ghost use Rattle.grid_text.specs.Words.{is_word as is_word_of, numeral as numeral_of, parts, lines_of, without_return as without_return_of, words_of as words_of_line, is_comment as is_comment_word, is_blank as are_blank};
+ghost use Rattle.grid_text.specs.Inner.Separators.{ends_part};
 
 use grid_ports::NoMemory;
 use std::alloc::Global;
@@ -49,35 +50,80 @@ fn has_plain_start(word: &[u8]) -> bool
     }
 }
 
-/// The bytes up to the first that is `end`, or all, and what follows it, where there are bytes.
-pub(crate) fn first_part(bytes: &[u8], end: u8) -> Option<(&[u8], &[u8])>
+/// What stands between the parts of a list of bytes.
+#[derive(Clone, Copy, PartialEq, Eq, Debug)]
+enum Separator {
+    /// A line feed, after a line.
+    LineFeed,
+    /// A space or a tab, between words.
+    Space,
+}
+
+/// The first line of a text, and what follows it, where there are bytes.
+pub(crate) fn first_line(text: &[u8]) -> Option<(&[u8], &[u8])>
+    ensures none { IfNone result (text.now ≡ []) }
+    ensures some { IfSome result (λ p. lines_of text.now ≡ p.0.now ∷ lines_of p.1.now) }
+    ensures shorter { IfSome result (λ p. length p.1.now < length text.now) }
+{
+    let Some((line, after)) = first_part(text, Separator::LineFeed) else {
+        return None;
+    };
+    Some((without_return(line), after))
+}
+
+// The bytes without a carriage return at their end.
+fn without_return(line: &[u8]) -> &[u8]
+    ensures { result.now ≡ without_return_of line.now }
+{
+    let Some((last, front)) = line.split_last() else {
+        return line;
+    };
+    if *last == b'\r' {
+        return front;
+    }
+    line
+}
+
+// The bytes up to the first separator, or all, and what follows it, where there are bytes.
+fn first_part(bytes: &[u8], separator: Separator) -> Option<(&[u8], &[u8])>
     ensures none { IfNone result (bytes.now ≡ []) }
-    ensures some { IfSome result (λ p. parts (λ b. b == end) bytes.now
-        ≡ p.0.now ∷ parts (λ b. b == end) p.1.now) }
+    ensures some { IfSome result (λ p. parts (ends_part separator) bytes.now
+        ≡ p.0.now ∷ parts (ends_part separator) p.1.now) }
     ensures shorter { IfSome result (λ p. length p.1.now < length bytes.now) }
 {
     if bytes.is_empty() {
         return None;
     }
-    let at = index_of_byte(bytes, end);
+    let at = part_len(bytes, separator);
     if at == bytes.len() {
         return Some((bytes, &bytes[at..]));
     }
     Some((&bytes[..at], &bytes[at + 1..]))
 }
 
-// Where the first byte that is `wanted` stands, or the number of bytes.
-fn index_of_byte(bytes: &[u8], wanted: u8) -> usize
+// Where the first separator stands, or the number of bytes.
+fn part_len(bytes: &[u8], separator: Separator) -> usize
     ensures within { result ≤ length bytes.now }
-    ensures before { (k : ℕ) → k < result → slice_index bytes.now k ≢ wanted }
-    ensures found { result < length bytes.now → slice_index bytes.now result ≡ wanted }
+    ensures before { (k : ℕ) → k < result → ends_part separator (slice_index bytes.now k) ≡ false }
+    ensures found { result < length bytes.now
+        → ends_part separator (slice_index bytes.now result) ≡ true }
 {
     for (k, byte) in bytes.iter().enumerate() {
-        if *byte == wanted {
+        if is_separator(separator, *byte) {
             return k;
         }
     }
     bytes.len()
+}
+
+// Whether the byte is such a separator.
+fn is_separator(separator: Separator, byte: u8) -> bool
+    ensures { result ≡ ends_part separator byte }
+{
+    match separator {
+        Separator::LineFeed => byte == b'\n',
+        Separator::Space => byte == b' ' || byte == b'\t',
+    }
 }
 
 /// The words of a line.
@@ -86,13 +132,33 @@ pub(crate) fn words_of(alloc: Global, line: &[u8]) -> Result<Vec<&[u8]>, NoMemor
 {
     let mut words = Vec::new(alloc);
     let mut rest = line;
-    while let Some((part, after)) = first_part(rest, b' ') {
+    while let Some((part, after)) = first_part(rest, Separator::Space) {
         if !part.is_empty() {
             words.push(part)?;
         }
         rest = after;
     }
     Ok(words)
+}
+
+/// Whether a line with these words is blank: it has none, or the first begins with `#`.
+pub(crate) fn is_blank(words: &[&[u8]]) -> bool
+    ensures { result ≡ are_blank (map (λ w. w.now) words.now) }
+{
+    match words {
+        [] => true,
+        [word, ..] => is_comment(word),
+    }
+}
+
+// Whether the word begins with `#`.
+fn is_comment(word: &[u8]) -> bool
+    ensures { result ≡ is_comment_word word.now }
+{
+    match word {
+        [first, ..] => *first == b'#',
+        [] => false,
+    }
 }
 
 /// Whether the words are one.

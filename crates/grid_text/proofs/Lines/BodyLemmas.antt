@@ -23,7 +23,7 @@ use Rattle.grid_text.specs.States.{AreStates, AreAscending}
 use Rattle.grid_text.specs.Commands.{sign_word, signs, side_word, sides, corner_word, corners, axis_word, IsLineOf, IsAllowed, IsStateOf}
 use Rattle.grid_text.specs.Script.{GridScript, IsScript, grid_in_force}
 use Rattle.grid_text.specs.Document.{body}
-use Rattle.grid_text.specs.Faults.{Form, exactly, any_number_of, choice_of, number_between, state_of_size, is_bad, is_bad_by, is_bad_count, has_bad, form_at, has_repeated, fails_to_commute, is_not_commuting, fault_at}
+use Rattle.grid_text.specs.Faults.{Form, exactly, any_number_of, choice_of, number_between, state_of_size, is_bad, is_bad_by, is_bad_count, has_bad, form_at, has_repeated, fails_to_commute, is_not_commuting, table_fault}
 use Rattle.grid_text.specs.Inner.Reading.{example, keyword_word, keyword_form, stands_alone, IsReadLine, IsRead}
 use Rattle.grid_text.specs.declared.commands.Sign.{Sign}
 use Rattle.grid_moves.specs.declared.turns.Side.{Side}
@@ -38,8 +38,8 @@ use Rattle.grid_text.proofs.Lines.WordLemmas.{numeral-found, state_of-found}
 use Rattle.grid_text.proofs.Lines.KindLemmas.{count-other, list_any-never, word-find, bad-find, corner-good}
 use Rattle.grid_text.proofs.Lines.KeywordLemmas.{unknown_word, form_at-keyword, form-stands_alone}
 use Rattle.grid_text.proofs.Lines.SeenLemmas.{seen, seen-parts, seen-more}
-use Rattle.grid_text.proofs.Lines.FaultLemmas.{fault_at-no_word, fault_at-bad_word, fault_at-count, fault_at-choice, fault_at-number, fault_at-state, fault_at-repeated, fault_at-commuting}
-use Rattle.grid_text.proofs.Lines.CommandLemmas.{chain_words, states-good, faultless, fault_at-faultless}
+use Rattle.grid_text.proofs.Lines.FaultLemmas.{table_fault-no_word, table_fault-bad_word, table_fault-count, table_fault-choice, table_fault-number, table_fault-state, table_fault-repeated, table_fault-commuting}
+use Rattle.grid_text.proofs.Lines.CommandLemmas.{chain_words, states-good, faultless, table_fault-faultless}
 use Rattle.grid_text.proofs.Lines.ReadLemmas.{IsStateOf-from_bijection}
 use Rattle.grid_text.proofs.Lines.ScriptLemmas.{IsGridOf-grid_in_force}
 use Rattle.grid_text.proofs.States.ChainLemmas.{apart-states, AreStates-from_sorted}
@@ -47,17 +47,17 @@ use Rattle.grid_text.proofs.States.ChainLemmas.{apart-states, AreStates-from_sor
 -- ---- the first word
 
 -- no word
-pub fault_at-empty : (s : GridScript) (words : List Word) → words ≡ [] → fault_at (body s) words ≡ Some fault.BadWord
-fault_at-empty s words none = ap (fault_at (body s)) none ∙ fault_at-no_word (body s) refl
+pub table_fault-empty : (s : GridScript) (words : List Word) → words ≡ [] → table_fault (body s) words ≡ Some fault.BadWord
+table_fault-empty s words none = ap (table_fault (body s)) none ∙ table_fault-no_word (body s) refl
 
 -- a word that is no keyword
 pub unknown-read : (s : GridScript) (words : List (Bor (List ℕ))) (d : Bor (List ℕ)) (r : Option Keyword)
     → 1 ≤ length words
     → r ≡ find (λ k. is_word (keyword_word k) (get_or words 0 d).now) KEYWORDS → r ≡ None
-    → fault_at (body s) (seen words) ≡ Some fault.BadWord
+    → table_fault (body s) (seen words) ≡ Some fault.BadWord
 unknown-read s words d r some is none =
-    ap (fault_at (body s)) (seen-parts words d some)
-    ∙ fault_at-bad_word (body s) (get_or words 0 d).now (seen (take (length words - 1) (drop 1 words))) refl
+    ap (table_fault (body s)) (seen-parts words d some)
+    ∙ table_fault-bad_word (body s) (get_or words 0 d).now (seen (take (length words - 1) (drop 1 words))) refl
     (unknown_word (size (grid_in_force s)) (get_or words 0 d).now (sym is ∙ none))
 
 -- a keyword
@@ -84,9 +84,9 @@ command-read s words r line c is is_some read = subst (IsReadLine s words) is_so
 
 pub many-read : (s : GridScript) → IsScript s → (words : List Word) (c : Command)
     → IsLineOf words c × IsAllowed (grid_in_force s) c
-    → max_commands ≤ length s.commands → fault_at (body s) words ≡ Some fault.TooMany
+    → max_commands ≤ length s.commands → table_fault (body s) words ≡ Some fault.TooMany
 many-read s h words c read many =
-    fault_at-faultless s h words (faultless s h words c read.0 read.1)
+    table_fault-faultless s h words (faultless s h words c read.0 read.1)
     ∙ ap (λ b. cond b (Some fault.TooMany) None) (le-leb max_commands (length s.commands) many)
 
 -- ---- lines of a number of words
@@ -95,15 +95,15 @@ module _ (s : GridScript) (arguments : List Word) where
   -- too few or too many words after a keyword
   pub key-count : (k : Keyword) (kinds : ℕ)
       → is_bad_count (keyword_form (size (grid_in_force s)) k) arguments ≡ not (kinds == length arguments)
-      → length arguments ≢ kinds → fault_at (body s) (keyword_word k ∷ arguments) ≡ Some fault.BadCount
+      → length arguments ≢ kinds → table_fault (body s) (keyword_word k ∷ arguments) ≡ Some fault.BadCount
   key-count k kinds form other =
-      fault_at-count (body s) (keyword_form (size (grid_in_force s)) k) (keyword_word k) arguments refl
+      table_fault-count (body s) (keyword_form (size (grid_in_force s)) k) (keyword_word k) arguments refl
       (form_at-keyword s k)
       (form ∙ count-other kinds arguments other)
 
   -- a keyword that stands alone
   pub alone-count : (k : Keyword) → stands_alone k ≡ true → 0 < length arguments
-      → fault_at (body s) (keyword_word k ∷ arguments) ≡ Some fault.BadCount
+      → table_fault (body s) (keyword_word k ∷ arguments) ≡ Some fault.BadCount
   alone-count k alone some =
       key-count k 0 (ap (λ f. is_bad_count f arguments) (form-stands_alone (size (grid_in_force s)) k alone))
       (λ e. omega (arith, e, some))
@@ -129,18 +129,18 @@ module _ (s : GridScript) (arguments : List Word) where
 module _ (s : GridScript) (arguments : List Word) (w : Word) (one : arguments ≡ w ∷ []) where
   -- a choice that is none
   pub class-choice : (r : Option Sign) → r ≡ find (λ v. is_word (sign_word v) w) signs → r ≡ None
-      → fault_at (body s) (keyword_word keyword.Class ∷ arguments) ≡ Some fault.BadChoice
+      → table_fault (body s) (keyword_word keyword.Class ∷ arguments) ≡ Some fault.BadChoice
   class-choice r is none =
-      ap (λ a. fault_at (body s) (keyword_word keyword.Class ∷ a)) one
-      ∙ fault_at-choice (body s) (keyword_form (size (grid_in_force s)) keyword.Class) (keyword_word keyword.Class)
+      ap (λ a. table_fault (body s) (keyword_word keyword.Class ∷ a)) one
+      ∙ table_fault-choice (body s) (keyword_form (size (grid_in_force s)) keyword.Class) (keyword_word keyword.Class)
       (w ∷ []) refl refl refl
       (ap (λ b. b || false) (bad-find sign_word signs w (sym is ∙ none)))
 
   pub turn-choice : (r : Option Side) → r ≡ find (λ v. is_word (side_word v) w) sides → r ≡ None
-      → fault_at (body s) (keyword_word keyword.Turn ∷ arguments) ≡ Some fault.BadChoice
+      → table_fault (body s) (keyword_word keyword.Turn ∷ arguments) ≡ Some fault.BadChoice
   turn-choice r is none =
-      ap (λ a. fault_at (body s) (keyword_word keyword.Turn ∷ a)) one
-      ∙ fault_at-choice (body s) (keyword_form (size (grid_in_force s)) keyword.Turn) (keyword_word keyword.Turn)
+      ap (λ a. table_fault (body s) (keyword_word keyword.Turn ∷ a)) one
+      ∙ table_fault-choice (body s) (keyword_form (size (grid_in_force s)) keyword.Turn) (keyword_word keyword.Turn)
       (w ∷ []) refl refl refl
       (ap (λ b. b || false) (bad-find side_word sides w (sym is ∙ none)))
 
@@ -173,10 +173,10 @@ module _ (s : GridScript) (g : Marks) (m : ℕ) (arguments : List Word) (w : Wor
     (one : arguments ≡ w ∷ [])
     (long : m ≡ size g) (is : g ≡ grid_in_force s) (value : r ≡ state_of m w) where
   -- a state that is none
-  pub border-state : r ≡ None → fault_at (body s) (keyword_word keyword.Border ∷ arguments) ≡ Some fault.BadState
+  pub border-state : r ≡ None → table_fault (body s) (keyword_word keyword.Border ∷ arguments) ≡ Some fault.BadState
   border-state none =
-      ap (λ a. fault_at (body s) (keyword_word keyword.Border ∷ a)) one
-      ∙ fault_at-state (body s) (keyword_form (size (grid_in_force s)) keyword.Border) (keyword_word keyword.Border)
+      ap (λ a. table_fault (body s) (keyword_word keyword.Border ∷ a)) one
+      ∙ table_fault-state (body s) (keyword_form (size (grid_in_force s)) keyword.Border) (keyword_word keyword.Border)
       (w ∷ []) refl refl refl refl refl refl refl
       (ap (λ o. is_none o || false) (state_of-at s g m w r None long is value none))
 
@@ -202,17 +202,17 @@ module _ (s : GridScript) (axis : Axis) (arguments : List Word) where
       at Rows = refl
 
   -- too few or too many words
-  pub commute-count : length arguments ≢ 2 → fault_at (body s) (axis_word axis ∷ arguments) ≡ Some fault.BadCount
+  pub commute-count : length arguments ≢ 2 → table_fault (body s) (axis_word axis ∷ arguments) ≡ Some fault.BadCount
   commute-count other =
-      fault_at-count (body s) commute_form (axis_word axis) arguments refl known (count-other 2 arguments other)
+      table_fault-count (body s) commute_form (axis_word axis) arguments refl known (count-other 2 arguments other)
 
   -- a choice that is none
   pub commute-choice : (w u : Word) (r : Option Corner) → arguments ≡ w ∷ u ∷ []
       → r ≡ find (λ v. is_word (corner_word v) u) corners → r ≡ None
-      → fault_at (body s) (axis_word axis ∷ arguments) ≡ Some fault.BadChoice
+      → table_fault (body s) (axis_word axis ∷ arguments) ≡ Some fault.BadChoice
   commute-choice w u r e is none =
-      ap (λ a. fault_at (body s) (axis_word axis ∷ a)) e
-      ∙ fault_at-choice (body s) commute_form (axis_word axis) (w ∷ u ∷ []) refl known refl
+      ap (λ a. table_fault (body s) (axis_word axis ∷ a)) e
+      ∙ table_fault-choice (body s) commute_form (axis_word axis) (w ∷ u ∷ []) refl known refl
       (ap (λ b. b || false) (bad-find corner_word corners u (sym is ∙ none)))
 
   module _ (g : Marks) (m : ℕ) (w u : Word) (v : Corner) (r : Option ℕ) (corner : Option Corner)
@@ -231,18 +231,18 @@ module _ (s : GridScript) (axis : Axis) (arguments : List Word) where
     choice = or-false _ ∙ corner-good v
 
     -- a number that is none
-    pub commute-number : r ≡ None → fault_at (body s) (axis_word axis ∷ arguments) ≡ Some fault.BadNumber
+    pub commute-number : r ≡ None → table_fault (body s) (axis_word axis ∷ arguments) ≡ Some fault.BadNumber
     commute-number none =
-        ap (λ a. fault_at (body s) (axis_word axis ∷ a)) line
-        ∙ fault_at-number (body s) commute_form (axis_word axis) (w ∷ corner_word v ∷ []) refl known refl choice
+        ap (λ a. table_fault (body s) (axis_word axis ∷ a)) line
+        ∙ table_fault-number (body s) commute_form (axis_word axis) (w ∷ corner_word v ∷ []) refl known refl choice
         (ap (λ o. is_none o || false) (numbered None none))
 
     -- columns or rows that do not commute
     pub commute-commuting : (c : ℕ) → r ≡ Some c → are_commuting axis g c ≡ false
-        → fault_at (body s) (axis_word axis ∷ arguments) ≡ Some fault.NotCommuting
+        → table_fault (body s) (axis_word axis ∷ arguments) ≡ Some fault.NotCommuting
     commute-commuting c found fails =
-        ap (λ a. fault_at (body s) (axis_word axis ∷ a)) line
-        ∙ fault_at-commuting (body s) commute_form (axis_word axis) (w ∷ corner_word v ∷ []) refl known refl choice
+        ap (λ a. table_fault (body s) (axis_word axis ∷ a)) line
+        ∙ table_fault-commuting (body s) commute_form (axis_word axis) (w ∷ corner_word v ∷ []) refl known refl choice
         (ap (λ o. is_none o || false) (numbered (Some c) found)) refl refl refl refl
         (at axis (ap (λ k. are_commuting axis k c) (sym is) ∙ fails))
       where
@@ -273,10 +273,10 @@ module _ (s : GridScript) (axis : Axis) (arguments : List Word) where
 -- a word that is no state
 chain-state : (s : GridScript) (arguments : List Word)
     → list_any (is_bad (state_of_size (size (grid_in_force s)))) arguments ≡ true
-    → fault_at (body s) (keyword_word keyword.Chain ∷ arguments) ≡ Some fault.BadState
+    → table_fault (body s) (keyword_word keyword.Chain ∷ arguments) ≡ Some fault.BadState
 chain-state s arguments bad =
     let kind = state_of_size (size (grid_in_force s)) in
-    fault_at-state (body s) (any_number_of kind) (keyword_word keyword.Chain) arguments refl refl refl
+    table_fault-state (body s) (any_number_of kind) (keyword_word keyword.Chain) arguments refl refl refl
     (list_any-never (is_bad_by fault.BadChoice kind) arguments (λ w. refl))
     (list_any-never (is_bad_by fault.BadNumber kind) arguments (λ w. refl)) refl refl bad
 
@@ -284,10 +284,10 @@ chain-state s arguments bad =
 chain-repeated : (s : GridScript) (arguments : List Word)
     → list_any (is_bad (state_of_size (size (grid_in_force s)))) arguments ≡ false
     → has_repeated arguments ≡ true
-    → fault_at (body s) (keyword_word keyword.Chain ∷ arguments) ≡ Some fault.RepeatedState
+    → table_fault (body s) (keyword_word keyword.Chain ∷ arguments) ≡ Some fault.RepeatedState
 chain-repeated s arguments good twice =
     let kind = state_of_size (size (grid_in_force s)) in
-    fault_at-repeated (body s) (any_number_of kind) (keyword_word keyword.Chain) arguments refl refl refl
+    table_fault-repeated (body s) (any_number_of kind) (keyword_word keyword.Chain) arguments refl refl refl
     (list_any-never (is_bad_by fault.BadChoice kind) arguments (λ w. refl))
     (list_any-never (is_bad_by fault.BadNumber kind) arguments (λ w. refl)) refl refl good twice
 
@@ -310,7 +310,7 @@ module _ (s : GridScript) (g : Marks) (m : ℕ) (words : List Word) (long : m �
 
   -- a word that is no state
   pub chain-none : list_any (is_bad (state_of_size m)) words ≡ true
-      → fault_at (body s) (keyword_word keyword.Chain ∷ words) ≡ Some fault.BadState
+      → table_fault (body s) (keyword_word keyword.Chain ∷ words) ≡ Some fault.BadState
   chain-none bad = chain-state s words (subst (λ k. list_any (is_bad (state_of_size k)) words ≡ true) same bad)
 
   module _ (h : IsScript s) (xs ys : List (List ℕ)) (read : All (IsBijection m) xs × (words ≡ map state_word xs))
@@ -335,7 +335,7 @@ module _ (s : GridScript) (g : Marks) (m : ℕ) (words : List Word) (long : m �
 
     -- states that do not ascend when sorted: two are the same
     pub chain-twice : IsNonDecreasingBy rank ys → (AreStates ys → ⊥)
-        → fault_at (body s) (keyword_word keyword.Chain ∷ words) ≡ Some fault.RepeatedState
+        → table_fault (body s) (keyword_word keyword.Chain ∷ words) ≡ Some fault.RepeatedState
     chain-twice sorted none =
         let all : (x : List ℕ) → Contains xs x → IsBijection m x = λ x k. All-contains (IsBijection m) xs x read.0 k in
         chain-repeated s words

@@ -22,11 +22,11 @@ use Rattle.grid_moves.specs.declared.commutations.Axis.TheVariants.{Cols, Rows}
 use Rattle.pentagon_map.specs.declared.Corner.{Corner}
 use Rattle.pentagon_map.specs.declared.Corner.TheVariants.{Over, Under}
 use Rattle.grid_text.specs.Limits.{max_commands}
-use Rattle.grid_text.specs.Words.{Word, is_word}
+use Rattle.grid_text.specs.Words.{Word, is_comment, is_blank, is_word}
 use Rattle.grid_text.specs.Commands.{sign_word, side_word, corner_word, axis_word, state, argument_word, command_row, command_words, IsLineOf, IsAllowed, IsStateOf}
 use Rattle.grid_text.specs.Script.{GridScript, IsScript, grid_in_force}
 use Rattle.grid_text.specs.Document.{body, end_word}
-use Rattle.grid_text.specs.Faults.{Form, exactly, any_number_of, state_of_size, kind_of, is_bad, is_bad_by, form_at, has_repeated, fails_to_commute, is_not_commuting, fault_at}
+use Rattle.grid_text.specs.Faults.{Form, exactly, any_number_of, state_of_size, kind_of, is_bad, is_bad_by, form_at, has_repeated, fails_to_commute, is_not_commuting, table_fault}
 use Rattle.grid_text.specs.declared.commands.Sign.{Sign}
 use Rattle.grid_text.specs.declared.commands.Sign.TheVariants.{Plus, Minus}
 use Rattle.grid_text.specs.declared.commands.Command.{Command}
@@ -35,7 +35,7 @@ use Rattle.grid_text.specs.declared.faults.TextFault.TheVariants as fault
 use Rattle.grid_text.proofs.Lines.WordLemmas.{is_word-same, numeral-decimal, state_word_injective}
 use Rattle.grid_text.proofs.Lines.KindLemmas.{state-good, list_any-never, AreGood, arguments-good, arguments-count}
 use Rattle.grid_text.proofs.Lines.KeywordLemmas.{not_end}
-use Rattle.grid_text.proofs.Lines.FaultLemmas.{NoRowHolds, fault_at-last}
+use Rattle.grid_text.proofs.Lines.FaultLemmas.{NoRowHolds, table_fault-last}
 use Rattle.grid_text.proofs.Lines.ScriptLemmas.{IsGridOf-grid_in_force}
 use Rattle.grid_text.proofs.States.ChainLemmas.{repeated-none, same_chain}
 
@@ -185,18 +185,18 @@ module _ (s : GridScript) (h : IsScript s) where
   faultless words c e allowed = exact-faultless c words e refl (arguments-allowed (grid_in_force s) c allowed) refl
 
 -- then the last row decides
-pub fault_at-faultless : (s : GridScript) (h : IsScript s) (words : List Word) → IsFaultless s h words
-    → fault_at (body s) words ≡ cond (nat_le max_commands (length s.commands)) (Some fault.TooMany) None
-fault_at-faultless s h words f =
-    ap (fault_at (body s)) f.is
-    ∙ fault_at-last (body s) f.form f.first f.arguments refl f.known f.rows
+pub table_fault-faultless : (s : GridScript) (h : IsScript s) (words : List Word) → IsFaultless s h words
+    → table_fault (body s) words ≡ cond (nat_le max_commands (length s.commands)) (Some fault.TooMany) None
+table_fault-faultless s h words f =
+    ap (table_fault (body s)) f.is
+    ∙ table_fault-last (body s) f.form f.first f.arguments refl f.known f.rows
     ∙ ap (λ b. cond (not b && nat_le max_commands (length s.commands)) (Some fault.TooMany) None) f.no_end
 
 -- the line `end`
-pub fault_at-end : (s : GridScript) (words : List Word) → words ≡ end_word ∷ [] → fault_at (body s) words ≡ None
-fault_at-end s words e =
-    ap (fault_at (body s)) e
-    ∙ fault_at-last (body s) (exactly []) end_word [] refl refl
+pub table_fault-end : (s : GridScript) (words : List Word) → words ≡ end_word ∷ [] → table_fault (body s) words ≡ None
+table_fault-end s words e =
+    ap (table_fault (body s)) e
+    ∙ table_fault-last (body s) (exactly []) end_word [] refl refl
     (record {
       count = refl;
       choice = refl;
@@ -291,6 +291,15 @@ first_of_line : (words : List Word) (c : Command) → IsLineOf words c
     → (rest : List Word) × (words ≡ (command_row c).0 ∷ rest)
 first_of_line words (command.Chain z) l = (map argument_word (map state l.0), l.2)
 first_of_line words c l = (map argument_word (command_row c).1, l)
+
+-- the line of a command is not blank
+pub command-filled : (words : List Word) (c : Command) → IsLineOf words c → is_blank words ≡ false
+command-filled words c l = ap is_blank (first_of_line words c l).1 ∙ first_filled c
+  where
+    first_filled : (c : Command) → is_comment (command_row c).0 ≡ false
+    first_filled (command.Commute Cols c v) = refl
+    first_filled (command.Commute Rows c v) = refl
+    first_filled c = refl
 
 -- commands of one line have one first word
 alike_of_line : (words : List Word) (c d : Command) → IsLineOf words c → IsLineOf words d → AreAlike c d

@@ -4,7 +4,7 @@
 use Rattle.std.proofs.Common.{◌≡◌, Bool, true, false, cond, List, [], ◌∷◌, Option, None, Some, refl, ap, ◌∙◌, sym}
 use Rattle.grid_text.specs.Words.{Word}
 use Rattle.grid_text.specs.Document.{Place}
-use Rattle.grid_text.specs.Faults.{Form, form_at, is_after_end, is_bad_count, has_bad, is_not_permutation, has_same_square, has_repeated_state, is_not_commuting, is_one_too_many, rows_of_form, form_table, first_passed, fault_at}
+use Rattle.grid_text.specs.Faults.{Form, form_at, is_after_end, is_bad_count, has_bad, is_not_permutation, has_same_square, has_repeated_state, is_not_commuting, is_one_too_many, rows_of_form, form_table, first_passed, table_fault}
 use Rattle.grid_text.specs.declared.faults.TextFault.{TextFault}
 use Rattle.grid_text.specs.declared.faults.TextFault.TheVariants as fault
 
@@ -32,43 +32,43 @@ pub record NoRowHolds (p : Place) (form : Form) (word : Word) (arguments : List 
   pub commuting : is_not_commuting p (word ∷ arguments) ≡ false
 
 -- after the end each line has a fault
-pub fault_at-ended : (p : Place) (words : List Word) → is_after_end p ≡ true → fault_at p words ≡ Some fault.AfterEnd
-unfolding fault_at
-fault_at-ended p words e = hit _ _ _ e
+pub table_fault-ended : (p : Place) (words : List Word) → is_after_end p ≡ true → table_fault p words ≡ Some fault.AfterEnd
+unfolding table_fault
+table_fault-ended p words e = hit _ _ _ e
 
 -- a line without words
-pub fault_at-no_word : (p : Place) → is_after_end p ≡ false → fault_at p [] ≡ Some fault.BadWord
-unfolding fault_at
-fault_at-no_word p here = pass _ _ _ _ here refl
+pub table_fault-no_word : (p : Place) → is_after_end p ≡ false → table_fault p [] ≡ Some fault.BadWord
+unfolding table_fault
+table_fault-no_word p here = pass _ _ _ _ here refl
 
 -- a first word that is none of those that may stand there
-pub fault_at-bad_word : (p : Place) (word : Word) (arguments : List Word) → is_after_end p ≡ false
-    → form_at p word ≡ None → fault_at p (word ∷ arguments) ≡ Some fault.BadWord
-unfolding fault_at
-fault_at-bad_word p word arguments here unknown =
+pub table_fault-bad_word : (p : Place) (word : Word) (arguments : List Word) → is_after_end p ≡ false
+    → form_at p word ≡ None → table_fault p (word ∷ arguments) ≡ Some fault.BadWord
+unfolding table_fault
+table_fault-bad_word p word arguments here unknown =
     pass _ _ _ _ here (ap (λ form. first_passed (rows_of_form p form (word ∷ arguments))) unknown)
 
 module _ (p : Place) (form : Form) (word : Word) (arguments : List Word) (here : is_after_end p ≡ false)
     (known : form_at p word ≡ Some form) where
   -- the rows of the form
-  fault_at-rows : fault_at p (word ∷ arguments) ≡ first_passed (form_table p form (word ∷ arguments))
-  unfolding fault_at
-  fault_at-rows = pass _ _ _ _ here (ap (λ f. first_passed (rows_of_form p f (word ∷ arguments))) known)
+  table_fault-rows : table_fault p (word ∷ arguments) ≡ first_passed (form_table p form (word ∷ arguments))
+  unfolding table_fault
+  table_fault-rows = pass _ _ _ _ here (ap (λ f. first_passed (rows_of_form p f (word ∷ arguments))) known)
 
   -- the last row decides where no other holds
-  pub fault_at-last : NoRowHolds p form word arguments
-      → fault_at p (word ∷ arguments) ≡ cond (is_one_too_many p (word ∷ arguments)) (Some fault.TooMany) None
-  fault_at-last r =
-      fault_at-rows
+  pub table_fault-last : NoRowHolds p form word arguments
+      → table_fault p (word ∷ arguments) ≡ cond (is_one_too_many p (word ∷ arguments)) (Some fault.TooMany) None
+  table_fault-last r =
+      table_fault-rows
       ∙ pass _ _ _ _ r.count (pass _ _ _ _ r.choice (pass _ _ _ _ r.number
       (pass _ _ _ _ r.permutation (pass _ _ _ _ r.square (pass _ _ _ _ r.state
       (pass _ _ _ _ r.repeated (pass _ _ _ _ r.commuting refl)))))))
 
   -- and the other way round
-  pub NoRowHolds-from_none : fault_at p (word ∷ arguments) ≡ None
+  pub NoRowHolds-from_none : table_fault p (word ∷ arguments) ≡ None
       → NoRowHolds p form word arguments × (is_one_too_many p (word ∷ arguments) ≡ false)
   NoRowHolds-from_none e =
-      let count = no_hit _ _ _ (sym fault_at-rows ∙ e) in
+      let count = no_hit _ _ _ (sym table_fault-rows ∙ e) in
       let choice = no_hit _ _ _ count.1 in
       let number = no_hit _ _ _ choice.1 in
       let permutation = no_hit _ _ _ number.1 in
@@ -91,59 +91,59 @@ module _ (p : Place) (form : Form) (word : Word) (arguments : List Word) (here :
       )
 
   -- the number of words is not that of the form
-  pub fault_at-count : is_bad_count form arguments ≡ true → fault_at p (word ∷ arguments) ≡ Some fault.BadCount
-  fault_at-count holds = fault_at-rows ∙ hit _ _ _ holds
+  pub table_fault-count : is_bad_count form arguments ≡ true → table_fault p (word ∷ arguments) ≡ Some fault.BadCount
+  table_fault-count holds = table_fault-rows ∙ hit _ _ _ holds
 
   module _ (count : is_bad_count form arguments ≡ false) where
     -- a choice is none
-    pub fault_at-choice : has_bad fault.BadChoice form arguments ≡ true
-        → fault_at p (word ∷ arguments) ≡ Some fault.BadChoice
-    fault_at-choice holds = fault_at-rows ∙ pass _ _ _ _ count (hit _ _ _ holds)
+    pub table_fault-choice : has_bad fault.BadChoice form arguments ≡ true
+        → table_fault p (word ∷ arguments) ≡ Some fault.BadChoice
+    table_fault-choice holds = table_fault-rows ∙ pass _ _ _ _ count (hit _ _ _ holds)
 
     module _ (choice : has_bad fault.BadChoice form arguments ≡ false) where
       -- a number is none
-      pub fault_at-number : has_bad fault.BadNumber form arguments ≡ true
-          → fault_at p (word ∷ arguments) ≡ Some fault.BadNumber
-      fault_at-number holds = fault_at-rows ∙ pass _ _ _ _ count (pass _ _ _ _ choice (hit _ _ _ holds))
+      pub table_fault-number : has_bad fault.BadNumber form arguments ≡ true
+          → table_fault p (word ∷ arguments) ≡ Some fault.BadNumber
+      table_fault-number holds = table_fault-rows ∙ pass _ _ _ _ count (pass _ _ _ _ choice (hit _ _ _ holds))
 
       module _ (number : has_bad fault.BadNumber form arguments ≡ false) where
         -- two numbers are the same
-        pub fault_at-permutation : is_not_permutation p arguments ≡ true
-            → fault_at p (word ∷ arguments) ≡ Some fault.NotPermutation
-        fault_at-permutation holds =
-            fault_at-rows ∙ pass _ _ _ _ count (pass _ _ _ _ choice (pass _ _ _ _ number (hit _ _ _ holds)))
+        pub table_fault-permutation : is_not_permutation p arguments ≡ true
+            → table_fault p (word ∷ arguments) ≡ Some fault.NotPermutation
+        table_fault-permutation holds =
+            table_fault-rows ∙ pass _ _ _ _ count (pass _ _ _ _ choice (pass _ _ _ _ number (hit _ _ _ holds)))
 
         module _ (permutation : is_not_permutation p arguments ≡ false) where
           -- an O and an X are in one square
-          pub fault_at-square : has_same_square p arguments ≡ true
-              → fault_at p (word ∷ arguments) ≡ Some fault.SameSquare
-          fault_at-square holds =
-              fault_at-rows ∙ pass _ _ _ _ count (pass _ _ _ _ choice
+          pub table_fault-square : has_same_square p arguments ≡ true
+              → table_fault p (word ∷ arguments) ≡ Some fault.SameSquare
+          table_fault-square holds =
+              table_fault-rows ∙ pass _ _ _ _ count (pass _ _ _ _ choice
               (pass _ _ _ _ number (pass _ _ _ _ permutation (hit _ _ _ holds))))
 
           module _ (square : has_same_square p arguments ≡ false) where
             -- a state is none
-            pub fault_at-state : has_bad fault.BadState form arguments ≡ true
-                → fault_at p (word ∷ arguments) ≡ Some fault.BadState
-            fault_at-state holds =
-                fault_at-rows ∙ pass _ _ _ _ count (pass _ _ _ _ choice
+            pub table_fault-state : has_bad fault.BadState form arguments ≡ true
+                → table_fault p (word ∷ arguments) ≡ Some fault.BadState
+            table_fault-state holds =
+                table_fault-rows ∙ pass _ _ _ _ count (pass _ _ _ _ choice
                 (pass _ _ _ _ number (pass _ _ _ _ permutation (pass _ _ _ _ square (hit _ _ _ holds)))))
 
             module _ (state : has_bad fault.BadState form arguments ≡ false) where
               -- two states are the same
-              pub fault_at-repeated : has_repeated_state form arguments ≡ true
-                  → fault_at p (word ∷ arguments) ≡ Some fault.RepeatedState
-              fault_at-repeated holds =
-                  fault_at-rows
+              pub table_fault-repeated : has_repeated_state form arguments ≡ true
+                  → table_fault p (word ∷ arguments) ≡ Some fault.RepeatedState
+              table_fault-repeated holds =
+                  table_fault-rows
                   ∙ pass _ _ _ _ count (pass _ _ _ _ choice (pass _ _ _ _ number
                   (pass _ _ _ _ permutation (pass _ _ _ _ square (pass _ _ _ _ state (hit _ _ _ holds))))))
 
               module _ (repeated : has_repeated_state form arguments ≡ false) where
                 -- the two columns or rows do not commute
-                pub fault_at-commuting : is_not_commuting p (word ∷ arguments) ≡ true
-                    → fault_at p (word ∷ arguments) ≡ Some fault.NotCommuting
-                fault_at-commuting holds =
-                    fault_at-rows
+                pub table_fault-commuting : is_not_commuting p (word ∷ arguments) ≡ true
+                    → table_fault p (word ∷ arguments) ≡ Some fault.NotCommuting
+                table_fault-commuting holds =
+                    table_fault-rows
                     ∙ pass _ _ _ _ count (pass _ _ _ _ choice (pass _ _ _ _ number
                     (pass _ _ _ _ permutation (pass _ _ _ _ square (pass _ _ _ _ state
                     (pass _ _ _ _ repeated (hit _ _ _ holds)))))))

@@ -1,28 +1,85 @@
 -- The lines that were judged so far, and the laws of the judgement. The same lines lead from the head to one place,
 -- so they are those of one script; and a line with a fault leads nowhere, so they have no first fault then.
-use Rattle.std.proofs.Common.{◌≡◌, ◌↔◌, ℕ, ◌+◌, ◌<◌, ◌≤◌, false, List, [], ◌∷◌, ◌++◌, length, map, None, Some, refl, ap, subst, ◌∙◌, sym, arith, inl, inr, true≢false, length-append}
+use Rattle.std.proofs.Common.{◌≡◌, ◌↔◌, ℕ, ◌+◌, ◌<◌, ◌≤◌, Bool, false, cond, List, [], ◌∷◌, ◌++◌, length, map, None, Some, Result, Ok, Err, IfOk, refl, ap, subst, ◌∙◌, sym, arith, inl, inr, true≢false, length-append}
 use Rattle.std.proofs.lemmas.List.{append-nil, append_assoc}
-use Rattle.grid_text.specs.Words.{Word, lines_of, words_of, words_of_lines}
+use Rattle.grid_text.specs.Words.{Word, is_blank, lines_of, words_of, words_of_lines}
 use Rattle.grid_text.specs.Script.{GridScript}
-use Rattle.grid_text.specs.Document.{Place, head, o_line, x_line, body, ended, Leads, Path, AreLinesOf, IsDocument}
+use Rattle.grid_text.specs.Document.{Place, head, o_line, x_line, body, ended, Leads, Path, AreLinesOf, IsDocument, IsHeadLine}
 use Rattle.grid_text.specs.Faults.{fault_at, is_after_end, HaveFirstFault, IsFirstFault}
 use Rattle.grid_text.specs.Inner.Reading.{IsPlace}
+use Rattle.grid_text.specs.Inner.Next.{place_of, is_head, IsNextOn, IsNext}
+use Rattle.grid_text.specs.declared.places.Place.{Place as StoredPlace}
+use Rattle.grid_text.specs.declared.places.Place.TheVariants as stored
 use Rattle.grid_text.specs.declared.faults.TextFault.{TextFault}
 use Rattle.grid_text.specs.declared.faults.TextFault.TheVariants as fault
-use Rattle.grid_text.proofs.Paths.PlaceLemmas.{IsPlace-next, IsPlace-path, fault_at-leads, leads-no_fault, one_place}
+use Rattle.grid_text.proofs.Paths.PlaceLemmas.{IsPlace-next, IsPlace-path, fault_at-leads, fault_at-filled, leads-no_fault, one_place}
+
+-- past the head, the line where it begins
+abbrev HasHead : List (List Word) → ℕ → Place → Type 0
+HasHead lines grid_line head = Unit {0}
+HasHead lines grid_line p = IsHeadLine lines grid_line
 
 -- the lines before the number lead to the place, and the rest is to be judged
-pub record HasRead (text : List ℕ) (line : ℕ) (rest : List ℕ) (p : Place) : Type 0 where
+pub record HasRead (text : List ℕ) (line grid_line : ℕ) (rest : List ℕ) (p : Place) : Type 0 where
   pub before : List (List Word)
   pub lines : words_of_lines text ≡ before ++ words_of_lines rest
   pub path : Path head before p
   pub number : line ≡ length before + 1
   pub room : length before + length rest ≤ length text
   pub place : IsPlace p
+  pub begun : HasHead before grid_line p
 
 -- at first
-pub HasRead-none : (text : List ℕ) → HasRead text 1 text head
-HasRead-none text = record { before = []; lines = refl; path = refl; number = refl; room = omega arith; place = tt }
+pub HasRead-none : (text : List ℕ) → HasRead text 1 1 text head
+HasRead-none text = record {
+  before = [];
+  lines = refl;
+  path = refl;
+  number = refl;
+  room = omega arith;
+  place = tt;
+  begun = tt;
+}
+
+-- the line where the head begins is known at each place
+HasHead-known : (lines : List (List Word)) (grid_line : ℕ) (q : Place) → IsHeadLine lines grid_line
+    → HasHead lines grid_line q
+HasHead-known lines grid_line head h = tt
+HasHead-known lines grid_line q h = h
+
+-- one more line after it
+IsHeadLine-more : (lines : List (List Word)) (words : List Word) (grid_line : ℕ) → IsHeadLine lines grid_line
+    → IsHeadLine (lines ++ words ∷ []) grid_line
+IsHeadLine-more lines words grid_line h = record {
+  before = h.before;
+  words = h.words;
+  after = h.after ++ words ∷ [];
+  next = h.next;
+  split = ap (λ ls. ls ++ words ∷ []) h.split ∙ append_assoc h.before (h.words ∷ h.after) (words ∷ []);
+  blank = h.blank;
+  leads = h.leads;
+  number = h.number;
+}
+
+-- one more line
+HasHead-more : (lines : List (List Word)) (words : List Word) (line grid_line : ℕ) (p q : Place) → Path head lines p
+    → line ≡ length lines + 1 → Leads p words q → HasHead lines grid_line p
+    → HasHead (lines ++ words ∷ []) (cond (is_head p) line grid_line) q
+HasHead-more lines words line grid_line head q path number (inl stays) h =
+    subst (HasHead (lines ++ words ∷ []) line) stays.1 tt
+HasHead-more lines words line grid_line head q path number (inr l) h =
+    HasHead-known (lines ++ words ∷ []) line q (record {
+      before = lines;
+      words = words;
+      after = [];
+      next = q;
+      split = refl;
+      blank = path;
+      leads = l;
+      number = number;
+    })
+HasHead-more lines words line grid_line p q path number l h =
+    HasHead-known (lines ++ words ∷ []) grid_line q (IsHeadLine-more lines words grid_line h)
 
 -- one more line at the end of a path
 pub Path-more : (p q r : Place) (lines : List (List Word)) (words : List Word) → Path p lines q → Leads q words r
@@ -31,10 +88,10 @@ Path-more p q r [] words e l = (r, subst (λ x. Leads x words r) (sym e) l, refl
 Path-more p q r (first ∷ lines) words path l = (path.0, path.1, Path-more path.0 q r lines words path.2 l)
 
 -- one more line
-pub HasRead-more : (text : List ℕ) (line : ℕ) (rest bytes after : List ℕ) (p q : Place) → HasRead text line rest p
-    → lines_of rest ≡ bytes ∷ lines_of after → length after < length rest
-    → Leads p (words_of bytes) q × IsPlace q → HasRead text (line + 1) after q
-HasRead-more text line rest bytes after p q h e shorter next =
+pub HasRead-more : (text : List ℕ) (line grid_line begins : ℕ) (rest bytes after : List ℕ) (p q : Place)
+    → HasRead text line grid_line rest p → begins ≡ cond (is_head p) line grid_line → lines_of rest ≡ bytes ∷ lines_of after → length after < length rest
+    → Leads p (words_of bytes) q × IsPlace q → HasRead text (line + 1) begins after q
+HasRead-more text line grid_line begins rest bytes after p q h from e shorter next =
     let room = h.room in
     let number = h.number in
     let more = length-append h.before (words_of bytes ∷ []) in
@@ -47,13 +104,15 @@ HasRead-more text line rest bytes after p q h e shorter next =
       number = omega arith;
       room = omega arith;
       place = next.1;
+      begun = subst (λ k. HasHead (h.before ++ words_of bytes ∷ []) k q) (sym from)
+          (HasHead-more h.before (words_of bytes) line grid_line p q h.path h.number next.0 h.begun);
     }
 
 -- a line with a fault is the first
-pub HasRead-fault : (text : List ℕ) (line : ℕ) (rest bytes after : List ℕ) (p : Place) (f : TextFault)
-    → HasRead text line rest p → lines_of rest ≡ bytes ∷ lines_of after
+pub HasRead-fault : (text : List ℕ) (line grid_line : ℕ) (rest bytes after : List ℕ) (p : Place) (f : TextFault)
+    → HasRead text line grid_line rest p → lines_of rest ≡ bytes ∷ lines_of after
     → fault_at p (words_of bytes) ≡ Some f → IsFirstFault text f line
-HasRead-fault text line rest bytes after p f h e faulty = inl (record {
+HasRead-fault text line grid_line rest bytes after p f h e faulty = inl (record {
   before = h.before;
   words = words_of bytes;
   after = words_of_lines after;
@@ -65,19 +124,46 @@ HasRead-fault text line rest bytes after p f h e faulty = inl (record {
 })
 
 -- all lines were read
-pub HasRead-all : (text : List ℕ) (line : ℕ) (rest : List ℕ) (p : Place) → HasRead text line rest p → rest ≡ []
+pub HasRead-all : (text : List ℕ) (line grid_line : ℕ) (rest : List ℕ) (p : Place) → HasRead text line grid_line rest p → rest ≡ []
     → Path head (words_of_lines text) p × (line ≡ length (words_of_lines text) + 1)
-HasRead-all text line rest p h none =
+HasRead-all text line grid_line rest p h none =
     let whole : words_of_lines text ≡ h.before =
     h.lines ∙ ap (λ r. h.before ++ words_of_lines r) none ∙ append-nil h.before in
     (subst (λ ls. Path head ls p) (sym whole) h.path, h.number ∙ ap (λ n. n + 1) (ap length (sym whole)))
 
+-- after the end the line where the head begins is known
+pub HasRead-head : (text : List ℕ) (line grid_line : ℕ) (rest : List ℕ) (s : GridScript)
+    → HasRead text line grid_line rest (ended s) → rest ≡ [] → IsHeadLine (words_of_lines text) grid_line
+HasRead-head text line grid_line rest s h none =
+    let whole : words_of_lines text ≡ h.before =
+    h.lines ∙ ap (λ r. h.before ++ words_of_lines r) none ∙ append-nil h.before in
+    subst (λ ls. IsHeadLine ls grid_line) (sym whole) h.begun
+
 -- `end` was not met
-pub HasNoEnd-from_place : (text : List ℕ) (line : ℕ) (rest : List ℕ) (p : Place) → HasRead text line rest p
+pub HasNoEnd-from_place : (text : List ℕ) (line grid_line : ℕ) (rest : List ℕ) (p : Place) → HasRead text line grid_line rest p
     → rest ≡ [] → is_after_end p ≡ false → IsFirstFault text fault.NoEnd line
-HasNoEnd-from_place text line rest p h none not_ended =
-    let all = HasRead-all text line rest p h none in
+HasNoEnd-from_place text line grid_line rest p h none not_ended =
+    let all = HasRead-all text line grid_line rest p h none in
     inr (record { place = p; path = all.0; not_ended = not_ended; number = all.1 }, refl)
+
+-- a place that is not stored as the head is not at the head
+pub is_head-other : (p : StoredPlace) → (p ≡ stored.Head → ⊥) → is_head (place_of p) ≡ false
+is_head-other stored.Head other = absurd (other refl)
+is_head-other p other = refl
+
+-- where the form of a line that is not blank leads, the line does
+IsNext-on : (p : Place) (words : List Word) (r : Result StoredPlace TextFault) → is_blank words ≡ false
+    → IsNextOn p words r → IsNext p words r
+IsNext-on p words (Ok q) filled next = (inr next.0, next.1)
+IsNext-on p words (Err f) filled faulty = fault_at-filled p words filled ∙ faulty
+
+-- as the reader has it
+pub next-read : {E : Type 0} (p : Place) (words line : List Word) (blank : Bool)
+    (r : Result (Result StoredPlace TextFault) E) → words ≡ line → blank ≡ is_blank words → blank ≡ false
+    → IfOk r (IsNextOn p words) → IfOk r (IsNext p line)
+next-read p words line blank (Ok r) same tells filled next =
+    subst (λ w. IsNext p w r) same (IsNext-on p words r (sym tells ∙ filled) next)
+next-read p words line blank (Err e) same tells filled next = tt
 
 -- ---- laws
 

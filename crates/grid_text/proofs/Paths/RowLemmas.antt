@@ -18,23 +18,23 @@ use Rattle.torus_geom.specs.declared.grids.GridFault.{GridFault}
 use Rattle.torus_geom.specs.declared.grids.GridFault.TheVariants.{NotPermutation, SameSquare}
 use Rattle.std.proofs.lemmas.Fmt.{decimal_injective}
 use Rattle.grid_text.specs.Document.{Place, head, o_line, x_line, grid_word, o_word, x_word}
-use Rattle.grid_text.specs.Faults.{Kind, Form, exactly, number_between, is_bad, is_bad_by, form_at, form_among, row_form, is_after_end, is_not_commuting, has_same_square, has_repeated, is_bad_count, has_bad, fault_at}
+use Rattle.grid_text.specs.Faults.{Kind, Form, exactly, number_between, is_bad, is_bad_by, form_at, form_among, row_form, is_after_end, is_not_commuting, has_same_square, has_repeated, is_bad_count, has_bad, table_fault}
 use Rattle.grid_text.specs.Inner.Reading.{IsRowPlace, AreNumerals}
 use Rattle.grid_text.specs.declared.faults.TextFault.TheVariants as fault
 use Rattle.grid_text.proofs.Lines.WordLemmas.{is_word-same, same_word, is_word-other}
 use Rattle.grid_text.proofs.Lines.KindLemmas.{list_any-never, count-other, count-same, count-right, one_word, number_of_word, number-good}
 use Rattle.grid_text.proofs.Lines.SeenLemmas.{seen, seen-more, seen-all}
 use Rattle.grid_text.proofs.States.RepeatedLemmas.{has_repeated-bijection, bijection-has_repeated, below-IsBijection}
-use Rattle.grid_text.proofs.Lines.FaultLemmas.{NoRowHolds, NoRowHolds-from_none, fault_at-no_word, fault_at-bad_word, fault_at-last, fault_at-count, fault_at-number, fault_at-permutation, fault_at-square}
+use Rattle.grid_text.proofs.Lines.FaultLemmas.{NoRowHolds, NoRowHolds-from_none, table_fault-no_word, table_fault-bad_word, table_fault-last, table_fault-count, table_fault-number, table_fault-permutation, table_fault-square}
 
 -- ---- a first word that is not the one expected
 
-pub fault_at-other_word : (p : Place) (expected : Word) (form : Form) → is_after_end p ≡ false
+pub table_fault-other_word : (p : Place) (expected : Word) (form : Form) → is_after_end p ≡ false
     → ((w : Word) → form_at p w ≡ form_among ((expected, form) ∷ []) w)
-    → (words : List Word) → ((rest : List Word) → words ≢ expected ∷ rest) → fault_at p words ≡ Some fault.BadWord
-fault_at-other_word p expected form here forms [] other = fault_at-no_word p here
-fault_at-other_word p expected form here forms (w ∷ words) other =
-    fault_at-bad_word p w words here
+    → (words : List Word) → ((rest : List Word) → words ≢ expected ∷ rest) → table_fault p words ≡ Some fault.BadWord
+table_fault-other_word p expected form here forms [] other = table_fault-no_word p here
+table_fault-other_word p expected form here forms (w ∷ words) other =
+    table_fault-bad_word p w words here
     (forms w ∙ ap (λ b. cond b (Some form) None)
     (is_word-other expected w (λ e. other words (ap (λ v. v ∷ words) (sym e)))))
 
@@ -46,21 +46,21 @@ form_at-expected p expected form forms = forms expected ∙ ap (λ b. cond b (So
 -- ---- the line `grid`
 
 pub grid-word : (words : List Word) → ((rest : List Word) → words ≢ grid_word ∷ rest)
-    → fault_at head words ≡ Some fault.BadWord
+    → table_fault head words ≡ Some fault.BadWord
 grid-word words other =
-    fault_at-other_word head grid_word (exactly (number_between 2 9 ∷ [])) refl (λ w. refl) words other
+    table_fault-other_word head grid_word (exactly (number_between 2 9 ∷ [])) refl (λ w. refl) words other
 
 pub grid-count : (words arguments : List Word) → words ≡ grid_word ∷ arguments → length arguments ≢ 1
-    → fault_at head words ≡ Some fault.BadCount
+    → table_fault head words ≡ Some fault.BadCount
 grid-count words arguments e other =
-    ap (fault_at head) e ∙ fault_at-count head (exactly (number_between 2 9 ∷ [])) grid_word arguments refl refl
+    ap (table_fault head) e ∙ table_fault-count head (exactly (number_between 2 9 ∷ [])) grid_word arguments refl refl
     (count-other 1 arguments other)
 
 pub grid-number : (words arguments : List Word) (w : Word) → words ≡ grid_word ∷ arguments → arguments ≡ w ∷ []
-    → numeral 2 9 w ≡ None → fault_at head words ≡ Some fault.BadNumber
+    → numeral 2 9 w ≡ None → table_fault head words ≡ Some fault.BadNumber
 grid-number words arguments w e one bad =
-    ap (fault_at head) (e ∙ ap (λ a. grid_word ∷ a) one)
-    ∙ fault_at-number head (exactly (number_between 2 9 ∷ [])) grid_word (w ∷ []) refl refl refl refl
+    ap (table_fault head) (e ∙ ap (λ a. grid_word ∷ a) one)
+    ∙ table_fault-number head (exactly (number_between 2 9 ∷ [])) grid_word (w ∷ []) refl refl refl refl
     (ap (λ o. is_none o || false) bad)
 
 -- what the reader has read of it
@@ -69,10 +69,10 @@ grid-numeral m w r o same value is = ap (λ k. numeral 2 k w) (sym same) ∙ sym
 
 -- a right one has no fault
 pub grid-right : (words : List Word) (n : ℕ) → words ≡ grid_word ∷ decimal n ∷ [] → IsSize n
-    → fault_at head words ≡ None
+    → table_fault head words ≡ None
 grid-right words n e small =
-    ap (fault_at head) e
-    ∙ fault_at-last head (exactly (number_between 2 9 ∷ [])) grid_word (decimal n ∷ []) refl refl (record {
+    ap (table_fault head) e
+    ∙ table_fault-last head (exactly (number_between 2 9 ∷ [])) grid_word (decimal n ∷ []) refl refl (record {
       count = refl;
       choice = refl;
       number = ap (λ b. b || false) (number-good 2 9 n small.least small.greatest (omega arith));
@@ -84,14 +84,14 @@ grid-right words n e small =
     })
 
 -- and the other way round
-pub grid-read : (words : List Word) → fault_at head words ≡ None
+pub grid-read : (words : List Word) → table_fault head words ≡ None
     → (n : ℕ) × (IsSize n × (words ≡ grid_word ∷ decimal n ∷ []))
-grid-read [] e = let none : Some fault.BadWord ≡ None = sym (fault_at-no_word head refl) ∙ e in cc
+grid-read [] e = let none : Some fault.BadWord ≡ None = sym (table_fault-no_word head refl) ∙ e in cc
 grid-read (w ∷ arguments) e = elim (cases_Bool (is_word grid_word w)) [
   | inl t ↦
       let same = same_word grid_word w t in
       let rows = NoRowHolds-from_none head (exactly (number_between 2 9 ∷ [])) grid_word arguments refl refl
-      (ap (λ v. fault_at head (v ∷ arguments)) same ∙ e) in
+      (ap (λ v. table_fault head (v ∷ arguments)) same ∙ e) in
       let one = one_word arguments (count-same 1 arguments rows.0.count) in
       let good = subst (λ a. has_bad fault.BadNumber (exactly (number_between 2 9 ∷ [])) a ≡ false) one.1
       rows.0.number in
@@ -105,7 +105,7 @@ grid-read (w ∷ arguments) e = elim (cases_Bool (is_word grid_word w)) [
       )
   | inr f ↦
       let none : Some fault.BadWord ≡ None =
-      sym (fault_at-bad_word head w arguments refl
+      sym (table_fault-bad_word head w arguments refl
       (ap (λ b. cond b (Some (exactly (number_between 2 9 ∷ []))) None) f)) ∙ e in cc
 ]
 
@@ -127,15 +127,15 @@ module _ (p : Place) (letter : Word) (n : ℕ) (place : IsRowPlace letter n p) w
 
   -- another first word
   pub row-word : (words : List Word) → ((rest : List Word) → words ≢ letter ∷ rest)
-      → fault_at p words ≡ Some fault.BadWord
-  row-word words other = fault_at-other_word p letter (row_form n) place.not_ended place.form words other
+      → table_fault p words ≡ Some fault.BadWord
+  row-word words other = table_fault-other_word p letter (row_form n) place.not_ended place.form words other
 
   module _ (words arguments : List Word) (e : words ≡ letter ∷ arguments) where
     -- another number of words
-    pub row-count : length arguments ≢ n → fault_at p words ≡ Some fault.BadCount
+    pub row-count : length arguments ≢ n → table_fault p words ≡ Some fault.BadCount
     row-count other =
-        ap (fault_at p) e
-        ∙ fault_at-count p (row_form n) letter arguments place.not_ended row-known
+        ap (table_fault p) e
+        ∙ table_fault-count p (row_form n) letter arguments place.not_ended row-known
         (count-other (length (replicate n (number_between 0 (n - 1)))) arguments
         (λ same. other (same ∙ length-replicate n (number_between 0 (n - 1)))))
 
@@ -151,10 +151,10 @@ module _ (p : Place) (letter : Word) (n : ℕ) (place : IsRowPlace letter n p) w
 
       -- a word that is no number below n
       pub row-number : list_any (is_bad (number_between 0 (n - 1))) arguments ≡ true
-          → fault_at p words ≡ Some fault.BadNumber
+          → table_fault p words ≡ Some fault.BadNumber
       row-number bad =
-          ap (fault_at p) e
-          ∙ fault_at-number p (row_form n) letter arguments place.not_ended row-known row-counted row-choices
+          ap (table_fault p) e
+          ∙ table_fault-number p (row_form n) letter arguments place.not_ended row-known row-counted row-choices
           (zip-replicate (is_bad_by fault.BadNumber) (number_between 0 (n - 1)) n arguments long ∙ bad)
 
       module _ (good : list_any (is_bad (number_between 0 (n - 1))) arguments ≡ false) where
@@ -162,18 +162,18 @@ module _ (p : Place) (letter : Word) (n : ℕ) (place : IsRowPlace letter n p) w
         row-numbers = zip-replicate (is_bad_by fault.BadNumber) (number_between 0 (n - 1)) n arguments long ∙ good
 
         -- two rows that are the same
-        pub row-permutation : has_repeated arguments ≡ true → fault_at p words ≡ Some fault.NotPermutation
+        pub row-permutation : has_repeated arguments ≡ true → table_fault p words ≡ Some fault.NotPermutation
         row-permutation twice =
-            ap (fault_at p) e
-            ∙ fault_at-permutation p (row_form n) letter arguments place.not_ended row-known row-counted row-choices
+            ap (table_fault p) e
+            ∙ table_fault-permutation p (row_form n) letter arguments place.not_ended row-known row-counted row-choices
             row-numbers (place.permutation arguments ∙ twice)
 
         -- an O and an X in one square
         pub row-square : has_repeated arguments ≡ false → has_same_square p arguments ≡ true
-            → fault_at p words ≡ Some fault.SameSquare
+            → table_fault p words ≡ Some fault.SameSquare
         row-square once shared =
-            ap (fault_at p) e
-            ∙ fault_at-square p (row_form n) letter arguments place.not_ended row-known row-counted row-choices
+            ap (table_fault p) e
+            ∙ table_fault-square p (row_form n) letter arguments place.not_ended row-known row-counted row-choices
             row-numbers (place.permutation arguments ∙ once) shared
 
         row-states : has_bad fault.BadState (row_form n) arguments ≡ false
@@ -313,7 +313,7 @@ apart-squares o x same none c within e = true≢false (sym (squares-shared o x s
 -- the fault of an X line whose rows are right but for a square
 pub square-read : (o x : List ℕ) (words : List Word) → IsState o → IsBijection (length o) x
     → words ≡ x_word ∷ map decimal x → SharesSquare (record { o = o; x = x })
-    → fault_at (x_line (length o) o) words ≡ Some fault.SameSquare
+    → table_fault (x_line (length o) o) words ≡ Some fault.SameSquare
 square-read o x words state_o bijection e shares =
     let small = state_o.size.greatest in
     let same : length o ≡ length x = sym bijection.long in
@@ -334,15 +334,15 @@ fault_of_grid o x SameSquare state_o bijection none shares = shares refl
 
 module _ (p : Place) (letter : Word) (n : ℕ) (place : IsRowPlace letter n p) where
   -- a line without a fault has rows that are a bijection
-  pub row-read : IsSize n → (words : List Word) → fault_at p words ≡ None
+  pub row-read : IsSize n → (words : List Word) → table_fault p words ≡ None
       → (x : List ℕ) × (IsBijection n x × (words ≡ letter ∷ map decimal x)
       × (has_same_square p (map decimal x) ≡ false))
-  row-read small [] e = let none : Some fault.BadWord ≡ None = sym (fault_at-no_word p place.not_ended) ∙ e in cc
+  row-read small [] e = let none : Some fault.BadWord ≡ None = sym (table_fault-no_word p place.not_ended) ∙ e in cc
   row-read small (w ∷ arguments) e = elim (cases_Bool (is_word letter w)) [
     | inl t ↦
         let same = same_word letter w t in
         let rows = NoRowHolds-from_none p (row_form n) letter arguments place.not_ended (row-known p letter n place)
-        (ap (λ v. fault_at p (v ∷ arguments)) same ∙ e) in
+        (ap (λ v. table_fault p (v ∷ arguments)) same ∙ e) in
         let long : length arguments ≡ n =
         count-same (length (replicate n (number_between 0 (n - 1)))) arguments rows.0.count
         ∙ length-replicate n (number_between 0 (n - 1)) in
@@ -363,7 +363,7 @@ module _ (p : Place) (letter : Word) (n : ℕ) (place : IsRowPlace letter n p) w
         )
     | inr f ↦
         let none : Some fault.BadWord ≡ None =
-        sym (fault_at-bad_word p w arguments place.not_ended
+        sym (table_fault-bad_word p w arguments place.not_ended
         (place.form w ∙ ap (λ b. cond b (Some (row_form n)) None) f)) ∙ e in cc
   ]
 
@@ -387,14 +387,14 @@ module _ (p : Place) (letter : Word) (n : ℕ) (place : IsRowPlace letter n p) w
 
 -- O lines
 pub o_line-right : (n : ℕ) (o : List ℕ) (words : List Word) → IsSize n → IsBijection n o
-    → words ≡ o_word ∷ map decimal o → fault_at (o_line n) words ≡ None
+    → words ≡ o_word ∷ map decimal o → table_fault (o_line n) words ≡ None
 o_line-right n o words small bijection e =
-    ap (fault_at (o_line n)) e
-    ∙ fault_at-last (o_line n) (row_form n) o_word (map decimal o) refl
+    ap (table_fault (o_line n)) e
+    ∙ table_fault-last (o_line n) (row_form n) o_word (map decimal o) refl
     (row-known (o_line n) o_word n (IsRowPlace-o_line n))
     (row-right (o_line n) o_word n (IsRowPlace-o_line n) small o bijection refl refl)
 
-pub o_line-read : (n : ℕ) (words : List Word) → IsSize n → fault_at (o_line n) words ≡ None
+pub o_line-read : (n : ℕ) (words : List Word) → IsSize n → table_fault (o_line n) words ≡ None
     → (o : List ℕ) × (IsBijection n o × (words ≡ o_word ∷ map decimal o))
 o_line-read n words small none =
     let r = row-read (o_line n) o_word n (IsRowPlace-o_line n) small words none in (r.0, (r.1.0, r.1.1))
@@ -402,12 +402,12 @@ o_line-read n words small none =
 -- X lines
 pub x_line-right : (n : ℕ) (o x : List ℕ) (words : List Word) → IsSize n → IsBijection n o → IsBijection n x
     → ((c : ℕ) → c < n → slice_index o c ≢ slice_index x c) → words ≡ x_word ∷ map decimal x
-    → fault_at (x_line n o) words ≡ None
+    → table_fault (x_line n o) words ≡ None
 x_line-right n o x words small bijection_o bijection apart e =
     let most = small.greatest in
     let long = bijection_o.long in
-    ap (fault_at (x_line n o)) e
-    ∙ fault_at-last (x_line n o) (row_form n) x_word (map decimal x) refl
+    ap (table_fault (x_line n o)) e
+    ∙ table_fault-last (x_line n o) (row_form n) x_word (map decimal x) refl
     (row-known (x_line n o) x_word n (IsRowPlace-x_line n o))
     (row-right (x_line n o) x_word n (IsRowPlace-x_line n o) small x bijection
     (squares-apart o x (bijection_o.long ∙ sym bijection.long) (λ c l. apart c (omega arith))
@@ -415,7 +415,7 @@ x_line-right n o x words small bijection_o bijection apart e =
     (λ r m. let b = below-IsBijection n x bijection r m in omega arith)) refl)
 
 pub x_line-read : (n : ℕ) (o : List ℕ) (words : List Word) → IsSize n → IsBijection n o
-    → fault_at (x_line n o) words ≡ None
+    → table_fault (x_line n o) words ≡ None
     → (x : List ℕ) × (IsBijection n x × ((c : ℕ) → c < n → slice_index o c ≢ slice_index x c)
     × (words ≡ x_word ∷ map decimal x))
 x_line-read n o words small bijection_o none =

@@ -1,8 +1,8 @@
--- The plain form is read back. Words that are written have no space and no line feed (`IsPlainWord`), so that the
--- lines and words of the text are those that were written (`lines-plain`); and each line is allowed where it stands,
+-- The plain form is read back. Words that are written have no byte that ends a line or a word (`IsPlainWord`), so that
+-- the lines and words of the text are those that were written (`lines-plain`); and each line is allowed where it stands,
 -- from the head over the commands to `end` (`commands-path`).
-use Rattle.std.proofs.Common.{◌≡◌, ◌≢◌, ℕ, ◌+◌, ◌<◌, ◌≤◌, true, cond, List, [], ◌∷◌, ◌++◌, length, map, codes, refl, ap, subst, ◌∙◌, sym, arith, inl, inr, append_assoc, length-append}
-use Rattle.std.specs.Prelude.{nat_le}
+use Rattle.std.proofs.Common.{◌≡◌, ℕ, ◌+◌, ◌<◌, ◌≤◌, true, cond, false, List, [], ◌∷◌, ◌++◌, length, map, codes, refl, ap, subst, ◌∙◌, sym, arith, inl, inr, append_assoc, length-append}
+use Rattle.std.specs.Prelude.{nat_le, ◌==◌, ◌||◌}
 use Rattle.std.specs.List.{filter, flat_map}
 use Rattle.std.proofs.lemmas.List.Sorted.{IsPermutation-refl}
 use Rattle.std.specs.Fmt.{decimal}
@@ -14,7 +14,7 @@ use Rattle.std.specs.List.{Contains}
 use Rattle.torus_geom.specs.Marks.{Marks, size}
 use Rattle.grid_moves.specs.declared.turns.Side.{Side}
 use Rattle.grid_moves.specs.declared.turns.Side.TheVariants.{Left, Right, Up, Down}
-use Rattle.grid_text.specs.Words.{Word, parts, before_parts, is_space, is_filled, lines_of, words_of}
+use Rattle.grid_text.specs.Words.{Word, parts, before_parts, is_line_feed, is_space, is_filled, without_return, lines_of, words_of}
 use Rattle.grid_text.specs.PlainForm.{after_space, line_of, command_line, plain_form}
 use Rattle.pentagon_map.specs.declared.Corner.{Corner}
 use Rattle.pentagon_map.specs.declared.Corner.TheVariants.{Over, Under}
@@ -25,6 +25,7 @@ use Rattle.grid_text.specs.declared.commands.Command.TheVariants as command
 use Rattle.grid_text.specs.Limits.{max_commands}
 use Rattle.grid_text.specs.Script.{GridScript, IsScript, AreAllowed, grid_after_all}
 use Rattle.grid_text.specs.Document.{head, o_line, x_line, body, ended, end_word, Path, IsDocument, grid_word, o_word, x_word}
+use Rattle.grid_text.proofs.Lines.PartLemmas.{parts-byte}
 use Rattle.grid_text.proofs.Lines.KindLemmas.{IsGood, AreGood}
 use Rattle.grid_text.proofs.Lines.CommandLemmas.{arguments-allowed}
 use Rattle.grid_text.proofs.Lines.ScriptLemmas.{IsGridOf-grid_in_force, IsScript-with_command, IsScript-no_command, grid_after_all-push}
@@ -35,10 +36,10 @@ use Rattle.std.specs.List.{list_all}
 use Rattle.std.proofs.lemmas.Bool.Decides.{nat_tests}
 use Rattle.std.proofs.lemmas.List.{length-map, append-nil}
 
--- bytes that end neither a line nor a word
+-- bytes past the space, so that they end neither a line nor a word
 abbrev pub IsClean : List ℕ → Type 0
 IsClean [] = Unit {0}
-IsClean (b ∷ bytes) = (b ≢ 10) × (b ≢ 32) × IsClean bytes
+IsClean (b ∷ bytes) = (33 ≤ b) × IsClean bytes
 
 -- clean bytes, and some
 abbrev pub IsPlainWord : Word → Type 0
@@ -48,14 +49,14 @@ abbrev pub ArePlainWords : List Word → Type 0
 ArePlainWords [] = Unit {0}
 ArePlainWords (w ∷ words) = IsPlainWord w × ArePlainWords words
 
--- no line feed
+-- no line feed and no carriage return, but spaces
 abbrev IsOneLine : List ℕ → Type 0
 IsOneLine [] = Unit {0}
-IsOneLine (b ∷ bytes) = (b ≢ 10) × IsOneLine bytes
+IsOneLine (b ∷ bytes) = (32 ≤ b) × IsOneLine bytes
 
 one_line-clean : (w : List ℕ) → IsClean w → IsOneLine w
 one_line-clean [] h = tt
-one_line-clean (b ∷ w) h = (h.0, one_line-clean w h.2)
+one_line-clean (b ∷ w) h = (omega (arith, h.0), one_line-clean w h.1)
 
 one_line-append : (v w : List ℕ) → IsOneLine v → IsOneLine w → IsOneLine (v ++ w)
 one_line-append [] w h k = k
@@ -63,33 +64,49 @@ one_line-append (b ∷ v) w h k = (h.0, one_line-append v w h.1 k)
 
 one_line-after_space : (words : List Word) → ArePlainWords words → IsOneLine (after_space words)
 one_line-after_space [] h = tt
-one_line-after_space (w ∷ words) h = (
-  (λ e. omega (arith, e)),
-  one_line-append w (after_space words) (one_line-clean w h.0.0)
-      (one_line-after_space words h.1),
-)
+one_line-after_space (w ∷ words) h =
+    (omega arith, one_line-append w (after_space words) (one_line-clean w h.0.0) (one_line-after_space words h.1))
+
+-- a byte that is not another
+byte-other : (b c : ℕ) → c < b → (b == c) ≡ false
+byte-other b c past = ne_eqb b c (λ e. omega (arith, past, e))
+
+-- a line has no carriage return at its end
+without_return-line : (l : List ℕ) → IsOneLine l → without_return l ≡ l
+without_return-line [] h = refl
+without_return-line (b ∷ []) h = ap (λ t. cond t [] (b ∷ [])) (byte-other b 13 (omega (arith, h.0)))
+without_return-line (b ∷ c ∷ l) h = ap (λ r. b ∷ r) (without_return-line (c ∷ l) h.1)
 
 -- the first line of a text
+parts-line : (l rest : List ℕ) → IsOneLine l
+    → parts is_line_feed (l ++ 10 ∷ rest) ≡ l ∷ parts is_line_feed rest
+parts-line [] rest h = refl
+parts-line (b ∷ l) rest h =
+    parts-byte is_line_feed b (l ++ 10 ∷ rest) (byte-other b 10 (omega (arith, h.0)))
+    ∙ ap (before_parts b) (parts-line l rest h.1)
+
 lines_of-line : (l rest : List ℕ) → IsOneLine l → lines_of (l ++ 10 ∷ rest) ≡ l ∷ lines_of rest
-lines_of-line [] rest h = refl
-lines_of-line (b ∷ l) rest h =
-    ap (λ t. cond t ([] ∷ lines_of (l ++ 10 ∷ rest)) (before_parts b (lines_of (l ++ 10 ∷ rest)))) (ne_eqb b 10 h.0)
-    ∙ ap (before_parts b) (lines_of-line l rest h.1)
+lines_of-line l rest h =
+    ap (map without_return) (parts-line l rest h) ∙ ap (λ first. first ∷ lines_of rest) (without_return-line l h)
+
+-- a byte past the space is none, and no tab
+not_space : (b : ℕ) → 33 ≤ b → is_space b ≡ false
+not_space b past =
+    ap (λ t. t || (b == 9)) (byte-other b 32 (omega (arith, past))) ∙ byte-other b 9 (omega (arith, past))
 
 -- the first word of a line
 parts-word : (w rest : List ℕ) → IsClean w → parts is_space (w ++ 32 ∷ rest) ≡ w ∷ parts is_space rest
 parts-word [] rest h = refl
 parts-word (b ∷ w) rest h =
-    ap (λ t. cond t ([] ∷ parts is_space (w ++ 32 ∷ rest)) (before_parts b (parts is_space (w ++ 32 ∷ rest))))
-    (ne_eqb b 32 h.1) ∙ ap (before_parts b) (parts-word w rest h.2)
+    parts-byte is_space b (w ++ 32 ∷ rest) (not_space b h.0) ∙ ap (before_parts b) (parts-word w rest h.1)
 
 -- the last one
 parts-last : (w : List ℕ) → IsClean w → 0 < length w → parts is_space (w ++ []) ≡ w ∷ []
 parts-last [] h some = absurd (omega arith)
-parts-last (b ∷ []) h some = ap (λ t. cond t ([] ∷ []) ((b ∷ []) ∷ [])) (ne_eqb b 32 h.1)
+parts-last (b ∷ []) h some = parts-byte is_space b [] (not_space b h.0)
 parts-last (b ∷ c ∷ w) h some =
-    ap (λ t. cond t ([] ∷ parts is_space ((c ∷ w) ++ [])) (before_parts b (parts is_space ((c ∷ w) ++ []))))
-    (ne_eqb b 32 h.1) ∙ ap (before_parts b) (parts-last (c ∷ w) h.2 (omega arith))
+    parts-byte is_space b ((c ∷ w) ++ []) (not_space b h.0)
+    ∙ ap (before_parts b) (parts-last (c ∷ w) h.1 (omega arith))
 
 -- all words
 parts-words : (w : Word) (words : List Word) → IsPlainWord w → ArePlainWords words
@@ -116,9 +133,7 @@ lines-plain w words rest h k =
 -- ---- the words that are written
 
 plain_decimal : (n : ℕ) → n < 10 → IsPlainWord (decimal n)
-plain_decimal n small =
-    subst IsPlainWord (sym (decimal_digit n small))
-    (((λ e. omega (arith, e)), (λ e. omega (arith, e)), tt), omega arith)
+plain_decimal n small = subst IsPlainWord (sym (decimal_digit n small)) ((omega arith, tt), omega arith)
 
 plain_decimals : (rows : List ℕ) → ((r : ℕ) → Contains rows r → r < 10) → ArePlainWords (map decimal rows)
 plain_decimals [] small = tt
@@ -127,18 +142,15 @@ plain_decimals (r ∷ rows) small =
 
 clean_state : (x : List ℕ) → IsClean (state_word x)
 clean_state [] = tt
-clean_state (r ∷ x) = ((λ e. omega (arith, e)), (λ e. omega (arith, e)), clean_state x)
-
-other_byte : (b : ℕ) → 33 ≤ b → (b ≢ 10) × (b ≢ 32)
-other_byte b high = ((λ e. omega (arith, e)), (λ e. omega (arith, e)))
+clean_state (r ∷ x) = (omega arith, clean_state x)
 
 clean_high : (w : List ℕ) → list_all (λ b. nat_le 33 b) w ≡ true → IsClean w
 clean_high [] e = tt
 clean_high (b ∷ w) e =
-    let here : nat_le 33 b ≡ true = (and_parts (nat_le 33 b) (list_all (λ b. nat_le 33 b) w) e).0 in
+    let parts = and_parts (nat_le 33 b) (list_all (λ b. nat_le 33 b) w) e in
+    let here : nat_le 33 b ≡ true = parts.0 in
     let high : 33 ≤ b = grind (arith, nat_tests) in
-    let other = other_byte b high in
-    (other.0, other.1, clean_high w (and_parts (nat_le 33 b) (list_all (λ b. nat_le 33 b) w) e).1)
+    (high, clean_high w parts.1)
 
 closed : (w : Word) → list_all (λ b. nat_le 33 b) w ≡ true → 0 < length w → IsPlainWord w
 closed w e some = (clean_high w e, some)
@@ -190,7 +202,7 @@ commands-path : (g : Marks) (done later : List Command) → IsScript (record { g
     (ended (record { grid = g; commands = done ++ later }))
 commands-path g done [] h all few = (
   ended (record { grid = g; commands = done }),
-  inl (refl, refl),
+  inr (inl (refl, refl)),
   ap
       (λ cs. ended (record { grid = g; commands = cs })) (sym (append-nil done)),
 )
@@ -213,7 +225,7 @@ commands-path g done (c ∷ later) h all few =
     (plain_first c) plain in
     subst (λ ls. Path (body s) ls (ended (record { grid = g; commands = done ++ c ∷ later }))) (sym lines) (
       body (record { grid = g; commands = done ++ c ∷ [] }),
-      inr (c, line-written c, all.0, room, refl),
+      inr (inr (c, line-written c, all.0, room, refl)),
       subst (λ cs. Path (body (record { grid = g; commands = done ++ c ∷ [] }))
           (map words_of (lines_of (flat_map command_line later ++ line_of (end_word ∷ []))))
           (ended (record { grid = g; commands = cs }))) (append_assoc done (c ∷ []) later) rest,
@@ -245,13 +257,13 @@ IsDocument-plain_form s h =
     (lines-plain x_word (map decimal x) tail (closed x_word refl (omega arith)) plain_x)) in
     subst (λ ls. Path head ls (ended s)) (sym lines) (
       o_line n,
-      (n, h.grid.is_size, refl, refl),
+      inr (n, h.grid.is_size, refl, refl),
       (
         x_line n o,
-        (o, h.grid.o, refl, refl),
+        inr (o, h.grid.o, refl, refl),
         (
           body (record { grid = s.grid; commands = [] }),
-          (x, h.grid.x, h.grid.apart, refl, refl),
+          inr (x, h.grid.x, h.grid.apart, refl, refl),
           commands-path s.grid [] s.commands (IsScript-no_command s.grid h.grid) h.allowed (omega (arith, h.few)),
         ),
       ),

@@ -1,0 +1,12 @@
+use Rattle.grid_text.proofs.Lines.PartLemmas.{without_return-dropped, without_return-kept}
+use Rattle.grid_text.proofs.words.without_return.Goals as goal
+
+pub returns-then-last-eq13 : goal.returns-then-last-eq13
+returns-then-last-eq13 c =
+    without_return-dropped c.args.line.now c.in-Some.front.now c.in-Some.last.now c.in-Some.ensures.cases.0
+    c.if-last-eq13.true
+
+pub returns : goal.returns
+returns c =
+    without_return-kept c.args.line.now c.in-Some.front.now c.in-Some.last.now c.in-Some.ensures.cases.0
+    c.if-last-eq13.false
