@@ -26,7 +26,7 @@ use Rattle.homology_cert.specs.Inner.Ranks.{degree_count, HasRanks}
 use Rattle.homology_cert.proofs.SliceRanks.{IsReduction, left-below, rank_of_reduction}
 
 -- a list in which no code comes twice
-IsApart-pairs : (xs : List ℕ) → AllPairs (λ b c. b ≢ c) xs → IsApart xs
+pub IsApart-pairs : (xs : List ℕ) → AllPairs (λ b c. b ≢ c) xs → IsApart xs
 IsApart-pairs [] p = tt
 IsApart-pairs (x ∷ xs) p = (none (any x xs) refl, IsApart-pairs xs (pairs_tail (λ b c. b ≢ c) x xs p))
   where

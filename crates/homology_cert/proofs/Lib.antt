@@ -5,3 +5,6 @@ pub mod DegreeLemmas
 pub mod TableLemmas
 pub mod LawLemmas
 pub mod ExistenceLemmas
+pub mod CheckLemmas
+pub mod PassingLemmas
+pub mod CertifiedLemmas

@@ -1,2 +1,3 @@
--- What only private functions and proofs speak of: what is kept while a table is made.
+-- What only private functions and proofs speak of: what is kept while a table is made, and while a certificate is checked.
 pub mod Ranks
+pub mod Checks

@@ -1,2 +1,4 @@
 pub mod Tables
+pub mod Certificates
+pub mod CertificateTests
 pub mod Inner

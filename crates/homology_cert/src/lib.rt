@@ -7,11 +7,17 @@
 //! are cancelled, and the cells that are left are counted, in a map from bidegrees to ranks.
 #![tactic(auto)]
 
+mod certificates;
+mod checks;
 mod degrees;
 mod ranks;
 mod tables;
+mod verdicts;
 
+pub use certificates::Cert;
+pub use checks::check_cert;
 pub use tables::rank_table;
+pub use verdicts::{CertTest, CertVerdict};
 
 #[cfg(test)]
 mod tests;

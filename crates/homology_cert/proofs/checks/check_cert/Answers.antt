@@ -1,0 +1,5 @@
+use Rattle.homology_cert.proofs.CertifiedLemmas.{table_of_certificate}
+use Rattle.homology_cert.proofs.checks.check_cert.Goals as goal
+
+pub returns-clause-table : goal.returns-clause-table
+returns-clause-table c d is told = table_of_certificate d is told

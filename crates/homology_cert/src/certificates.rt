@@ -1,0 +1,124 @@
+//! Certificates.
+ghost use Rattle.std.specs.Prelude.{◌≡◌};
+ghost use Rattle.homology_cert.specs.Certificates.{IsCertificate};
+
+use f2_chain::{Chain, Cochain};
+use gradings::Bidegree;
+use std::marker::Model;
+use torus_geom::Grid;
+
+/// A cycle, and a cocycle that pairs oddly with it.
+#[derive(Drop, Debug)]
+pub struct CyclePair {
+    pub(crate) cycle: Chain,
+    pub(crate) cocycle: Cochain,
+}
+
+impl Model for CyclePair {
+    ghost use Rattle.f2_algebra.specs.Certificate.{CyclePair as Pair};
+    ghost use Rattle.homology_cert.specs.Certificates.{cycle_pair_code};
+
+    ghost Value = { Pair };
+
+    ghost coded = { cycle_pair_code };
+
+    ghost view = { λ p. record { cycle = p.cycle; cocycle = p.cocycle } };
+}
+
+/// A chain, and a cochain that pairs oddly with its border.
+#[derive(Drop, Debug)]
+pub struct StepPair {
+    pub(crate) step: Chain,
+    pub(crate) probe: Cochain,
+}
+
+impl Model for StepPair {
+    ghost use Rattle.f2_algebra.specs.Certificate.{StepPair as Pair};
+    ghost use Rattle.homology_cert.specs.Certificates.{step_pair_code};
+
+    ghost Value = { Pair };
+
+    ghost coded = { step_pair_code };
+
+    ghost view = { λ p. record { step = p.step; probe = p.probe } };
+}
+
+/// The pairs of one bidegree.
+#[derive(Drop, Debug)]
+pub struct CertCell {
+    pub(crate) degree: Bidegree,
+    pub(crate) cycles: Vec<CyclePair>,
+    pub(crate) steps: Vec<StepPair>,
+}
+
+impl Model for CertCell {
+    ghost use Rattle.homology_cert.specs.Certificates.{Cell, cell_code};
+
+    ghost Value = { Cell };
+
+    ghost coded = { cell_code };
+
+    ghost view = { λ c. record { at = (c.degree.m, c.degree.a); cycles = c.cycles.items; steps = c.steps.items } };
+}
+
+/// A certificate of the table of a grid of size at most six.
+#[derive(Drop, Debug)]
+pub struct Cert {
+    grid: Grid,
+    cells: Vec<CertCell>,
+}
+
+impl Model for Cert {
+    ghost use Rattle.homology_cert.specs.Certificates.{Certificate, certificate_code};
+
+    ghost Value = { Certificate };
+
+    ghost coded = { certificate_code };
+
+    ghost view = { λ c. record { grid = c.grid; cells = c.cells.items } };
+
+    ghost use Rattle.homology_cert.specs.Certificates.{IsCertificate};
+
+    ghost invariant = { λ c. IsCertificate (record { grid = c.grid; cells = c.cells.items }) };
+}
+
+impl CertCell {
+    // The bidegree.
+    pub(crate) fn degree(&self) -> &Bidegree
+        ensures { (result.now.m, result.now.a) ≡ self.now.at }
+    {
+        &self.degree
+    }
+
+    // The cycle pairs, in order.
+    pub(crate) fn cycles(&self) -> &[CyclePair]
+        ensures { result.now ≡ self.now.cycles }
+    {
+        &self.cycles
+    }
+
+    // The step pairs, in order.
+    pub(crate) fn steps(&self) -> &[StepPair]
+        ensures { result.now ≡ self.now.steps }
+    {
+        &self.steps
+    }
+}
+
+impl Cert {
+    /// The grid.
+    pub fn grid(&self) -> &Grid
+        ensures grid { result.now ≡ self.now.grid }
+        ensures certificate { IsCertificate self.now }
+    {
+        &self.grid
+    }
+
+    /// The cells, in order.
+    pub(crate) fn cells(&self) -> &[CertCell]
+        ensures cells { result.now ≡ self.now.cells }
+        ensures certificate { IsCertificate self.now }
+    {
+        &self.cells
+    }
+}
