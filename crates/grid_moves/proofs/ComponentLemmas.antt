@@ -10,7 +10,7 @@ use Rattle.state_rank.proofs.BijectionLemmas.{IsOneToOne, one_to_one, column_of-
 use Rattle.torus_geom.specs.Counts.{count_below}
 use Rattle.torus_geom.specs.Marks.{Marks, size, IsGrid}
 use Rattle.torus_geom.specs.Components.{column_after, walk, is_first, components}
-use Rattle.torus_geom.specs.Degrees.{maslov_o, maslov_x, alexander, bidegree}
+use Rattle.torus_geom.specs.Degrees.{maslov_o, maslov_x, alexander}
 use Rattle.torus_geom.proofs.Sums.AllBelowLemmas.{at_all_below, all_below-true}
 use Rattle.torus_geom.proofs.Sums.TabulateLemmas.{pos-length-filter-ascending}
 use Rattle.torus_geom.proofs.Cycles.CycleLemmas.{after, PicksOne, picks_first}

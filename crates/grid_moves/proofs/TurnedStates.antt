@@ -4,7 +4,6 @@ use Rattle.state_rank.proofs.BijectionLemmas.{IsOneToOne, same_list}
 use Rattle.state_rank.specs.Bijection.{IsBijection, IsSize}
 use Rattle.state_rank.specs.States.{IsState}
 use Rattle.torus_geom.proofs.Circles.TurnLemmas.{one_down-one_up, one_down_one, one_up-one_down, one_up_one}
-use Rattle.torus_geom.specs.Marks.{size}
 use Rattle.grid_moves.proofs.CarriedChains.{AreInverse}
 use Rattle.grid_moves.proofs.TurnLemmas.{HasTurned, IsBijection-turned_rows, length-turned_rows, slice_index-turned_rows, source_column-one_to_one, take-turned}
 use Rattle.grid_moves.specs.Carried.{target_column, turned_state}

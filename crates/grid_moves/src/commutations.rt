@@ -60,8 +60,9 @@ pub fn swap(g: &Grid, axis: Axis, c: u8) -> Grid
     requires commutes { IsTrue (are_commuting axis g.now c) }
     ensures grid { result ≡ swapped axis g.now c }
 
-    // Twice at one place gives the grid back.
+    // The exchanged grid commutes there, and a second exchange gives the grid back.
     ensures twice { swapped axis (swapped axis g.now c) c ≡ g.now }
+    ensures commutes_again { IsTrue (are_commuting axis (swapped axis g.now c) c) }
 {
     let _ = g.size();
     match axis {

@@ -1,10 +1,12 @@
 //! Cyclic turns of a grid.
 ghost use Rattle.std.specs.Prelude.{◌≡◌, ℕ, List, ◌<◌, length, slice_index};
+ghost use Rattle.f2_algebra.specs.Chain.{Chain};
 ghost use Rattle.state_rank.specs.States.{IsState};
+ghost use Rattle.torus_geom.specs.Border.{border};
 ghost use Rattle.torus_geom.specs.Components.{components};
 ghost use Rattle.torus_geom.specs.Degrees.{maslov_o, alexander};
 ghost use Rattle.torus_geom.specs.Marks.{Marks, IsGrid, size};
-ghost use Rattle.grid_moves.specs.Carried.{turned_state as turned_state_of};
+ghost use Rattle.grid_moves.specs.Carried.{turned_state as turned_state_of, turned_chain};
 ghost use Rattle.grid_moves.specs.Moves.{source_column as source_column_of, moved_row as moved_row_of, turned};
 
 use state_rank::{ROOM, State};
@@ -59,6 +61,10 @@ pub fn turn(g: &Grid, side: Side) -> Grid
         → maslov_o (turned side g.now) (turned_state_of side x) ≡ maslov_o g.now x }
     ensures keeps_alexander { (x : List ℕ) → IsState x → length x ≡ size g.now
         → alexander (turned side g.now) (turned_state_of side x) ≡ alexander g.now x }
+
+    // It carries the border of any chain to the border of the turned chain.
+    ensures carries_border { (z : Chain) → border (turned side g.now) (turned_chain side (size g.now) z)
+        ≡ turned_chain side (size g.now) (border g.now z) }
 {
     let n = g.size();
     let mut o = [0; ROOM];

@@ -1,5 +1,5 @@
 -- The definitions at work on a grid of size four, against images found by hand.
-use Rattle.std.proofs.Common.{◌≡◌, ℕ, Bool, List, [], ◌∷◌, length, refl}
+use Rattle.std.proofs.Common.{◌≡◌, ℕ, List, [], ◌∷◌, length, refl}
 use Rattle.std.specs.List.{filter}
 use Rattle.f2_algebra.specs.Chain.{is_odd}
 use Rattle.state_rank.specs.States.{arrangements, states}

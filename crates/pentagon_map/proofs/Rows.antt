@@ -1,3 +1,2 @@
-pub mod Reindexing
 pub mod Transposing
 pub mod ImageByRows

@@ -3,7 +3,7 @@
 -- Route: for a state, both sides are sums over two steps, a rectangle and then a pentagon, or a pentagon and
 -- then a rectangle of the exchanged grid; together they vanish (ThinAnnuli). The image of a chain is a sum over
 -- its states, and a code that is the rank of no state has the empty list for its state, which no pentagon leaves.
-use Rattle.std.proofs.Common.{Bool, List, [], ap, ap₂, arith, cond, eqb, false, inl, inr, length, map, not, refl, slice_index, subst, swap, sym, true, ℕ, ◌&&◌, ◌<◌, ◌∙◌, ◌∷◌, ◌≡◌}
+use Rattle.std.proofs.Common.{Bool, List, [], ap, ap₂, arith, cond, eqb, false, inl, inr, length, map, not, refl, slice_index, subst, swap, sym, ℕ, ◌&&◌, ◌<◌, ◌∙◌, ◌∷◌, ◌≡◌}
 use Rattle.std.proofs.lemmas.Bool.{cases_lt}
 use Rattle.std.proofs.lemmas.List.Edits.{length-swap}
 use Rattle.std.specs.List.{filter}
@@ -23,7 +23,6 @@ use Rattle.torus_geom.specs.Range.{one_down, one_up}
 use Rattle.torus_geom.specs.Marks.{IsGrid, Marks, size}
 use Rattle.torus_geom.specs.Rectangle.{is_empty, is_same, is_unmarked, leads, rectangles}
 use Rattle.torus_geom.specs.declared.rects.Rect.{Rect}
-use Rattle.rectangles.proofs.Square.CyclicOrder.{first, second}
 use Rattle.rectangles.proofs.Square.Exchanges.{exchanged}
 use Rattle.rectangles.proofs.Square.OpenRectangles.{is_open}
 use Rattle.rectangles.proofs.Square.RectangleSums.{parity-rectangles, weight-border_of_state}
@@ -34,7 +33,6 @@ use Rattle.grid_moves.proofs.SwapGridLemmas.{IsGrid-swapped_columns}
 use Rattle.grid_moves.specs.Moves.{swapped_columns}
 use Rattle.pentagon_map.proofs.ChainMap.FourRows.{AreBusy-rows, AreSides-rows, HasFourRows, IsThin-rows}
 use Rattle.pentagon_map.proofs.ChainMap.PentagonSums.{crossing_row-below, pentagon_at, weight-column_image}
-use Rattle.pentagon_map.proofs.ChainMap.Pentagons.{sides}
 use Rattle.pentagon_map.proofs.ChainMap.ThinAnnuli.{pairs_none}
 use Rattle.pentagon_map.specs.Pentagon.{column_image, crossing_row, is_pentagon, is_pentagonal}
 use Rattle.pentagon_map.specs.declared.Corner.{Corner}

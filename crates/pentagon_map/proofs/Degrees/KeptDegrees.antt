@@ -7,8 +7,8 @@ use Rattle.std.proofs.lemmas.Bool.{and_parts, cases_Bool, eqb-true, ne_eqb, or_c
 use Rattle.std.proofs.lemmas.List.{get_or-map, length-map}
 use Rattle.std.proofs.lemmas.List.Edits.{length-swap}
 use Rattle.f2_algebra.proofs.Chains.Lists.{All-codes}
-use Rattle.f2_algebra.proofs.Chains.ParityLemmas.{below, parity_below}
-use Rattle.f2_algebra.proofs.Chains.Tables.{same, ◌⊻◌}
+use Rattle.f2_algebra.proofs.Chains.ParityLemmas.{parity_below}
+use Rattle.f2_algebra.proofs.Chains.Tables.{◌⊻◌}
 use Rattle.f2_algebra.specs.Chain.{Chain, codes, holds}
 use Rattle.state_rank.proofs.BijectionLemmas.{column_of-below, one_to_one}
 use Rattle.state_rank.proofs.RankLemmas.{rank_one_to_one}

@@ -14,7 +14,6 @@ use Rattle.torus_geom.specs.Counts.{one_if}
 use Rattle.torus_geom.specs.Range.{one_down}
 use Rattle.rectangles.proofs.Square.CyclicOrder.{between, between_end, between_start}
 use Rattle.rectangles.proofs.Square.Exchanges.{exchanged, exchanged-first, exchanged-other, exchanged-second}
-use Rattle.rectangles.proofs.Square.OpenRectangles.{marks}
 use Rattle.rectangles.proofs.Square.TwoSteps.{differ, differ-self}
 use Rattle.pentagon_map.proofs.ChainMap.CyclicSteps.{between-one_down, one_down-other}
 use Rattle.pentagon_map.proofs.ChainMap.RowArcs.{above_of}

@@ -3,7 +3,6 @@
 use Rattle.std.proofs.Common.{[], ap, arith, inl, inr, refl, subst, sym, true, ℕ, ◌<◌, ◌∙◌, ◌≡◌}
 use Rattle.std.proofs.lemmas.Bool.{cases_lt}
 use Rattle.std.proofs.lemmas.List.Edits.{length-swap}
-use Rattle.f2_algebra.proofs.Chains.ParityLemmas.{below}
 use Rattle.f2_algebra.proofs.Chains.Sets.{holds-nothing, same_chain}
 use Rattle.f2_algebra.specs.Chain.{Chain, holds, sum_over}
 use Rattle.state_rank.specs.States.{factorial, rank, transpose, unrank}
@@ -12,7 +11,6 @@ use Rattle.torus_geom.specs.Border.{border}
 use Rattle.torus_geom.specs.Range.{one_down}
 use Rattle.torus_geom.specs.Marks.{IsGrid, Marks, size}
 use Rattle.torus_geom.specs.Transposed.{transposed}
-use Rattle.rectangles.proofs.Square.CyclicOrder.{four}
 use Rattle.grid_moves.proofs.CarriedChains.{AreInverse, IsOfStates, carried-carried, holds-carried, moved-past, moved-rank, sum_over-carried}
 use Rattle.grid_moves.proofs.SwapGridLemmas.{IsGrid-swapped_columns}
 use Rattle.grid_moves.specs.Carried.{moved, transposed_chain}

@@ -2,34 +2,33 @@
 -- Route: the rectangle of x with circles a, b and rows x(a), x(b) becomes that of the transposed state
 -- with circles x(a), x(b) and rows a, b. Empty and unmarked are tests of all columns, which are taken in
 -- the order of rows; the sum over two circles that tells the border is taken in the order of rows too.
-use Rattle.std.proofs.Common.{Bool, List, ap, ap₂, arith, eqb, false, inl, inr, not, refl, slice_index, subst, swap, sym, ℕ, ◌&&◌, ◌<◌, ◌||◌, ◌∙◌, ◌≡◌}
-use Rattle.std.proofs.lemmas.Bool.{cases_eq}
+use Rattle.std.proofs.Common.{Bool, List, ap, ap₂, arith, eqb, false, not, refl, slice_index, subst, swap, sym, ℕ, ◌&&◌, ◌<◌, ◌||◌, ◌∙◌, ◌≡◌}
 use Rattle.std.proofs.lemmas.List.Edits.{length-swap}
-use Rattle.f2_algebra.proofs.Chains.ParityLemmas.{below, parity_below, parity_below-same}
+use Rattle.f2_algebra.proofs.Chains.ParityLemmas.{parity_below, parity_below-same}
 use Rattle.f2_algebra.proofs.Chains.Sets.{weight-at}
 use Rattle.f2_algebra.proofs.Chains.Tables.{and_comm}
 use Rattle.f2_algebra.specs.Chain.{Chain, holds, sum_over}
-use Rattle.state_rank.proofs.BijectionLemmas.{IsOneToOne, column_of-is, one_to_one, same_list}
+use Rattle.state_rank.proofs.BijectionLemmas.{IsOneToOne, one_to_one, same_list}
 use Rattle.state_rank.proofs.RankLemmas.{rank_one_to_one}
-use Rattle.state_rank.proofs.SwapLemmas.{exchanged, exchanged-first, exchanged-second, exchanged-other, exchanged_below, exchanged_back, slice_index-swap, IsBijection-swap}
+use Rattle.state_rank.proofs.SwapLemmas.{exchanged, exchanged_below, exchanged_back, slice_index-swap, IsBijection-swap}
 use Rattle.state_rank.specs.Bijection.{IsBijection}
-use Rattle.state_rank.specs.States.{factorial, rank, transpose, unrank}
-use Rattle.torus_geom.proofs.TransposeLemmas.{IsBijection-transposed, IsGrid-transposed, length-transpose, slice_index-transpose}
+use Rattle.state_rank.specs.States.{rank, transpose, unrank}
+use Rattle.torus_geom.proofs.TransposeLemmas.{IsBijection-transposed, IsGrid-transposed}
 use Rattle.torus_geom.specs.Border.{border, border_of_state}
 use Rattle.torus_geom.specs.Marks.{IsGrid, Marks, size}
 use Rattle.torus_geom.specs.Transposed.{transposed}
-use Rattle.rectangles.proofs.Square.BorderLemmas.{border_of_state-below}
 use Rattle.rectangles.proofs.Square.ColumnTests.{all_below-same}
 use Rattle.rectangles.proofs.Square.CyclicOrder.{between}
 use Rattle.rectangles.proofs.Square.EmptyRectangles.{free, free_rows, is_between, is_clear_of}
 use Rattle.rectangles.proofs.Square.OpenRectangles.{is_open, unmarked}
 use Rattle.rectangles.proofs.Square.RectangleSums.{weight-border_of_state}
 use Rattle.rectangles.proofs.Square.TwoSteps.{differ}
-use Rattle.grid_moves.proofs.CarriedChains.{AreInverse, IsOfStates, eqb_alike, sum_over-carried}
+use Rattle.grid_moves.proofs.CarriedChains.{eqb_alike, sum_over-carried}
+use Rattle.grid_moves.proofs.Shifts.{exchanged-row}
+use Rattle.grid_moves.proofs.TurnedBorders.{border_IsOfStates}
 use Rattle.grid_moves.proofs.TransposedGrids.{transpose-at, transpose-transpose, size-transposed, transpose_AreInverse}
 use Rattle.grid_moves.specs.Carried.{transposed_chain}
-use Rattle.pentagon_map.proofs.ChainMap.ImageOfBorder.{border_of_state-nil}
-use Rattle.pentagon_map.proofs.Rows.Reindexing.{all_below_reindex, parity_below_reindex_both}
+use Rattle.grid_moves.proofs.Reindexing.{all_below_reindex, parity_below_reindex_both}
 
 -- the rectangle of circles a and b of x is open, and leads to the state of rank q
 abbrev pub leads_to : ℕ → Marks → List ℕ → ℕ → ℕ → ℕ → Bool
@@ -43,16 +42,6 @@ held_by n g e s =
     subst P e (λ x sx q. sym (weight-at (border_of_state g x) q) ∙ weight-border_of_state g s x sx (λ t. eqb q t))
 
 -- ---- exchanges
--- the exchange of two rows, where f is one to one
-pub exchanged-row : (n : ℕ) (f : ℕ → ℕ) → IsOneToOne n f → (a b c : ℕ) → a < n → b < n → c < n → exchanged (f a) (f b) (f c) ≡ f (exchanged a b c)
-exchanged-row n f one a b c la lb lc = elim (cases_eq c a) [
-  | inl e ↦ exchanged-first (f a) (f b) (f c) (ap f e) ∙ sym (ap f (exchanged-first a b c e))
-  | inr p ↦ elim (cases_eq c b) [
-    | inl e ↦ exchanged-second (f a) (f b) (f c) (one.apart c a lc la p) (ap f e) ∙ sym (ap f (exchanged-second a b c p e))
-    | inr q ↦ exchanged-other (f a) (f b) (f c) (one.apart c a lc la p) (one.apart c b lc lb q) ∙ sym (ap f (exchanged-other a b c p q))
-  ]
-]
-
 -- the exchange of two circles becomes that of two rows
 pub transpose-swap : (n : ℕ) (x : List ℕ) → IsBijection n x → (a b : ℕ) → a < n → b < n → swap (transpose x) (slice_index x a) (slice_index x b) ≡ transpose (swap x a b)
 transpose-swap n x sx a b la lb =
@@ -141,13 +130,6 @@ module _ (g : Marks) (s : IsGrid g) where
       (λ e. ap rank (sym (transpose-transpose n y sy) ∙ ap transpose (rank_one_to_one n v (transpose z) sv (IsBijection-transposed n z sz) e) ∙ transpose-transpose n z sz))
       (λ e. ap (λ w. rank (transpose w)) (rank_one_to_one n y z sy sz e)))))
       ∙ sym (held_by n g refl s x sx (rank y))
-
--- the border of a state has ranks of states, and the empty list has none
-pub border_IsOfStates : (h : Marks) (n : ℕ) → size h ≡ n → IsOfStates n (border_of_state h)
-border_IsOfStates h n e = record {
-  of_nil = border_of_state-nil h;
-  below = λ x c sx k. subst (λ m. c < factorial m) e (border_of_state-below h x c k);
-}
 
 -- The border of the transposed chain is the transposed border.
 pub border-transposed : (g : Marks) → IsGrid g → (z : Chain) → border (transposed g) (transposed_chain (size g) z) ≡ transposed_chain (size g) (border g z)

@@ -26,8 +26,7 @@ use Rattle.grid_moves.specs.Moves.{turned}
 use Rattle.grid_moves.specs.declared.commutations.Axis.{Axis}
 use Rattle.grid_moves.specs.declared.commutations.Axis.TheVariants.{Cols, Rows}
 use Rattle.pentagon_map.proofs.ChainMap.PentagonSums.{crossing_row-below, holds-column_image, passes_at-pentagon, pentagon_at}
-use Rattle.pentagon_map.proofs.ChainMap.Pentagons.{two}
-use Rattle.pentagon_map.proofs.Rows.Reindexing.{parity_below_reindex}
+use Rattle.grid_moves.proofs.Reindexing.{parity_below_reindex}
 use Rattle.grid_moves.proofs.TransposedGrids.{size-transposed, transpose-transpose, transpose_AreInverse}
 use Rattle.pentagon_map.proofs.Rows.Transposing.{transpose-swap}
 use Rattle.pentagon_map.proofs.Targets.InOrder.{codes-in_order, in_order_states}

@@ -14,8 +14,8 @@ use Rattle.torus_geom.proofs.Circles.TurnLemmas.{composed_one}
 use Rattle.torus_geom.specs.Marks.{IsGrid, Marks, size}
 use Rattle.torus_geom.specs.Transposed.{transposed}
 use Rattle.grid_moves.proofs.CarriedChains.{AreInverse-back, holds-carried, moved-below, moved-past, moved-rank, moved-undone}
-use Rattle.grid_moves.proofs.TurnLemmas.{IsBijection-turned_rows, IsGrid-turned, length-turned_rows, slice_index-turned_rows}
-use Rattle.grid_moves.proofs.TurnedStates.{IsBijection-turned_state, opposite, source-target, turned_AreInverse}
+use Rattle.grid_moves.proofs.TurnLemmas.{IsBijection-turned_rows, IsGrid-turned, length-turned_rows}
+use Rattle.grid_moves.proofs.TurnedStates.{IsBijection-turned_state, opposite, turned_AreInverse}
 use Rattle.grid_moves.specs.Carried.{moved, target_column, transposed_chain, turned_chain, turned_place, turned_state}
 use Rattle.grid_moves.specs.Moves.{moved_row, turned, turned_rows}
 use Rattle.grid_moves.specs.declared.commutations.Axis.{Axis}
@@ -25,7 +25,8 @@ use Rattle.grid_moves.specs.declared.turns.Side.TheVariants.{Down, Left, Right, 
 use Rattle.pentagon_map.proofs.ChainMap.ImageOfBorder.{image_by_columns}
 use Rattle.pentagon_map.proofs.Rows.ImageByRows.{image-by_columns, image-by_rows}
 use Rattle.grid_moves.proofs.TransposedGrids.{size-transposed, transpose-at, transpose_AreInverse}
-use Rattle.pentagon_map.proofs.Turns.Shifts.{IsShift-moved_row, IsShift-target_column}
+use Rattle.grid_moves.proofs.Shifts.{IsShift-moved_row, IsShift-target_column}
+use Rattle.grid_moves.proofs.TurnedSteps.{at_target}
 use Rattle.pentagon_map.proofs.Turns.TurnedImages.{image_by_columns-turned}
 use Rattle.pentagon_map.specs.Pentagon.{image}
 use Rattle.pentagon_map.specs.declared.Corner.{Corner}
@@ -55,12 +56,6 @@ moved_row-flipped Right n c = refl
 moved_row-flipped Up n c = refl
 moved_row-flipped Down n c = refl
 
--- the rows of a turned list, at the target of each column
-at_target : (side : Side) (n : ℕ) → 2 ≤ n → (rows : List ℕ) (d : ℕ) → d < n → slice_index (turned_rows side n rows) (target_column side n d) ≡ moved_row side n (slice_index rows d)
-at_target side n big rows d l =
-    slice_index-turned_rows side n rows (target_column side n d) ((IsShift-target_column side n big).one.small d l)
-    ∙ ap (λ e. moved_row side n (slice_index rows e)) (source-target side n d l)
-
 -- a turned list, transposed
 pub transpose-turned_rows : (side : Side) (n : ℕ) → 2 ≤ n → (rows : List ℕ) → IsBijection n rows → transpose (turned_rows side n rows) ≡ turned_rows (flipped side) n (transpose rows)
 transpose-turned_rows side n big rows s =
@@ -68,17 +63,17 @@ transpose-turned_rows side n big rows s =
     let sy = IsBijection-turned_rows side n rows s in
     let su = IsBijection-transposed n rows s in
     let sv = IsBijection-turned_rows (flipped side) n (transpose rows) su in
-    let sf = IsShift-target_column side n big in
-    let sh = IsShift-moved_row side n big in
+    let sf = IsShift-target_column side n in
+    let sh = IsShift-moved_row side n in
     let both = composed_one n (moved_row side n) (slice_index rows) sh.one (one_to_one n rows s) in
     same_list n (transpose y) (turned_rows (flipped side) n (transpose rows)) (IsBijection-transposed n y sy).long sv.long (λ r l.
     let (c, lc, is) = onto n (λ c. moved_row side n (slice_index rows c)) both.small both.apart r l in
     let lr = s.small c lc in
-    ap (slice_index (transpose y)) (sym is ∙ sym (at_target side n big rows c lc))
+    ap (slice_index (transpose y)) (sym is ∙ sym (at_target side n rows c lc))
     ∙ transpose-at n y sy (target_column side n c) (sf.one.small c lc)
     ∙ sym (moved_row-flipped side n c)
     ∙ ap (moved_row (flipped side) n) (sym (transpose-at n rows s c lc))
-    ∙ sym (at_target (flipped side) n big (transpose rows) (slice_index rows c) lr)
+    ∙ sym (at_target (flipped side) n (transpose rows) (slice_index rows c) lr)
     ∙ ap (slice_index (turned_rows (flipped side) n (transpose rows))) (target_column-flipped side n (slice_index rows c) ∙ is))
 
 -- of states

@@ -1,12 +1,9 @@
 -- A turn carries the image of a chain across columns to the image, in the turned grid, of the turned chain.
-use Rattle.std.proofs.Common.{Bool, List, ap, ap₂, arith, cond, eqb, false, refl, slice_index, subst, swap, sym, true, ℕ, ◌&&◌, ◌<◌, ◌∙◌, ◌≡◌}
+use Rattle.std.proofs.Common.{Bool, List, ap, ap₂, cond, eqb, false, refl, slice_index, subst, swap, sym, true, ℕ, ◌&&◌, ◌<◌, ◌∙◌, ◌≡◌}
 use Rattle.f2_algebra.proofs.Chains.ParityLemmas.{parity_below, parity_below-same}
 use Rattle.f2_algebra.specs.Chain.{Chain, holds, sum_over}
-use Rattle.state_rank.proofs.BijectionLemmas.{same_list}
-use Rattle.state_rank.proofs.Pigeonhole.{onto}
 use Rattle.state_rank.proofs.RankLemmas.{rank_one_to_one}
-use Rattle.rectangles.proofs.Square.RectangleTests.{in_range-between}
-use Rattle.state_rank.proofs.SwapLemmas.{exchanged, exchanged_below, slice_index-swap, IsBijection-swap}
+use Rattle.state_rank.proofs.SwapLemmas.{IsBijection-swap}
 use Rattle.state_rank.specs.Bijection.{IsBijection}
 use Rattle.state_rank.specs.States.{rank, unrank}
 use Rattle.torus_geom.proofs.Circles.TurnLemmas.{one_down_below}
@@ -14,18 +11,18 @@ use Rattle.torus_geom.specs.Range.{one_down}
 use Rattle.torus_geom.specs.Marks.{IsGrid, Marks, size}
 use Rattle.torus_geom.specs.Range.{in_range}
 use Rattle.grid_moves.proofs.CarriedChains.{eqb_alike, sum_over-carried}
-use Rattle.grid_moves.proofs.TurnLemmas.{IsGrid-turned, length-turned_rows, slice_index-turned_rows}
-use Rattle.grid_moves.proofs.TurnedStates.{IsBijection-turned_state, opposite, source-target, turned_AreInverse, turned_state-at, turned_state-back}
+use Rattle.grid_moves.proofs.TurnLemmas.{IsGrid-turned, length-turned_rows}
+use Rattle.grid_moves.proofs.TurnedStates.{IsBijection-turned_state, opposite, turned_AreInverse, turned_state-back}
 use Rattle.grid_moves.specs.Carried.{target_column, turned_chain, turned_state}
-use Rattle.grid_moves.specs.Moves.{moved_row, turned, turned_rows}
+use Rattle.grid_moves.specs.Moves.{moved_row, turned}
 use Rattle.grid_moves.specs.declared.turns.Side.{Side}
 use Rattle.pentagon_map.proofs.ChainMap.ImageOfBorder.{image_by_columns}
 use Rattle.pentagon_map.proofs.ChainMap.PentagonSums.{crossing_row-below, holds-column_image}
 use Rattle.pentagon_map.proofs.ChainMap.Pentagons.{is_open_pentagon}
 use Rattle.pentagon_map.proofs.Rows.ImageByRows.{column_image_IsOfStates}
-use Rattle.pentagon_map.proofs.Rows.Reindexing.{parity_below_reindex_both}
-use Rattle.pentagon_map.proofs.Rows.Transposing.{exchanged-row}
-use Rattle.pentagon_map.proofs.Turns.Shifts.{IsShift, IsShift-moved_row, IsShift-target_column}
+use Rattle.grid_moves.proofs.Reindexing.{parity_below_reindex_both}
+use Rattle.grid_moves.proofs.Shifts.{IsShift, IsShift-moved_row, IsShift-target_column}
+use Rattle.grid_moves.proofs.TurnedSteps.{at_target, state-at_target, swap-turned}
 use Rattle.pentagon_map.proofs.Turns.TurnedPentagons.{pentagon-turned}
 use Rattle.pentagon_map.specs.Pentagon.{column_image, crossing_row, first_met, last_met}
 use Rattle.pentagon_map.specs.declared.Corner.{Corner}
@@ -44,7 +41,7 @@ holds-named g s n e c corner =
 -- of rows that are moved, the one that is met first, or last
 first_met-moved : (n : ℕ) (h : ℕ → ℕ) → IsShift n h → (i j k : ℕ) → i < n → j < n → k < n → first_met n (h i) (h j) (h k) ≡ h (first_met n i j k)
 first_met-moved n h sh i j k li lj lk =
-    ap (λ z. cond z (h j) (h k)) (in_range-between n (h i) (h k) (h j) (sh.one.small i li) (sh.one.small k lk) (sh.one.small j lj) ∙ sh.range i k j li lk lj ∙ sym (in_range-between n i k j li lk lj))
+    ap (λ z. cond z (h j) (h k)) (sh.range i k j li lk lj)
     ∙ by (in_range n i k j)
   where
     by : (z : Bool) → cond z (h j) (h k) ≡ h (cond z j k)
@@ -53,7 +50,7 @@ first_met-moved n h sh i j k li lj lk =
 
 last_met-moved : (n : ℕ) (h : ℕ → ℕ) → IsShift n h → (i j k : ℕ) → i < n → j < n → k < n → last_met n (h i) (h j) (h k) ≡ h (last_met n i j k)
 last_met-moved n h sh i j k li lj lk =
-    ap (λ z. cond z (h k) (h j)) (in_range-between n (h i) (h k) (h j) (sh.one.small i li) (sh.one.small k lk) (sh.one.small j lj) ∙ sh.range i k j li lk lj ∙ sym (in_range-between n i k j li lk lj))
+    ap (λ z. cond z (h k) (h j)) (sh.range i k j li lk lj)
     ∙ by (in_range n i k j)
   where
     by : (z : Bool) → cond z (h k) (h j) ≡ h (cond z k j)
@@ -77,10 +74,10 @@ module _ (side : Side) (g : Marks) (s : IsGrid g) (c : ℕ) (lc : c < size g) (c
   T = turned_state side
 
   sf : IsShift n f
-  sf = IsShift-target_column side n s.is_size.least
+  sf = IsShift-target_column side n
 
   sh : IsShift n h
-  sh = IsShift-moved_row side n s.is_size.least
+  sh = IsShift-moved_row side n
 
   size_is : size t ≡ n
   size_is = length-turned_rows side n g.o
@@ -88,44 +85,18 @@ module _ (side : Side) (g : Marks) (s : IsGrid g) (c : ℕ) (lc : c < size g) (c
   lr : one_down n c < n
   lr = one_down_below n c lc
 
-  at_target : (rows : List ℕ) (d : ℕ) → d < n → slice_index (turned_rows side n rows) (f d) ≡ h (slice_index rows d)
-  at_target rows d l = slice_index-turned_rows side n rows (f d) (sf.one.small d l) ∙ ap (λ e. h (slice_index rows e)) (source-target side n d l)
-
-  state_at : (x : List ℕ) → IsBijection n x → (d : ℕ) → d < n → slice_index (T x) (f d) ≡ h (slice_index x d)
-  state_at x sx d l = turned_state-at side n x sx.long (f d) (sf.one.small d l) ∙ ap (λ e. h (slice_index x e)) (source-target side n d l)
-
   -- the crossing row moves with the marks
   crossing-turned : (corner : Corner) → crossing_row t (f c) corner ≡ h (crossing_row g c corner)
   crossing-turned Over =
       ap (λ m. first_met m (slice_index t.o (one_down m (f c))) (slice_index t.o (f c)) (slice_index t.x (f c))) size_is
       ∙ ap (λ d. first_met n (slice_index t.o d) (slice_index t.o (f c)) (slice_index t.x (f c))) (sf.before c lc)
-      ∙ (λ i. first_met n (at_target g.o (one_down n c) lr i) (at_target g.o c lc i) (at_target g.x c lc i))
+      ∙ (λ i. first_met n (at_target side n g.o (one_down n c) lr i) (at_target side n g.o c lc i) (at_target side n g.x c lc i))
       ∙ first_met-moved n h sh _ _ _ (s.o.small (one_down n c) lr) (s.o.small c lc) (s.x.small c lc)
   crossing-turned Under =
       ap (λ m. last_met m (slice_index t.o (f c)) (slice_index t.o (one_down m (f c))) (slice_index t.x (one_down m (f c)))) size_is
       ∙ ap (λ d. last_met n (slice_index t.o (f c)) (slice_index t.o d) (slice_index t.x d)) (sf.before c lc)
-      ∙ (λ i. last_met n (at_target g.o c lc i) (at_target g.o (one_down n c) lr i) (at_target g.x (one_down n c) lr i))
+      ∙ (λ i. last_met n (at_target side n g.o c lc i) (at_target side n g.o (one_down n c) lr i) (at_target side n g.x (one_down n c) lr i))
       ∙ last_met-moved n h sh _ _ _ (s.o.small c lc) (s.o.small (one_down n c) lr) (s.x.small (one_down n c) lr)
-
-  -- the exchange of two circles turns to that of their targets
-  swap-turned : (x : List ℕ) → IsBijection n x → (a b : ℕ) → a < n → b < n → swap (T x) (f a) (f b) ≡ T (swap x a b)
-  swap-turned x sx a b la lb =
-      let sy = IsBijection-swap n x a b la lb sx in
-      let st = IsBijection-turned_state side n x sx in
-      let su = IsBijection-turned_state side n (swap x a b) sy in
-      let fa = sf.one.small a la in
-      let fb = sf.one.small b lb in
-      same_list n (swap (T x) (f a) (f b)) (T (swap x a b)) (IsBijection-swap n (T x) (f a) (f b) fa fb st).long su.long (λ e le.
-      let (d, ld, is) = onto n f sf.one.small sf.one.apart e le in
-      let lx = sx.long in
-      let lt = st.long in
-      slice_index-swap (T x) (f a) (f b) e (omega arith) (omega arith)
-      ∙ ap (λ i. slice_index (T x) (exchanged (f a) (f b) i)) (sym is)
-      ∙ ap (slice_index (T x)) (exchanged-row n f sf.one a b d la lb ld)
-      ∙ state_at x sx (exchanged a b d) (exchanged_below n a b d la lb ld)
-      ∙ ap h (sym (slice_index-swap x a b d (omega arith) (omega arith)))
-      ∙ sym (state_at (swap x a b) sy d ld)
-      ∙ ap (slice_index (T (swap x a b))) is)
 
   same_rank : (y z : List ℕ) → IsBijection n y → IsBijection n z → eqb (rank (T y)) (rank (T z)) ≡ eqb (rank y) (rank z)
   same_rank y z sy sz =
@@ -143,9 +114,9 @@ module _ (side : Side) (g : Marks) (s : IsGrid g) (c : ℕ) (lc : c < size g) (c
       ∙ parity_below-same n _ _ (λ a la. parity_below-same n _ _ (λ b lb.
       ap₂ (λ u v. u && v)
       ((λ i. is_open_pentagon n (sf.before c lc i) (f c) (crossing-turned corner i) (slice_index t.o) (slice_index t.x) (slice_index (T x)) (f a) (f b))
-      ∙ pentagon-turned n f h sf sh (slice_index g.o) (slice_index g.x) (slice_index t.o) (slice_index t.x) s.o.small s.x.small (at_target g.o) (at_target g.x)
-      (slice_index x) (slice_index (T x)) sx.small (state_at x sx) (one_down n c) c w a b lr lc lw la lb)
-      (ap (λ z. eqb (rank (T y)) (rank z)) (swap-turned x sx a b la lb) ∙ same_rank y (swap x a b) sy (IsBijection-swap n x a b la lb sx))))
+      ∙ pentagon-turned n f h sf sh (slice_index g.o) (slice_index g.x) (slice_index t.o) (slice_index t.x) s.o.small s.x.small (at_target side n g.o) (at_target side n g.x)
+      (slice_index x) (slice_index (T x)) sx.small (state-at_target side n x sx) (one_down n c) c w a b lr lc lw la lb)
+      (ap (λ z. eqb (rank (T y)) (rank z)) (swap-turned side n x sx a b la lb) ∙ same_rank y (swap x a b) sy (IsBijection-swap n x a b la lb sx))))
       ∙ sym (holds-named g s n refl c corner lc x sx (rank y))
 
   -- A turn carries the image of a chain to that of the turned chain.

@@ -4,6 +4,7 @@ use Rattle.torus_geom.specs.Marks.{Marks, IsGrid}
 use Rattle.grid_moves.specs.Moves.{turned, moved_row}
 use Rattle.grid_moves.proofs.TurnLemmas.{HasTurned-more, take-turned_marks, IsGrid-turned}
 use Rattle.grid_moves.proofs.TurnedDegrees.{components-turned, maslov_o-turned, alexander-turned}
+use Rattle.grid_moves.proofs.TurnedBorders.{border-turned}
 use Rattle.grid_moves.proofs.turns.turn.Goals as goal
 
 pub loop-c-preserved : goal.loop-c-preserved
@@ -34,3 +35,6 @@ returns-clause-keeps_maslov c = maslov_o-turned c.args.side c.args.g.now c.size-
 
 pub returns-clause-keeps_alexander : goal.returns-clause-keeps_alexander
 returns-clause-keeps_alexander c = alexander-turned c.args.side c.args.g.now c.size-n.ensures.grid
+
+pub returns-clause-carries_border : goal.returns-clause-carries_border
+returns-clause-carries_border c = border-turned c.args.side c.args.g.now c.size-n.ensures.grid

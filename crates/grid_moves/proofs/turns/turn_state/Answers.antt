@@ -1,9 +1,8 @@
 -- The array begins with the turned state.
 use Rattle.std.proofs.Common.{◌≡◌, length, take, slice_index, ap, sym, ◌∙◌, arith, rules, subst}
 use Rattle.state_rank.specs.States.{IsState}
-use Rattle.grid_moves.specs.Carried.{turned_state}
 use Rattle.grid_moves.specs.Moves.{moved_row}
-use Rattle.grid_moves.proofs.TurnLemmas.{HasTurned, HasTurned-more}
+use Rattle.grid_moves.proofs.TurnLemmas.{HasTurned-more}
 use Rattle.grid_moves.proofs.TurnedStates.{take-turned_state, IsState-turned_state, length-turned_state}
 use Rattle.grid_moves.proofs.turns.turn_state.Goals as goal
 

@@ -1,8 +1,7 @@
 -- The exchanges with the circles so far are appended.
-use Rattle.std.proofs.Common.{◌≡◌, ◌+◌, ◌-◌, ◌≤◌, ◌++◌, length, take, reverse}
+use Rattle.std.proofs.Common.{◌≡◌, ◌+◌, ◌≤◌, ◌++◌, length, take}
 use Rattle.state_rank.specs.Bijection.{ascending}
-use Rattle.state_rank.specs.States.{transpose}
-use Rattle.pentagon_map.specs.Inner.Exchanges.{picked, lowers, is_right, raises}
+use Rattle.pentagon_map.specs.Inner.Exchanges.{picked, lowers}
 use Rattle.pentagon_map.proofs.exchanges.push_lowering.Given as goal
 
 abbrev pub invariant-loop-b : goal.invariant-loop-b

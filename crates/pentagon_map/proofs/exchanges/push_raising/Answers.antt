@@ -1,9 +1,9 @@
 -- Each circle whose test holds gives one exchange more.
-use Rattle.std.proofs.Common.{◌≡◌, ◌+◌, ◌-◌, ◌∷◌, ◌++◌, [], length, reverse, slice_index, swap, ap, ◌∙◌, sym, arith}
+use Rattle.std.proofs.Common.{◌-◌, ◌∷◌, ◌++◌, [], length, reverse, ap, ◌∙◌, arith}
 use Rattle.std.proofs.lemmas.List.{length-append}
 use Rattle.state_rank.specs.Bijection.{ascending}
 use Rattle.rectangles.proofs.Sweep.PushLemmas.{slice_index-descending, length-descending}
-use Rattle.pentagon_map.specs.Inner.Exchanges.{picked, raises, is_set}
+use Rattle.pentagon_map.specs.Inner.Exchanges.{raises}
 use Rattle.pentagon_map.proofs.Targets.PushLemmas.{picked_yes, picked_no, picked_all, raises_is, at_next}
 use Rattle.pentagon_map.proofs.exchanges.push_raising.Goals as goal
 

@@ -1,8 +1,7 @@
 -- The exchanges with the circles so far are appended.
-use Rattle.std.proofs.Common.{◌≡◌, ◌+◌, ◌-◌, ◌≤◌, ◌++◌, length, take, reverse}
-use Rattle.state_rank.specs.Bijection.{ascending}
+use Rattle.std.proofs.Common.{◌≡◌, ◌+◌, ◌≤◌, ◌++◌, length, take}
 use Rattle.state_rank.specs.States.{transpose}
-use Rattle.pentagon_map.specs.Inner.Exchanges.{picked, lowers, is_right, raises}
+use Rattle.pentagon_map.specs.Inner.Exchanges.{picked, is_right}
 use Rattle.pentagon_map.proofs.exchanges.push_sideways.Given as goal
 
 abbrev pub invariant-loop-r : goal.invariant-loop-r

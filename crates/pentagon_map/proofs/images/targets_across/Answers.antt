@@ -1,5 +1,5 @@
 -- The exchanges in order are the image, across columns or across rows.
-use Rattle.std.proofs.Common.{◌∙◌, arith}
+use Rattle.std.proofs.Common.{arith}
 use Rattle.pentagon_map.proofs.Targets.OddSums.{columns_listed, rows_listed, states_listed}
 use Rattle.pentagon_map.proofs.images.targets_across.Goals as goal
 

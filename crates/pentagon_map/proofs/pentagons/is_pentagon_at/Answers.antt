@@ -1,5 +1,5 @@
 -- The tests of the definition, those without a loop first.
-use Rattle.std.proofs.Common.{true, false, true≢false, ◌&&◌, refl, ap, ◌∙◌, sym}
+use Rattle.std.proofs.Common.{true≢false, ◌&&◌, ap, ◌∙◌, sym}
 use Rattle.torus_geom.specs.Rectangle.{is_empty}
 use Rattle.pentagon_map.specs.Pentagon.{is_unmarked_beside}
 use Rattle.pentagon_map.proofs.Targets.PushLemmas.{leaving_is, pentagon_by_parts}

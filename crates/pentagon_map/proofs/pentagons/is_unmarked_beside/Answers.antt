@@ -1,5 +1,5 @@
 -- A mark beside the two columns makes the test of its column fail.
-use Rattle.std.proofs.Common.{◌≡◌, Bool, true, false, not, ◌&&◌, ◌||◌, eqb, refl, ap, ◌∙◌, sym, arith}
+use Rattle.std.proofs.Common.{◌≡◌, Bool, not, ◌&&◌, ◌||◌, eqb, refl, ap, ◌∙◌, sym, arith}
 use Rattle.f2_algebra.proofs.Chains.Tables.{same}
 use Rattle.torus_geom.specs.Range.{one_down}
 use Rattle.torus_geom.specs.Marks.{size}
