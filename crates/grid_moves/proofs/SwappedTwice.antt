@@ -43,3 +43,19 @@ swapped-swapped Rows g s c l =
     ap (λ h. transposed (swapped_columns h c)) (transposed-transposed (swapped_columns t c) (IsGrid-swapped_columns t c st lt))
     ∙ ap transposed (columns-twice t st c lt)
     ∙ transposed-transposed g s
+
+-- the exchanged grid has the same size
+pub size-swapped : (axis : Axis) (g : Marks) (c : ℕ) → size (swapped axis g c) ≡ size g
+size-swapped Cols g c = length-swap g.o (one_down (size g) c) c
+size-swapped Rows g c =
+    let t : Marks = transposed g in
+    size-transposed (swapped_columns t c) ∙ length-swap t.o (one_down (size t) c) c ∙ size-transposed g
+
+-- and is a grid
+pub IsGrid-swapped : (axis : Axis) (g : Marks) → IsGrid g → (c : ℕ) → c < size g → IsGrid (swapped axis g c)
+IsGrid-swapped Cols g s c l = IsGrid-swapped_columns g c s l
+IsGrid-swapped Rows g s c l =
+    let t : Marks = transposed g in
+    let st = IsGrid-transposed g s in
+    let lt : c < size t = let e = size-transposed g in omega arith in
+    IsGrid-transposed (swapped_columns t c) (IsGrid-swapped_columns t c st lt)

@@ -1,12 +1,12 @@
 -- The codes of a chain one by one: the least, those that pass a test, how many they are.
-use Rattle.std.proofs.Common.{◌≡◌, ℕ, zero, suc, ◌+◌, ◌<◌, ◌≤◌, Bool, true, false, not, cond, ◌&&◌, ◌||◌, eqb, List, [], ◌∷◌, length, drop, slice_index, get_or, All, Option, Some, None, refl, sym, ap, ap₂, subst, ◌∙◌, add-one, inl, inr, arith}
+use Rattle.std.proofs.Common.{◌≡◌, ℕ, zero, suc, ◌+◌, ◌<◌, ◌≤◌, Bool, true, false, cond, ◌&&◌, ◌||◌, eqb, List, [], ◌∷◌, length, drop, slice_index, All, Option, refl, sym, ap, ap₂, subst, ◌∙◌, add-one, inl, inr, arith}
 use Rattle.std.specs.List.{filter, slice_get}
 use Rattle.std.specs.List.Sorted.{IsStrictlyIncreasing}
 use Rattle.std.specs.Option.{IfSome, IsNone}
 use Rattle.std.proofs.Math.Seq.{drop-cons, drop-length}
 use Rattle.std.proofs.lemmas.Bool.{cases_Bool, eqb-true, eq-eqb, false≢true}
 use Rattle.f2_algebra.specs.Chain.{Chain, holds, codes, nothing, single, of_codes, ◌⊕◌, where_code}
-use Rattle.f2_algebra.proofs.Chains.Sets.{any, any-filter, same_chain, holds-nothing, holds-codes, holds-of_codes, IsApart, IsApart-codes, cardinality, cardinality-length, cardinality-of_codes}
+use Rattle.f2_algebra.proofs.Chains.Sets.{any, any-filter, same_chain, holds-nothing, holds-codes, IsApart, IsApart-codes, cardinality-length, cardinality-of_codes}
 use Rattle.f2_algebra.proofs.Chains.Sums.{add_assoc, add-nothing, nothing-add}
 use Rattle.f2_algebra.proofs.Chains.Lists.{of_codes-cons, rising-codes, rises}
 use Rattle.legendrian_class.specs.Inner.Parts.{IsLeast}

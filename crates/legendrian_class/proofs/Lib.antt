@@ -1,3 +1,5 @@
+pub mod BoundsLemmas
 pub mod ChainLemmas
+pub mod FollowedLemmas
 pub mod PartLemmas
 pub mod VerdictLemmas

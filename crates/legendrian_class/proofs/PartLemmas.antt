@@ -1,12 +1,12 @@
 -- The part of a cycle at one Alexander degree, and what its verdict says of the whole.
 -- Route: the part at a is a cycle of the slice at a; its verdict there is one in the grid complex; null parts with no
 -- code in common add up, and a part that is alive keeps the whole alive.
-use Rattle.std.proofs.Common.{◌≡◌, ◌≢◌, ℕ, ℤ, ◌<◌, Bool, true, false, not, cond, ◌&&◌, List, All, Some, None, is_some, refl, sym, ap, ap₂, subst, ◌∙◌, inl, inr, length}
+use Rattle.std.proofs.Common.{◌≡◌, ℕ, ℤ, ◌<◌, Bool, true, false, not, cond, ◌&&◌, List, Some, None, is_some, refl, sym, ap, ap₂, subst, ◌∙◌, inl, inr, length}
 use Rattle.std.specs.Ordering.{int_eq}
-use Rattle.std.proofs.lemmas.Bool.{cases_Bool, false≢true, and_parts, and_from}
+use Rattle.std.proofs.lemmas.Bool.{cases_Bool, false≢true, and_parts}
 use Rattle.std.proofs.lemmas.Bool.Decides.{Decides-int_eq}
-use Rattle.f2_algebra.specs.Chain.{Chain, holds, codes, nothing, single, ◌⊕◌, sum_over, where_code}
-use Rattle.f2_algebra.specs.Complex.{Complex, arrow, border, IsComplex, AllCells, AllOfDegree}
+use Rattle.f2_algebra.specs.Chain.{Chain, holds, codes, nothing, single, ◌⊕◌, where_code}
+use Rattle.f2_algebra.specs.Complex.{Complex, arrow, border, IsComplex, AllCells}
 use Rattle.f2_algebra.specs.Cancel.{Entry, IsLog, after, rest, pull, correction}
 use Rattle.f2_algebra.specs.Slice.{Slice, slice_complex, IsReduced}
 use Rattle.f2_algebra.specs.Bigraded.{first_at, at_second}
@@ -19,12 +19,11 @@ use Rattle.f2_algebra.proofs.Cancelling.LogLemmas.{none_where, correction-by}
 use Rattle.f2_algebra.proofs.Ranks.Bigraded.{with_second, at_second_IsPartOf}
 use Rattle.f2_algebra.proofs.Certificates.Verdict.{null_by_correction, alive_by_pull}
 use Rattle.f2_algebra.proofs.Certificates.VerdictParts.{null_of_part, alive_of_part, null_sum, alive_sum}
-use Rattle.state_rank.specs.States.{factorial, unrank}
+use Rattle.state_rank.specs.States.{factorial}
 use Rattle.torus_geom.specs.Marks.{Marks, size, IsGrid}
-use Rattle.torus_geom.specs.Degrees.{alexander}
 use Rattle.torus_geom.specs.GridComplex.{grid_complex}
 use Rattle.rectangles.proofs.Law.GridComplexLemmas.{grid_complex_rules}
-use Rattle.sparse_complex.proofs.GridPartLemmas.{part_rules, degree-cell, degree-other, no_cell_past}
+use Rattle.sparse_complex.proofs.GridPartLemmas.{part_rules, degree-cell, degree-other}
 use Rattle.legendrian_class.specs.States.{HasStates}
 use Rattle.legendrian_class.specs.Verdicts.{alexander_at}
 use Rattle.legendrian_class.specs.Inner.Parts.{has_alexander, IsNullBut}

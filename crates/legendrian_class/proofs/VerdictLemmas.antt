@@ -1,10 +1,10 @@
 -- Verdicts in the field's words, from those of the grid complex; each chain of states has one, and no two.
-use Rattle.std.proofs.Common.{◌≡◌, ℕ, zero, suc, ◌<◌, ◌≤◌, ℤ, pos, ◌+ℤ◌, Bool, true, false, ◌||◌, eqb, cond, List, [], ◌∷◌, Some, None, if◌then◌else◌, is_some, ltb, ◌⊎◌, inl, inr, refl, sym, ap, ap₂, subst, ◌∙◌, arith}
+use Rattle.std.proofs.Common.{◌≡◌, ℕ, zero, suc, ◌<◌, ◌≤◌, ℤ, pos, ◌+ℤ◌, Bool, true, false, ◌||◌, eqb, cond, List, [], ◌∷◌, Some, None, if◌then◌else◌, is_some, ltb, inl, inr, refl, sym, ap, ◌∙◌, arith}
 use Rattle.std.proofs.lemmas.Bool.{cases_eq, cases_lt, eq-eqb, lt-ltb, ltb-true, false≢true}
 use Rattle.f2_algebra.specs.Chain.{Chain, holds, nothing, pairs_oddly}
-use Rattle.f2_algebra.specs.Complex.{Complex, AllCells, border as border_in}
+use Rattle.f2_algebra.specs.Complex.{AllCells}
 use Rattle.f2_algebra.specs.Bigraded.{up_m}
-use Rattle.f2_algebra.specs.Verdict.{IsNotCycleBy, IsNullBy, IsAliveBy}
+use Rattle.f2_algebra.specs.Verdict.{IsNullBy, IsAliveBy}
 use Rattle.f2_algebra.proofs.Chains.Sets.{any, holds-nothing, weight-nothing, pairs_oddly-weight}
 use Rattle.f2_algebra.proofs.Chains.Lists.{All-codes}
 use Rattle.f2_algebra.proofs.Cancelling.Cancellation.{same_some}
@@ -12,13 +12,13 @@ use Rattle.f2_algebra.proofs.Certificates.Verdict.{even_with_borders, exists_ver
 use Rattle.state_rank.specs.States.{factorial, unrank}
 use Rattle.torus_geom.specs.Marks.{Marks, size, IsGrid}
 use Rattle.torus_geom.specs.Border.{border_of_state, border}
-use Rattle.torus_geom.specs.Degrees.{maslov_o, alexander, bidegree}
+use Rattle.torus_geom.specs.Degrees.{bidegree}
 use Rattle.torus_geom.specs.GridComplex.{grid_complex}
 use Rattle.rectangles.proofs.Square.BorderLemmas.{border-border, border-grid_complex, border-below}
 use Rattle.rectangles.proofs.Law.GridComplexLemmas.{grid_complex_rules}
 use Rattle.legendrian_class.specs.declared.verdicts.ClassVerdict.TheVariants as verdict
 use Rattle.legendrian_class.specs.States.{HasStates}
-use Rattle.legendrian_class.specs.Verdicts.{IsOneAbove, HaveOneDegree, IsBorderOf, IsNotCycle, IsNull, IsAlive, IsVerdict, HasVerdict, HasOneVerdict}
+use Rattle.legendrian_class.specs.Verdicts.{IsNotCycle, IsNull, IsAlive, HasVerdict, HasOneVerdict}
 use Rattle.legendrian_class.proofs.ChainLemmas.{each_code}
 
 -- ---- the cells of the grid complex

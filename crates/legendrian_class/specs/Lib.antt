@@ -1,4 +1,5 @@
 pub mod States
 pub mod Verdicts
+pub mod Bounds
 pub mod Followed
 pub mod Inner

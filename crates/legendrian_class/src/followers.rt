@@ -1,14 +1,25 @@
-//! A chain that is followed.
-ghost use Rattle.std.specs.Prelude.{◌≡◌};
-ghost use Rattle.f2_algebra.specs.Chain.{nothing};
+//! A chain that is followed through moves of its grid.
+ghost use Rattle.std.specs.Prelude.{◌≡◌, ◌↔◌, ◌<◌, All, IfOk, IsTrue, OnErr, OnOk};
+ghost use Rattle.f2_algebra.specs.Chain.{codes as codes_of};
+ghost use Rattle.state_rank.specs.Bijection.{IsSize};
+ghost use Rattle.state_rank.specs.States.{factorial};
+ghost use Rattle.torus_geom.specs.Marks.{size};
+ghost use Rattle.grid_moves.specs.Carried.{turned_chain};
+ghost use Rattle.grid_moves.specs.Moves.{are_commuting, swapped};
+ghost use Rattle.legendrian_class.specs.Bounds.{Bounds, minus_chain, plus_chain};
+ghost use Rattle.legendrian_class.specs.Followed.{after_commutation, after_turn, at_start};
 ghost use Rattle.legendrian_class.specs.States.{HasStates};
 
-use f2_chain::{Chain, CodeSet};
+use f2_chain::{Builder, Chain, CodeSet};
+use grid_moves::{Axis, Side, swap, turn_state};
+use grid_ports::NoMemory;
+use pentagon_map::{Corner, image};
+use state_rank::State;
 use std::alloc::Global;
 use std::marker::Model;
 use torus_geom::Grid;
 
-/// A grid and a chain of its states.
+/// A grid and a chain of its states, which follows the moves of the grid.
 #[derive(Drop)]
 pub struct Follower {
     grid: Grid,
@@ -32,8 +43,7 @@ impl Model for Follower {
 impl Follower {
     /// The grid `g` and the empty chain. It takes no memory.
     pub fn new(alloc: Global, g: &Grid) -> Follower
-        ensures grid { result.grid ≡ g.now }
-        ensures chain { result.chain ≡ nothing }
+        ensures { result ≡ at_start g.now }
     {
         Follower {
             grid: *g,
@@ -64,4 +74,63 @@ impl Follower {
     {
         &self.chain
     }
+    /// Turns the grid by one column or row to `side`, and each state of the chain with it.
+    ///
+    /// # Errors
+    ///
+    /// `NoMemory` if the allocator refuses; grid and chain are as before.
+    pub fn turn(&mut self, alloc: Global, side: Side) -> Result<(), NoMemory>
+        ensures after { OnOk result (self.new ≡ after_turn side self.old) }
+        ensures unchanged { OnErr result (self.new ≡ self.old) }
+    {
+        let n = self.grid.size();
+        self.chain = turned_states(alloc, n, side, &self.chain)?;
+        self.grid = grid_moves::turn(&self.grid, side);
+        Ok(())
+    }
+
+    /// Exchanges columns (or rows) `c - 1` and `c` of the grid, and takes the image of the chain, for the
+    /// crossing that `corner` chooses. At `c` = 0 they are the last and the first.
+    ///
+    /// # Errors
+    ///
+    /// `NoMemory` if the allocator refuses; grid and chain are as before.
+    pub fn commute(
+        &mut self,
+        alloc: Global,
+        axis: Axis,
+        c: u8,
+        corner: Corner,
+    ) -> Result<(), NoMemory>
+        requires below { c < size self.old.grid }
+        requires commutes { IsTrue (are_commuting axis self.old.grid c) }
+        ensures after { OnOk result (self.new ≡ after_commutation axis c corner self.old) }
+        ensures unchanged { OnErr result (self.new ≡ self.old) }
+
+        // Whatever the call answers: x+ bounds in the grid exactly where it bounds in the exchanged grid.
+        ensures plus_bounds { Bounds self.old.grid (plus_chain self.old.grid)
+            ↔ Bounds (swapped axis self.old.grid c) (plus_chain (swapped axis self.old.grid c)) }
+
+        // And so does x-.
+        ensures minus_bounds { Bounds self.old.grid (minus_chain self.old.grid)
+            ↔ Bounds (swapped axis self.old.grid c) (minus_chain (swapped axis self.old.grid c)) }
+    {
+        let _ = self.grid.size();
+        self.chain = image(alloc, &self.grid, axis, c, corner, &self.chain)?;
+        self.grid = swap(&self.grid, axis, c);
+        Ok(())
+    }
+}
+
+// The chain of the turned states of `z`, of size `n`.
+fn turned_states(alloc: Global, n: u8, side: Side, z: &Chain) -> Result<Chain, NoMemory>
+    requires is_size { IsSize n }
+    requires states { All (λ code. code < factorial n) (codes_of z.now) }
+    ensures { IfOk result (λ y. y ≡ turned_chain side n z.now) }
+{
+    let mut turned = Builder::new(alloc);
+    for code in z.codes() {
+        turned.toggle(turn_state(&State::unrank(n, *code), side).rank())?;
+    }
+    turned.finish()
 }

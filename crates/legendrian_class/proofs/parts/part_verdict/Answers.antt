@@ -1,5 +1,5 @@
 -- By what is left of the part after the log.
-use Rattle.std.proofs.Common.{◌≡◌, refl, sym, ap, ◌∙◌, w32, rules}
+use Rattle.std.proofs.Common.{refl, sym, ap, ◌∙◌, w32, rules}
 use mir.Val.{SFits}
 use Rattle.std.proofs.lemmas.Int.{to_z-of_z}
 use Rattle.f2_algebra.specs.Chain.{holds}

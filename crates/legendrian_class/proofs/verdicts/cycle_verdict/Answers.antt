@@ -2,7 +2,7 @@
 use Rattle.std.proofs.Common.{◌≡◌, ◌<◌, ℤ, length, refl, sym, ap, ap₂, subst, ◌∙◌, w32, rules}
 use mir.Val.{SFits, of_z, to_z}
 use Rattle.std.proofs.lemmas.Int.{to_z-of_z}
-use Rattle.f2_algebra.specs.Chain.{codes, nothing, ◌⊕◌}
+use Rattle.f2_algebra.specs.Chain.{codes}
 use Rattle.f2_algebra.specs.Complex.{AllCells, border}
 use Rattle.f2_algebra.specs.Bigraded.{at_second}
 use Rattle.state_rank.specs.States.{factorial, unrank}
