@@ -4,23 +4,18 @@ use Rattle.std.specs.List.{AllPairs, Contains}
 use Rattle.std.proofs.lemmas.Bool.{cases_Bool, eqb-true, true≢false}
 use Rattle.std.proofs.lemmas.List.{take_more, take_all, length-map, get_or-map}
 use Rattle.std.proofs.lemmas.List.Elements.{All-contains, All-head, All-map, All-tail}
-use Rattle.f2_algebra.specs.Chain.{Chain, codes, nothing, of_codes, single, ◌⊕◌}
+use Rattle.f2_algebra.specs.Chain.{of_codes, single, ◌⊕◌}
 use Rattle.f2_algebra.proofs.Chains.Lists.{All-codes}
-use Rattle.f2_algebra.proofs.Chains.Sets.{any, any-append, holds-add, holds-nothing, holds-of_codes, holds-single, same_chain}
+use Rattle.f2_algebra.proofs.Chains.Sets.{any, any-append, holds-add, holds-of_codes, holds-single, same_chain}
 use Rattle.f2_algebra.proofs.Chains.Tables.{◌⊻◌}
 use Rattle.state_rank.specs.Bijection.{IsBijection}
 use Rattle.state_rank.specs.States.{IsState, rank, factorial}
 use Rattle.state_rank.proofs.MemberLemmas.{member_cases, pairs_head, pairs_tail}
 use Rattle.state_rank.proofs.RankLemmas.{rank-below, ranks_rise}
-use Rattle.torus_geom.specs.Marks.{Marks, size, IsGrid}
-use Rattle.grid_moves.specs.Moves.{swapped}
-use Rattle.grid_moves.specs.declared.commutations.Axis.{Axis}
-use Rattle.pentagon_map.specs.declared.Corner.{Corner}
-use Rattle.grid_text.specs.Commands.{IsAllowed, IsStateOf}
-use Rattle.grid_text.specs.declared.commands.Command.TheVariants as command
-use Rattle.grid_text.proofs.Lines.ScriptLemmas.{IsGridOf-grid_after}
+use Rattle.torus_geom.specs.Marks.{Marks, size}
+use Rattle.grid_text.specs.Commands.{IsStateOf}
 use Rattle.grid_text.specs.States.{AreStates}
-use Rattle.grid_job.specs.Inner.Ranks.{AreRanks}
+use Rattle.legendrian_class.specs.States.{HasStates}
 
 -- ---- codes that rise
 not_above : (c x : ℕ) → x < c → eqb c x ≡ false
@@ -89,17 +84,8 @@ any-below n (c ∷ cs) q below held = elim (cases_Bool (eqb q c)) [
 rank-below_state : (g : Marks) (x : List ℕ) → IsStateOf g x → rank x < factorial (size g)
 rank-below_state g x state = rank-below (size g) x (subst (λ n. IsBijection n x) state.same_size state.state.bijection)
 
-pub ranks-below : (g : Marks) (xs : List (List ℕ)) → All (IsStateOf g) xs → AreRanks g (of_codes (map rank xs))
+pub ranks-below : (g : Marks) (xs : List (List ℕ)) → All (IsStateOf g) xs → HasStates g (of_codes (map rank xs))
 ranks-below g xs states =
     let n = factorial (size g) in
     let ranks = All-map (λ c. c < n) rank xs (λ i d l. rank-below_state g (get_or xs i d) (states i d l)) in
     All-codes (λ c. c < n) (of_codes (map rank xs)) (λ q held. any-below n (map rank xs) q ranks (sym (holds-of_codes (map rank xs) q) ∙ held))
-
-pub AreRanks-nothing : (g : Marks) → AreRanks g nothing
-AreRanks-nothing g = All-codes (λ c. c < factorial (size g)) nothing (λ q held. absurd (true≢false (sym held ∙ holds-nothing q)))
-
--- an exchange keeps the size of the grid
-pub AreRanks-commuted : (g h : Marks) (axis : Axis) (c : ℕ) (corner : Corner) (z : Chain) → IsGrid g → IsAllowed g (command.Commute axis c corner) → h ≡ swapped axis g c → AreRanks g z → AreRanks h z
-AreRanks-commuted g h axis c corner z grid allowed is ranks =
-    let same = (IsGridOf-grid_after (size g) g (command.Commute axis c corner) (record { grid = grid; same_size = refl }) allowed).same_size in
-    subst (λ k. AreRanks k z) (sym is) (subst (λ n. All (λ code. code < factorial n) (codes z)) (sym same) ranks)

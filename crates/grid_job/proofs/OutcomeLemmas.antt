@@ -52,7 +52,6 @@ one_status Run text Refused No a b x y = absurd y
 built_or_not : (c : Command) → IsBuiltCommand c ⊎ (IsBuiltCommand c → ⊥)
 built_or_not (command.Class sign) = inr (λ b. b)
 built_or_not command.Bounds = inr (λ b. b)
-built_or_not (command.Turn side) = inr (λ b. b)
 built_or_not other = inl tt
 
 pub all_built_or_not : (cs : List Command) → All IsBuiltCommand cs ⊎ (All IsBuiltCommand cs → ⊥)

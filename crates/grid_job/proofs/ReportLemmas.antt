@@ -27,7 +27,7 @@ exists_answer p (command.Border x) grid built = (_, refl)
 exists_answer p (command.Chain z) grid built = ([], refl)
 exists_answer p command.Show grid built = (_, refl)
 exists_answer p command.Bounds grid built = absurd built
-exists_answer p (command.Turn side) grid built = absurd built
+exists_answer p (command.Turn side) grid built = ([], refl)
 exists_answer p (command.Commute axis c corner) grid built = ([], refl)
 
 grid-after : (g : Marks) (c : Command) → IsGrid g → IsAllowed g c → IsGrid (grid_after g c)

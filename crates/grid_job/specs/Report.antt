@@ -24,7 +24,6 @@ use Rattle.grid_job.specs.Hat.{IsHatText}
 abbrev pub IsBuiltCommand : Command → Type 0
 IsBuiltCommand (command.Class sign) = ⊥
 IsBuiltCommand command.Bounds = ⊥
-IsBuiltCommand (command.Turn side) = ⊥
 IsBuiltCommand other = Unit {0}
 
 abbrev pub IsBuilt : GridScript → Type 0
@@ -37,8 +36,8 @@ pub record IsTableText (g : Marks) (text : List ℕ) : Type 0 where
   pub lines : text ≡ table_lines rows
 
 -- the classical invariants of the front; the table of ranks; the hat, or that there is none; the states of the border,
--- and those of the chain in force, in ascending order; nothing where a command makes a chain. The other commands have
--- no answer yet
+-- and those of the chain in force, in ascending order; nothing where a command makes what is in force. The other
+-- commands have no answer yet
 abbrev pub IsAnswer : InForce → Command → List ℕ → Type 0
 IsAnswer p command.Front text = text ≡ front_line (thurston_bennequin p.grid) (rotation p.grid) (components p.grid)
 IsAnswer p command.Ranks text = IsTableText p.grid text
@@ -48,7 +47,7 @@ IsAnswer p (command.Border x) text = text ≡ set_line (codes "border") (size p.
 IsAnswer p (command.Chain z) text = text ≡ []
 IsAnswer p command.Show text = text ≡ set_line (codes "chain") (size p.grid) p.chain
 IsAnswer p command.Bounds text = ⊥
-IsAnswer p (command.Turn side) text = ⊥
+IsAnswer p (command.Turn side) text = text ≡ []
 IsAnswer p (command.Commute axis c corner) text = text ≡ []
 
 -- one answer to each command, in order, and nothing else

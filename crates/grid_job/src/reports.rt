@@ -12,11 +12,12 @@ ghost use Rattle.grid_job.specs.InForce.{at_start};
 ghost use Rattle.grid_job.specs.Report.{IsBuiltCommand, IsAnswer, AreAnswers, IsTableText};
 
 use crate::hats::hat_text;
-use crate::in_force::InForce;
+use crate::in_force::follow;
 use front_data::front;
 use grid_ports::{NoMemory, Sink, WriteFault, write_all};
 use grid_text::Command;
 use homology_cert::rank_table;
+use legendrian_class::Follower;
 use rectangles::border_of_state;
 use report_text::{front_line, set_line, table_lines};
 use state_rank::State;
@@ -69,7 +70,7 @@ fn is_built(command: &Command) -> bool
     ensures { IsTrue result ↔ IsBuiltCommand command.now }
 {
     match command {
-        Command::Class(_) | Command::Bounds | Command::Turn(_) => false,
+        Command::Class(_) | Command::Bounds => false,
         _ => true,
     }
 }
@@ -93,17 +94,17 @@ pub fn write_report<K: Sink>(
     ensures no_memory { IsErrOf result ReportEnd.NoMemory → K.faults out.new ≡ K.faults out.old }
 {
     let _ = g.size();
-    let mut in_force = InForce::at_start(alloc, g);
+    let mut in_force = Follower::new(alloc, g);
     for command in commands {
         let text = answer_to(alloc, &in_force, command)?;
         write_all(out, &text)?;
-        in_force.follow(alloc, command)?;
+        follow(alloc, &mut in_force, command)?;
     }
     Ok(())
 }
 
 // An answer to a command.
-fn answer_to(alloc: Global, p: &InForce, command: &Command) -> Result<Vec<u8>, NoMemory>
+fn answer_to(alloc: Global, p: &Follower, command: &Command) -> Result<Vec<u8>, NoMemory>
     requires built { IsBuiltCommand command.now }
     requires allowed { IsAllowed p.now.grid command.now }
     ensures { IfOk result (λ text. IsAnswer p.now command.now text.items) }
@@ -115,7 +116,7 @@ fn answer_to(alloc: Global, p: &InForce, command: &Command) -> Result<Vec<u8>, N
         Command::Hat => hat_text(alloc, g),
         Command::Border(state) => border_line(alloc, g, state),
         Command::Show => set_line(alloc, "chain", g.size(), p.chain()),
-        Command::Chain(_) | Command::Commute(_, _, _) => Ok(Vec::new(alloc)),
+        Command::Chain(_) | Command::Turn(_) | Command::Commute(_, _, _) => Ok(Vec::new(alloc)),
         _ => unreachable!(),
     }
 }

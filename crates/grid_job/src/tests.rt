@@ -150,18 +150,18 @@ const FAULTS: [(&str, &str, &str); 18] = [
     (SMALL, "cols 1 over\nend\n", "refused NotCommuting line 4\n"),
     (SMALL, "class +\nend\n", "refused NotBuilt line 0\n"),
     (SMALL, "bounds\nend\n", "refused NotBuilt line 0\n"),
-    (SMALL, "turn left\nend\n", "refused NotBuilt line 0\n"),
     (SMALL, "show\nfronts\n", "refused BadWord line 5\n"),
 ];
 
-/// Documents with chains and commutations, each in two parts, and their reports.
-const FOLLOWED: [(&str, &str, &str); 8] = [
+/// Documents with chains and moves, each in two parts, and their reports.
+const FOLLOWED: [(&str, &str, &str); 9] = [
     (
         "grid 3\nO 2 1 0\nX 1 0 2\n",
         "chain 120 012\nshow\nend\n",
         "chain 012 120\n",
     ),
     (SMALL, "show\nchain\nshow\nend\n", "chain\nchain\n"),
+    (SMALL, "chain 01\nturn left\nshow\nend\n", "chain 10\n"),
     (
         "grid 4\nO 0 2 1 3\nX 1 3 2 0\n",
         "chain 1203\ncols 1 over\nshow\nend\n",

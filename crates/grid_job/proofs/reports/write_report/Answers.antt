@@ -29,7 +29,7 @@ loop-command-preserved g c =
     let command = c.command-item in
     let now = c.loop-command.in_force in
     let answer = IsAnswer-same now now command.result _ c.in_ok-text.text.items c.deref.result.now refl command.is (sym c.deref.ensures.value) c.in_ok-text.ensures in (
-      IsPast-next (at_start c.args.g.now) c.args.commands.now c.loop-command.command-index now c.follow.new.self command.result c.deref.result.now _ _ _
+      IsPast-next (at_start c.args.g.now) c.args.commands.now c.loop-command.command-index now c.follow.new.p command.result c.deref.result.now _ _ _
           c.loop-command-test.true answer (c.in_ok-follow.ensures.after ∙ ap (after now) command.is) c.loop-command.invariant.0 (c.in_ok-write_all.ensures.all),
       c.in_ok-write_all.ensures.no_fault ∙ c.loop-command.invariant.1,
     )
@@ -47,8 +47,8 @@ returns-in_err-follow-clause-part g c =
     IsPast-prefix_of_next (at_start c.args.g.now) c.args.commands.now c.loop-command.command-index now command.result c.deref.result.now _ _ _
     c.size.ensures.grid c.requires.built c.requires.allowed c.loop-command-test.true answer c.loop-command.invariant.0 c.write_all.ensures.prefix
 
-pub follow-requires-clause-allowed : goal.follow-requires-clause-allowed
-follow-requires-clause-allowed g c =
+pub follow-requires : goal.follow-requires
+follow-requires g c =
     let command = c.command-item in
     subst (IsAllowed c.loop-command.in_force.grid) (sym command.is)
     (IsAllowed-next (at_start c.args.g.now) c.args.commands.now c.loop-command.command-index c.loop-command.in_force command.result _ _
