@@ -11,7 +11,7 @@ const HAT: &str = "grid 2\nO 1 0\nX 0 1\nranks\nhat\nend\n";
 
 /// Calls: the words, what the source has, the read and the write that fail (counted from 1, each moves
 /// one byte), the exit status, and what is written.
-const ROWS: [(&str, &str, (u64, u64), u8, &str); 22] = [
+const ROWS: [(&str, &str, (u64, u64), u8, &str); 24] = [
     ("run", UNKNOT, (0, 0), 0, "front tb -1 rot 0 components 1\n"),
     (
         "run",
@@ -35,6 +35,13 @@ const ROWS: [(&str, &str, (u64, u64), u8, &str); 22] = [
         "front tb 11 rot 0 components 1\n",
     ),
     ("run", "grid 2\nO 1 0\nX 0 1\nend\n", (0, 0), 0, ""),
+    (
+        "run",
+        "# unknot\r\n\r\npicture 2\r\nOX\r\nX O\r\nfront\r\nend\r\n",
+        (0, 0),
+        0,
+        "front tb -1 rot 0 components 1\n",
+    ),
     (
         "run",
         "grid 2\n# note\nO 1 0\nX 0 1\nranks\nend\n\n",
@@ -121,7 +128,7 @@ const SMALL: &str = "grid 2\nO 1 0\nX 0 1\n";
 const LARGE: &str = "grid 5\nO 0 1 2 3 4\nX 2 3 4 0 1\n";
 
 /// Texts that are refused, each in two parts, and the line that says so.
-const FAULTS: [(&str, &str, &str); 18] = [
+const FAULTS: [(&str, &str, &str); 19] = [
     (LARGE, "cols 1 over\nend\n", "refused NotCommuting line 4\n"),
     (SMALL, "", "refused NoEnd line 4\n"),
     (SMALL, "end\nfront\n", "refused AfterEnd line 5\n"),
@@ -137,6 +144,12 @@ const FAULTS: [(&str, &str, &str); 18] = [
         "refused NotPermutation line 2\n",
     ),
     ("", "", "refused NoEnd line 1\n"),
+    (
+        "picture 2\nOX\n",
+        "OX\nend\n",
+        "refused NotPermutation line 3\n",
+    ),
+    ("picture 2\nO\n", "X O\nend\n", "refused BadCount line 2\n"),
     (SMALL, "hats\nend\n", "refused BadWord line 4\n"),
     (SMALL, "class\nend\n", "refused BadCount line 4\n"),
     (SMALL, "class *\nend\n", "refused BadChoice line 4\n"),

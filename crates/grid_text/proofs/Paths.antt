@@ -1,4 +1,7 @@
 pub mod RowLemmas
+pub mod HeadLemmas
+pub mod MarkLemmas
+pub mod PictureLemmas
 pub mod PlaceLemmas
 pub mod JudgementLemmas
 pub mod OutcomeLemmas

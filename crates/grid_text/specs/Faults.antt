@@ -10,18 +10,26 @@
 --     form_of n c         the form of the lines of a command, for a grid of size n
 --     examples            one command for each word that begins the line of a command
 --     body_forms n        the first words of the lines of a body, each with its form, for a grid of size n
+--     size_form           the form of the first line of the head: one number, the size
 --     row_form n          the form of the lines O and X of a grid of size n
+--     symbol_words        the symbols of a row of a picture, each as a word
+--     picture_form n      the form of a row of a picture of size n: its symbols are n of these words
 --     form_among rows word   the form of the first of these words that the word is
 --     form_at p word      the form of a line at the place p that begins with the word, if one may
 --     form_of_line p words   the same of a line with these words
+--     arguments_at p words   the words that the form is about: those after the first, or in a row of a picture its
+--                            symbols, each as a word
 --
--- The tests, for a line with these words after the first, where it is no other:
+-- The tests, for a line with these arguments, where it is no other:
 --     is_after_end p                   the place is after the end
 --     is_bad_count form arguments      the number of words is not that of the form
 --     is_bad_by f kind word            the word is not of the kind, and this is its fault
 --     has_bad f form arguments         some word has this fault
 --     has_repeated arguments           some word stands twice
---     is_not_permutation p arguments   the numbers of an O or X line are not all different
+--     stands_once word arguments       the word is exactly one of them
+--     stands_in columns word arguments the word is one of those in these columns
+--     is_not_permutation p arguments   the numbers of an O or X line are not all different; a row of a picture has not
+--                                      exactly one O and one X, or has one in a column where a row before it has one
 --     has_same_square p arguments      on an X line, the row of some column is that of its O
 --     has_repeated_state form arguments   two states of a line `chain` are the same
 --     fails_to_commute axis g word     columns, or rows, c - 1 and c of g do not commute, where the word is c
@@ -29,7 +37,7 @@
 --     is_one_too_many p words          a command follows the greatest number of them
 --
 -- The table, and the first fault:
---     form_table p form words          the rows from the number of words on, for a line of this form
+--     form_table p form arguments words   the rows from the number of words on, for a line of this form
 --     rows_of_form p form words        the rows from the first word on, for a line of this form, if it has one
 --     table p words                    all rows, in order, for a line with these words at the place p
 --     first_passed rows                the fault of the first row whose test passes
@@ -40,7 +48,7 @@
 --     HaveFirstFault lines f line      lines with these words have the first fault f at the line of this number,
 --                                      counted from 1
 --     IsFirstFault text f line         so have the lines of the text
-use Rattle.std.specs.Prelude.{◌≡◌, ◌⊎◌, ℕ, ◌+◌, ◌-◌, Bool, true, false, ◌&&◌, ◌||◌, not, List, [], ◌∷◌, ◌++◌, length, map, replicate, drop, is_none, nat_le, ◌==◌, if◌then◌else◌}
+use Rattle.std.specs.Prelude.{◌≡◌, ◌⊎◌, ℕ, ◌+◌, ◌-◌, Bool, true, false, ◌&&◌, ◌||◌, not, List, [], ◌∷◌, ◌++◌, length, map, replicate, drop, is_none, nat_le, slice_index_or, count_by, ◌==◌, if◌then◌else◌}
 use Rattle.std.specs.declared.option.Option.{Option}
 use Rattle.std.specs.declared.option.Option.TheVariants.{None, Some}
 use Rattle.std.specs.List.{list_any, zip}
@@ -53,10 +61,11 @@ use Rattle.grid_moves.specs.declared.commutations.Axis.{Axis}
 use Rattle.grid_moves.specs.declared.commutations.Axis.TheVariants.{Cols, Rows}
 use Rattle.pentagon_map.specs.declared.Corner.TheVariants.{Over}
 use Rattle.grid_text.specs.Limits.{max_commands}
-use Rattle.grid_text.specs.Words.{Word, words_of_lines, is_blank, is_word, numeral, state_of}
+use Rattle.grid_text.specs.Words.{Word, words_of_lines, symbols, is_blank, is_word, numeral, state_of}
 use Rattle.grid_text.specs.Commands.{sign_word, signs, side_word, sides, corner_word, corners, axis_word, Argument, sign, side, corner, number, state, command_row}
 use Rattle.grid_text.specs.Script.{grid_in_force}
-use Rattle.grid_text.specs.Document.{Place, head, o_line, x_line, body, ended, grid_word, o_word, x_word, end_word, Path}
+use Rattle.grid_text.specs.Picture.{empty_symbol}
+use Rattle.grid_text.specs.Document.{Place, head, o_line, x_line, picture, body, ended, grid_word, o_word, x_word, picture_word, end_word, Path}
 use Rattle.grid_text.specs.FaultWords.{fault_word}
 use Rattle.grid_text.specs.declared.commands.Sign.TheVariants.{Plus}
 use Rattle.grid_text.specs.declared.commands.Command.{Command}
@@ -107,17 +116,27 @@ examples =
 abbrev pub body_forms : ℕ → List (Word × Form)
 body_forms n = map (λ c. ((command_row c).0, form_of n c)) examples ++ (end_word, exactly []) ∷ []
 
+abbrev pub size_form : Form
+size_form = exactly (number_between 2 9 ∷ [])
+
 abbrev pub row_form : ℕ → Form
 row_form n = exactly (replicate n (number_between 0 (n - 1)))
+
+abbrev pub symbol_words : List Word
+symbol_words = (empty_symbol ∷ []) ∷ o_word ∷ x_word ∷ []
+
+abbrev pub picture_form : ℕ → Form
+picture_form n = exactly (replicate n (choice_of symbol_words))
 
 abbrev pub form_among : List (Word × Form) → Word → Option Form
 form_among [] word = None
 form_among (row ∷ rows) word = if is_word row.0 word then Some row.1 else form_among rows word
 
 abbrev pub form_at : Place → Word → Option Form
-form_at head word = form_among ((grid_word, exactly (number_between 2 9 ∷ [])) ∷ []) word
+form_at head word = form_among ((grid_word, size_form) ∷ (picture_word, size_form) ∷ []) word
 form_at (o_line n) word = form_among ((o_word, row_form n) ∷ []) word
 form_at (x_line n o) word = form_among ((x_word, row_form n) ∷ []) word
+form_at (picture n o x) word = Some (picture_form n)
 form_at (body s) word = form_among (body_forms (size (grid_in_force s))) word
 form_at (ended s) word = None
 
@@ -142,9 +161,18 @@ abbrev pub has_repeated : List Word → Bool
 has_repeated [] = false
 has_repeated (word ∷ words) = list_any (is_word word) words || has_repeated words
 
+abbrev pub stands_once : Word → List Word → Bool
+stands_once word arguments = count_by (is_word word) arguments == 1
+
+abbrev pub stands_in : List ℕ → Word → List Word → Bool
+stands_in columns word arguments = list_any (λ c. is_word word (slice_index_or arguments c [])) columns
+
 abbrev pub is_not_permutation : Place → List Word → Bool
 is_not_permutation (o_line n) arguments = has_repeated arguments
 is_not_permutation (x_line n o) arguments = has_repeated arguments
+is_not_permutation (picture n o x) arguments =
+    not (stands_once o_word arguments) || not (stands_once x_word arguments) || stands_in o o_word arguments
+    || stands_in x x_word arguments
 is_not_permutation p arguments = false
 
 abbrev pub has_same_square : Place → List Word → Bool
@@ -174,21 +202,25 @@ abbrev pub form_of_line : Place → List Word → Option Form
 form_of_line p [] = None
 form_of_line p (word ∷ words) = form_at p word
 
-abbrev pub form_table : Place → Form → List Word → List (TextFault × Bool)
-form_table p form words =
-    (fault.BadCount, is_bad_count form (drop 1 words))
-    ∷ (fault.BadChoice, has_bad fault.BadChoice form (drop 1 words))
-    ∷ (fault.BadNumber, has_bad fault.BadNumber form (drop 1 words))
-    ∷ (fault.NotPermutation, is_not_permutation p (drop 1 words))
-    ∷ (fault.SameSquare, has_same_square p (drop 1 words))
-    ∷ (fault.BadState, has_bad fault.BadState form (drop 1 words))
-    ∷ (fault.RepeatedState, has_repeated_state form (drop 1 words))
+abbrev pub arguments_at : Place → List Word → List Word
+arguments_at (picture n o x) words = map (λ b. b ∷ []) (symbols words)
+arguments_at p words = drop 1 words
+
+abbrev pub form_table : Place → Form → List Word → List Word → List (TextFault × Bool)
+form_table p form arguments words =
+    (fault.BadCount, is_bad_count form arguments)
+    ∷ (fault.BadChoice, has_bad fault.BadChoice form arguments)
+    ∷ (fault.BadNumber, has_bad fault.BadNumber form arguments)
+    ∷ (fault.NotPermutation, is_not_permutation p arguments)
+    ∷ (fault.SameSquare, has_same_square p arguments)
+    ∷ (fault.BadState, has_bad fault.BadState form arguments)
+    ∷ (fault.RepeatedState, has_repeated_state form arguments)
     ∷ (fault.NotCommuting, is_not_commuting p words)
     ∷ (fault.TooMany, is_one_too_many p words) ∷ []
 
 abbrev pub rows_of_form : Place → Option Form → List Word → List (TextFault × Bool)
 rows_of_form p None words = (fault.BadWord, true) ∷ []
-rows_of_form p (Some form) words = (fault.BadWord, false) ∷ form_table p form words
+rows_of_form p (Some form) words = (fault.BadWord, false) ∷ form_table p form (arguments_at p words) words
 
 abbrev pub table : Place → List Word → List (TextFault × Bool)
 table p words = (fault.AfterEnd, is_after_end p) ∷ rows_of_form p (form_of_line p words) words

@@ -1,4 +1,5 @@
 pub mod Stored
+pub mod Pictures
 pub mod Reading
 pub mod Separators
 pub mod Next

@@ -4,6 +4,7 @@ pub mod States
 pub mod FaultWords
 pub mod Commands
 pub mod Script
+pub mod Picture
 pub mod Document
 pub mod Faults
 pub mod End

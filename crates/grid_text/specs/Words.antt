@@ -11,6 +11,7 @@
 --                            carriage return at the end of a line is no part of it
 --     words_of line          the longest runs of bytes other than spaces and tabs
 --     words_of_lines text    the words of each line, in order
+--     symbols words          the bytes of a line with these words that are no spaces and tabs
 --     is_comment word        the word begins with `#`, 35
 --     is_blank words         a line with these words is blank: it has none, or the first begins with `#`
 --     is_word v w            the two words are the same
@@ -18,7 +19,7 @@
 --     state_of n word        the state of size n whose word it is, if there is one
 use Rattle.std.specs.Prelude.{ℕ, ◌+◌, Bool, true, false, ◌&&◌, ◌||◌, List, [], ◌∷◌, map, ◌==◌, if◌then◌else◌}
 use Rattle.std.specs.declared.option.Option.{Option}
-use Rattle.std.specs.List.{filter, find}
+use Rattle.std.specs.List.{filter, find, flat_map}
 use Rattle.std.specs.Fmt.{decimal}
 use Rattle.state_rank.specs.Bijection.{numbers}
 use Rattle.state_rank.specs.States.{states, state_word}
@@ -57,6 +58,9 @@ words_of line = filter is_filled (parts is_space line)
 
 abbrev pub words_of_lines : List ℕ → List (List Word)
 words_of_lines text = map words_of (lines_of text)
+
+abbrev pub symbols : List Word → List ℕ
+symbols words = flat_map (λ w. w) words
 
 abbrev pub is_comment : Word → Bool
 is_comment [] = false

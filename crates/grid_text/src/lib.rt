@@ -13,6 +13,7 @@ mod faults;
 mod judgement;
 mod keywords;
 mod lengths;
+mod pictures;
 mod places;
 mod printing;
 mod scripts;

@@ -1,17 +1,19 @@
 //! Places of a text, and where a line leads.
-ghost use Rattle.std.specs.Prelude.{◌≡◌, ◌≢◌, ℕ, ◌-◌, ◌<◌, ◌≤◌, true, List, ◌∷◌, map, length, take, Some, IfOk, IfErr, IfSome, IfNone};
+ghost use Rattle.std.specs.Prelude.{◌≡◌, ◌≢◌, ℕ, ◌-◌, ◌<◌, ◌≤◌, true, false, List, [], ◌∷◌, map, length, take, Some, IfOk, IfErr, IfSome, IfNone};
 ghost use Rattle.std.specs.List.{list_any};
 ghost use Rattle.std.specs.Fmt.{decimal};
 ghost use Rattle.state_rank.specs.Bijection.{IsSize, IsBijection};
-ghost use Rattle.grid_text.specs.Words.{Word};
-ghost use Rattle.grid_text.specs.Document.{Place as PlaceOf, head, o_line, x_line, body};
-ghost use Rattle.grid_text.specs.Faults.{table_fault, number_between, is_bad};
+ghost use Rattle.grid_text.specs.Words.{Word, is_blank};
+ghost use Rattle.grid_text.specs.Picture.{FitsRow};
+ghost use Rattle.grid_text.specs.Document.{Place as PlaceOf, head, o_line, x_line, picture as picture_at, body, below_row as below};
+ghost use Rattle.grid_text.specs.Faults.{form_at, size_form, table_fault, number_between, is_bad};
 ghost use Rattle.grid_text.specs.Inner.Reading.{IsPlace, IsRowPlace, AreNumerals};
 ghost use Rattle.grid_text.specs.Inner.Next.{place_of, IsNextOn};
 
 use crate::bodies::read_line;
 use crate::commands::MAX_COMMANDS;
 use crate::faults::TextFault;
+use crate::pictures::{Picture, empty_picture, read_row, symbols_of};
 use crate::scripts::Script;
 use crate::words::{is_word, numeral};
 use grid_ports::NoMemory;
@@ -28,6 +30,8 @@ pub(crate) enum Place {
     OLine(u8),
     /// At the X line of a grid whose O are in these rows.
     XLine(State),
+    /// In a picture.
+    Picture(Picture),
     /// In the body.
     Body(Script),
     /// After the end.
@@ -40,32 +44,52 @@ pub(crate) fn next_place(
     place: Place,
     words: &[&[u8]],
 ) -> Result<Result<Place, TextFault>, NoMemory>
-    requires { IsPlace (place_of place) }
+    requires place { IsPlace (place_of place) }
+    requires filled { is_blank (map (λ w. w.now) words.now) ≡ false }
     ensures { IfOk result (IsNextOn (place_of place) (map (λ w. w.now) words.now)) }
 {
     match place {
         Place::Head => Ok(read_head(words)),
         Place::OLine(n) => Ok(read_o_line(n, words)),
         Place::XLine(o) => Ok(read_x_line(alloc, &o, words)),
+        Place::Picture(picture) => read_picture_row(alloc, picture, words),
         Place::Body(script) => read_body_line(alloc, script, words),
         Place::Ended(_) => Ok(Err(TextFault::AfterEnd)),
     }
 }
 
-// The place after the line of the head.
+// The place after the first line of the head.
 fn read_head(words: &[&[u8]]) -> Result<Place, TextFault>
     ensures { IsNextOn head (map (λ w. w.now) words.now) result }
 {
+    if let Some(arguments) = words_after(b"picture", words) {
+        return match read_size(arguments) {
+            Ok(n) => Ok(Place::Picture(empty_picture(n))),
+            Err(fault) => Err(fault),
+        };
+    }
     let Some(arguments) = words_after(b"grid", words) else {
         return Err(TextFault::BadWord);
     };
+    match read_size(arguments) {
+        Ok(n) => Ok(Place::OLine(n)),
+        Err(fault) => Err(fault),
+    }
+}
+
+// The size in the first line of the head, whose words after the first these are.
+fn read_size(arguments: &[&[u8]]) -> Result<u8, TextFault>
+    ensures ok { IfOk result (λ n. IsSize n × (map (λ w. w.now) arguments.now ≡ decimal n ∷ [])) }
+    ensures err { IfErr result (λ f. (word : Word) → form_at head word ≡ Some size_form
+        → table_fault head (word ∷ map (λ w. w.now) arguments.now) ≡ Some f) }
+{
     if arguments.len() != 1 {
         return Err(TextFault::BadCount);
     }
     let Some(n) = numeral(arguments[0], 2, u32::from(MAX_SIZE)) else {
         return Err(TextFault::BadNumber);
     };
-    Ok(Place::OLine(n as u8))
+    Ok(n as u8)
 }
 
 // The place after an O line.
@@ -91,6 +115,39 @@ fn read_x_line(alloc: Global, o: &State, words: &[&[u8]]) -> Result<Place, TextF
         Ok(grid) => Ok(Place::Body(Script::new(alloc, &grid))),
         Err(_) => Err(TextFault::SameSquare),
     }
+}
+
+// The place after a row of a picture.
+fn read_picture_row(
+    alloc: Global,
+    picture: Picture,
+    words: &[&[u8]],
+) -> Result<Result<Place, TextFault>, NoMemory>
+    requires place { IsPlace (picture_at picture.size picture.o.items picture.x.items) }
+    requires filled { is_blank (map (λ w. w.now) words.now) ≡ false }
+    ensures { IfOk result (IsNextOn (picture_at picture.size picture.o.items picture.x.items)
+        (map (λ w. w.now) words.now)) }
+{
+    let row = symbols_of(alloc, words)?;
+    match read_row(&picture, &row) {
+        Ok((c, d)) => Ok(Ok(below_row(alloc, picture, c, d))),
+        Err(fault) => Ok(Err(fault)),
+    }
+}
+
+// The place after a row with its O in column c and its X in column d.
+fn below_row(alloc: Global, mut picture: Picture, c: u8, d: u8) -> Place
+    requires place { IsPlace (picture_at picture.size picture.o.items picture.x.items) }
+    requires fits { FitsRow picture.size picture.o.items picture.x.items c d }
+    ensures { place_of result ≡ below picture.size (c ∷ picture.o.items) (d ∷ picture.x.items) }
+{
+    picture.o.insert(0, c);
+    picture.x.insert(0, d);
+    if picture.o.len() != usize::from(picture.size) {
+        return Place::Picture(picture);
+    }
+    let columns = Grid::from_marks(picture.o.as_slice(), picture.x.as_slice());
+    Place::Body(Script::new(alloc, &columns.transpose()))
 }
 
 // The place after a line of the body.

@@ -9,7 +9,7 @@ const B: &str = "grid 5\nO 0 1 2 3 4\nX 2 3 4 0 1\n";
 // Each text is refused for this fault at this line.
 #[test]
 fn refusals(rt: HostRuntime) -> Result<(), Fail> {
-    let rows: [(&str, &str, TextFault, u32); 25] = [
+    let rows: [(&str, &str, TextFault, u32); 38] = [
         ("", "", TextFault::NoEnd, 1),
         (A, "", TextFault::NoEnd, 4),
         (A, "end\nfront\n", TextFault::AfterEnd, 5),
@@ -37,6 +37,25 @@ fn refusals(rt: HostRuntime) -> Result<(), Fail> {
         (A, "\n# a\n \t\r\n", TextFault::NoEnd, 7),
         (A, "end\n\n#\nshow\n", TextFault::AfterEnd, 7),
         (A, "show # a\n", TextFault::BadCount, 4),
+        // the rows of a picture
+        ("picture 2\n", "OX\nOX\nend\n", TextFault::NotPermutation, 3),
+        ("picture 2\n", "O\nX O\nend\n", TextFault::BadCount, 2),
+        ("picture 3\n", "O?\n", TextFault::BadCount, 2),
+        ("picture 3\n", "O?O\n", TextFault::BadChoice, 2),
+        ("picture 4\n", "OOX.\n", TextFault::NotPermutation, 2),
+        ("picture 3\n", "XOX\n", TextFault::NotPermutation, 2),
+        ("picture 3\n", "..X\n", TextFault::NotPermutation, 2),
+        ("picture 3\n", "OX.\n# a\n\nXO.\n", TextFault::NoEnd, 6),
+        (
+            "picture 3\n",
+            "OX.\n# a\n\n.XO\n",
+            TextFault::NotPermutation,
+            5,
+        ),
+        ("picture 2\n", "OX\nXO\nOX\n", TextFault::BadWord, 4),
+        ("picture 10\n", "", TextFault::BadNumber, 1),
+        ("picture\n", "", TextFault::BadCount, 1),
+        ("grid 2\n", "OX\n", TextFault::BadWord, 2),
         // one carriage return is dropped, and only at the end of a line
         (A, "show\r\r\n", TextFault::BadWord, 4),
         (A, "class\r+\n", TextFault::BadWord, 4),
@@ -102,5 +121,33 @@ fn the_plain_form(rt: HostRuntime) -> Result<(), Fail> {
     )?;
     assert_eq!(rt; plain.as_slice(), wanted.as_bytes());
     assert_eq!(rt; print_len(&judged.script), wanted.len() as u128);
+    Ok(())
+}
+
+// A picture has its top row first; its head begins at this line.
+#[test]
+fn pictures(rt: HostRuntime) -> Result<(), Fail> {
+    let rows = [
+        (
+            "# unknot\r\n\r\npicture 2\r\nOX\r\nX O\r\nend\r\n",
+            "grid 2\nO 1 0\nX 0 1\nend\n",
+            3,
+        ),
+        (
+            "picture 3\nO . X\n# the middle\n\tXO.\n\n.XO\nend\n",
+            "grid 3\nO 2 1 0\nX 1 0 2\nend\n",
+            1,
+        ),
+    ];
+    for (drawn, plain, grid_line) in rows {
+        let Ok(judged) = judge(rt.alloc(), drawn.as_bytes()) else {
+            return Err(Fail::from("refused"));
+        };
+        let Ok(text) = print(rt.alloc(), &judged.script) else {
+            return Err(Fail::from("out of memory"));
+        };
+        assert_eq!(rt; text.as_slice(), plain.as_bytes());
+        assert_eq!(rt; judged.grid_line, grid_line);
+    }
     Ok(())
 }

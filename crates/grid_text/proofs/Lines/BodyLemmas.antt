@@ -97,8 +97,8 @@ module _ (s : GridScript) (arguments : List Word) where
       → is_bad_count (keyword_form (size (grid_in_force s)) k) arguments ≡ not (kinds == length arguments)
       → length arguments ≢ kinds → table_fault (body s) (keyword_word k ∷ arguments) ≡ Some fault.BadCount
   key-count k kinds form other =
-      table_fault-count (body s) (keyword_form (size (grid_in_force s)) k) (keyword_word k) arguments refl
-      (form_at-keyword s k)
+      table_fault-count (body s) (keyword_form (size (grid_in_force s)) k) (keyword_word k ∷ arguments) arguments refl
+      (form_at-keyword s k) refl
       (form ∙ count-other kinds arguments other)
 
   -- a keyword that stands alone
@@ -132,16 +132,16 @@ module _ (s : GridScript) (arguments : List Word) (w : Word) (one : arguments �
       → table_fault (body s) (keyword_word keyword.Class ∷ arguments) ≡ Some fault.BadChoice
   class-choice r is none =
       ap (λ a. table_fault (body s) (keyword_word keyword.Class ∷ a)) one
-      ∙ table_fault-choice (body s) (keyword_form (size (grid_in_force s)) keyword.Class) (keyword_word keyword.Class)
-      (w ∷ []) refl refl refl
+      ∙ table_fault-choice (body s) (keyword_form (size (grid_in_force s)) keyword.Class) (keyword_word keyword.Class ∷ w ∷ [])
+      (w ∷ []) refl refl refl refl
       (ap (λ b. b || false) (bad-find sign_word signs w (sym is ∙ none)))
 
   pub turn-choice : (r : Option Side) → r ≡ find (λ v. is_word (side_word v) w) sides → r ≡ None
       → table_fault (body s) (keyword_word keyword.Turn ∷ arguments) ≡ Some fault.BadChoice
   turn-choice r is none =
       ap (λ a. table_fault (body s) (keyword_word keyword.Turn ∷ a)) one
-      ∙ table_fault-choice (body s) (keyword_form (size (grid_in_force s)) keyword.Turn) (keyword_word keyword.Turn)
-      (w ∷ []) refl refl refl
+      ∙ table_fault-choice (body s) (keyword_form (size (grid_in_force s)) keyword.Turn) (keyword_word keyword.Turn ∷ w ∷ [])
+      (w ∷ []) refl refl refl refl
       (ap (λ b. b || false) (bad-find side_word sides w (sym is ∙ none)))
 
   -- the choice that is made
@@ -176,8 +176,8 @@ module _ (s : GridScript) (g : Marks) (m : ℕ) (arguments : List Word) (w : Wor
   pub border-state : r ≡ None → table_fault (body s) (keyword_word keyword.Border ∷ arguments) ≡ Some fault.BadState
   border-state none =
       ap (λ a. table_fault (body s) (keyword_word keyword.Border ∷ a)) one
-      ∙ table_fault-state (body s) (keyword_form (size (grid_in_force s)) keyword.Border) (keyword_word keyword.Border)
-      (w ∷ []) refl refl refl refl refl refl refl
+      ∙ table_fault-state (body s) (keyword_form (size (grid_in_force s)) keyword.Border) (keyword_word keyword.Border ∷ w ∷ [])
+      (w ∷ []) refl refl refl refl refl refl refl refl
       (ap (λ o. is_none o || false) (state_of-at s g m w r None long is value none))
 
   -- the state
@@ -204,7 +204,7 @@ module _ (s : GridScript) (axis : Axis) (arguments : List Word) where
   -- too few or too many words
   pub commute-count : length arguments ≢ 2 → table_fault (body s) (axis_word axis ∷ arguments) ≡ Some fault.BadCount
   commute-count other =
-      table_fault-count (body s) commute_form (axis_word axis) arguments refl known (count-other 2 arguments other)
+      table_fault-count (body s) commute_form (axis_word axis ∷ arguments) arguments refl known refl (count-other 2 arguments other)
 
   -- a choice that is none
   pub commute-choice : (w u : Word) (r : Option Corner) → arguments ≡ w ∷ u ∷ []
@@ -212,7 +212,7 @@ module _ (s : GridScript) (axis : Axis) (arguments : List Word) where
       → table_fault (body s) (axis_word axis ∷ arguments) ≡ Some fault.BadChoice
   commute-choice w u r e is none =
       ap (λ a. table_fault (body s) (axis_word axis ∷ a)) e
-      ∙ table_fault-choice (body s) commute_form (axis_word axis) (w ∷ u ∷ []) refl known refl
+      ∙ table_fault-choice (body s) commute_form (axis_word axis ∷ w ∷ u ∷ []) (w ∷ u ∷ []) refl known refl refl
       (ap (λ b. b || false) (bad-find corner_word corners u (sym is ∙ none)))
 
   module _ (g : Marks) (m : ℕ) (w u : Word) (v : Corner) (r : Option ℕ) (corner : Option Corner)
@@ -234,7 +234,8 @@ module _ (s : GridScript) (axis : Axis) (arguments : List Word) where
     pub commute-number : r ≡ None → table_fault (body s) (axis_word axis ∷ arguments) ≡ Some fault.BadNumber
     commute-number none =
         ap (λ a. table_fault (body s) (axis_word axis ∷ a)) line
-        ∙ table_fault-number (body s) commute_form (axis_word axis) (w ∷ corner_word v ∷ []) refl known refl choice
+        ∙ table_fault-number (body s) commute_form (axis_word axis ∷ w ∷ corner_word v ∷ []) (w ∷ corner_word v ∷ []) refl
+        known refl refl choice
         (ap (λ o. is_none o || false) (numbered None none))
 
     -- columns or rows that do not commute
@@ -242,7 +243,8 @@ module _ (s : GridScript) (axis : Axis) (arguments : List Word) where
         → table_fault (body s) (axis_word axis ∷ arguments) ≡ Some fault.NotCommuting
     commute-commuting c found fails =
         ap (λ a. table_fault (body s) (axis_word axis ∷ a)) line
-        ∙ table_fault-commuting (body s) commute_form (axis_word axis) (w ∷ corner_word v ∷ []) refl known refl choice
+        ∙ table_fault-commuting (body s) commute_form (axis_word axis ∷ w ∷ corner_word v ∷ []) (w ∷ corner_word v ∷ []) refl
+        known refl refl choice
         (ap (λ o. is_none o || false) (numbered (Some c) found)) refl refl refl refl
         (at axis (ap (λ k. are_commuting axis k c) (sym is) ∙ fails))
       where
@@ -276,7 +278,7 @@ chain-state : (s : GridScript) (arguments : List Word)
     → table_fault (body s) (keyword_word keyword.Chain ∷ arguments) ≡ Some fault.BadState
 chain-state s arguments bad =
     let kind = state_of_size (size (grid_in_force s)) in
-    table_fault-state (body s) (any_number_of kind) (keyword_word keyword.Chain) arguments refl refl refl
+    table_fault-state (body s) (any_number_of kind) (keyword_word keyword.Chain ∷ arguments) arguments refl refl refl refl
     (list_any-never (is_bad_by fault.BadChoice kind) arguments (λ w. refl))
     (list_any-never (is_bad_by fault.BadNumber kind) arguments (λ w. refl)) refl refl bad
 
@@ -287,7 +289,7 @@ chain-repeated : (s : GridScript) (arguments : List Word)
     → table_fault (body s) (keyword_word keyword.Chain ∷ arguments) ≡ Some fault.RepeatedState
 chain-repeated s arguments good twice =
     let kind = state_of_size (size (grid_in_force s)) in
-    table_fault-repeated (body s) (any_number_of kind) (keyword_word keyword.Chain) arguments refl refl refl
+    table_fault-repeated (body s) (any_number_of kind) (keyword_word keyword.Chain ∷ arguments) arguments refl refl refl refl
     (list_any-never (is_bad_by fault.BadChoice kind) arguments (λ w. refl))
     (list_any-never (is_bad_by fault.BadNumber kind) arguments (λ w. refl)) refl refl good twice
 

@@ -90,7 +90,7 @@ module _ (s : GridScript) (h : IsScript s) where
     pub form : Form
     pub is : words ≡ first ∷ arguments
     pub known : form_at (body s) first ≡ Some form
-    pub rows : NoRowHolds (body s) form first arguments
+    pub rows : NoRowHolds (body s) form (first ∷ arguments) arguments
     pub no_end : is_word end_word first ≡ false
 
   -- the size of the grid in force
@@ -189,14 +189,14 @@ pub table_fault-faultless : (s : GridScript) (h : IsScript s) (words : List Word
     → table_fault (body s) words ≡ cond (nat_le max_commands (length s.commands)) (Some fault.TooMany) None
 table_fault-faultless s h words f =
     ap (table_fault (body s)) f.is
-    ∙ table_fault-last (body s) f.form f.first f.arguments refl f.known f.rows
+    ∙ table_fault-last (body s) f.form (f.first ∷ f.arguments) f.arguments refl f.known refl f.rows
     ∙ ap (λ b. cond (not b && nat_le max_commands (length s.commands)) (Some fault.TooMany) None) f.no_end
 
 -- the line `end`
 pub table_fault-end : (s : GridScript) (words : List Word) → words ≡ end_word ∷ [] → table_fault (body s) words ≡ None
 table_fault-end s words e =
     ap (table_fault (body s)) e
-    ∙ table_fault-last (body s) (exactly []) end_word [] refl refl
+    ∙ table_fault-last (body s) (exactly []) (end_word ∷ []) [] refl refl refl
     (record {
       count = refl;
       choice = refl;

@@ -4,7 +4,7 @@
 use Rattle.std.proofs.Common.{◌≡◌, Bool, true, false, cond, List, [], ◌∷◌, Option, None, Some, refl, ap, ◌∙◌, sym}
 use Rattle.grid_text.specs.Words.{Word}
 use Rattle.grid_text.specs.Document.{Place}
-use Rattle.grid_text.specs.Faults.{Form, form_at, is_after_end, is_bad_count, has_bad, is_not_permutation, has_same_square, has_repeated_state, is_not_commuting, is_one_too_many, rows_of_form, form_table, first_passed, table_fault}
+use Rattle.grid_text.specs.Faults.{Form, form_at, form_of_line, arguments_at, is_after_end, is_bad_count, has_bad, is_not_permutation, has_same_square, has_repeated_state, is_not_commuting, is_one_too_many, rows_of_form, form_table, first_passed, table_fault}
 use Rattle.grid_text.specs.declared.faults.TextFault.{TextFault}
 use Rattle.grid_text.specs.declared.faults.TextFault.TheVariants as fault
 
@@ -21,7 +21,7 @@ no_hit true f y e = cc
 no_hit false f y e = (refl, e)
 
 -- none of the rows from the number of words on holds, but for the last
-pub record NoRowHolds (p : Place) (form : Form) (word : Word) (arguments : List Word) : Type 0 where
+pub record NoRowHolds (p : Place) (form : Form) (words arguments : List Word) : Type 0 where
   pub count : is_bad_count form arguments ≡ false
   pub choice : has_bad fault.BadChoice form arguments ≡ false
   pub number : has_bad fault.BadNumber form arguments ≡ false
@@ -29,7 +29,7 @@ pub record NoRowHolds (p : Place) (form : Form) (word : Word) (arguments : List 
   pub square : has_same_square p arguments ≡ false
   pub state : has_bad fault.BadState form arguments ≡ false
   pub repeated : has_repeated_state form arguments ≡ false
-  pub commuting : is_not_commuting p (word ∷ arguments) ≡ false
+  pub commuting : is_not_commuting p words ≡ false
 
 -- after the end each line has a fault
 pub table_fault-ended : (p : Place) (words : List Word) → is_after_end p ≡ true → table_fault p words ≡ Some fault.AfterEnd
@@ -48,16 +48,18 @@ unfolding table_fault
 table_fault-bad_word p word arguments here unknown =
     pass _ _ _ _ here (ap (λ form. first_passed (rows_of_form p form (word ∷ arguments))) unknown)
 
-module _ (p : Place) (form : Form) (word : Word) (arguments : List Word) (here : is_after_end p ≡ false)
-    (known : form_at p word ≡ Some form) where
+module _ (p : Place) (form : Form) (words arguments : List Word) (here : is_after_end p ≡ false)
+    (known : form_of_line p words ≡ Some form) (given : arguments_at p words ≡ arguments) where
   -- the rows of the form
-  table_fault-rows : table_fault p (word ∷ arguments) ≡ first_passed (form_table p form (word ∷ arguments))
+  table_fault-rows : table_fault p words ≡ first_passed (form_table p form arguments words)
   unfolding table_fault
-  table_fault-rows = pass _ _ _ _ here (ap (λ f. first_passed (rows_of_form p f (word ∷ arguments))) known)
+  table_fault-rows =
+      pass _ _ _ _ here (ap (λ f. first_passed (rows_of_form p f words)) known)
+      ∙ ap (λ a. first_passed (form_table p form a words)) given
 
   -- the last row decides where no other holds
-  pub table_fault-last : NoRowHolds p form word arguments
-      → table_fault p (word ∷ arguments) ≡ cond (is_one_too_many p (word ∷ arguments)) (Some fault.TooMany) None
+  pub table_fault-last : NoRowHolds p form words arguments
+      → table_fault p words ≡ cond (is_one_too_many p words) (Some fault.TooMany) None
   table_fault-last r =
       table_fault-rows
       ∙ pass _ _ _ _ r.count (pass _ _ _ _ r.choice (pass _ _ _ _ r.number
@@ -65,8 +67,8 @@ module _ (p : Place) (form : Form) (word : Word) (arguments : List Word) (here :
       (pass _ _ _ _ r.repeated (pass _ _ _ _ r.commuting refl)))))))
 
   -- and the other way round
-  pub NoRowHolds-from_none : table_fault p (word ∷ arguments) ≡ None
-      → NoRowHolds p form word arguments × (is_one_too_many p (word ∷ arguments) ≡ false)
+  pub NoRowHolds-from_none : table_fault p words ≡ None
+      → NoRowHolds p form words arguments × (is_one_too_many p words ≡ false)
   NoRowHolds-from_none e =
       let count = no_hit _ _ _ (sym table_fault-rows ∙ e) in
       let choice = no_hit _ _ _ count.1 in
@@ -91,32 +93,32 @@ module _ (p : Place) (form : Form) (word : Word) (arguments : List Word) (here :
       )
 
   -- the number of words is not that of the form
-  pub table_fault-count : is_bad_count form arguments ≡ true → table_fault p (word ∷ arguments) ≡ Some fault.BadCount
+  pub table_fault-count : is_bad_count form arguments ≡ true → table_fault p words ≡ Some fault.BadCount
   table_fault-count holds = table_fault-rows ∙ hit _ _ _ holds
 
   module _ (count : is_bad_count form arguments ≡ false) where
     -- a choice is none
     pub table_fault-choice : has_bad fault.BadChoice form arguments ≡ true
-        → table_fault p (word ∷ arguments) ≡ Some fault.BadChoice
+        → table_fault p words ≡ Some fault.BadChoice
     table_fault-choice holds = table_fault-rows ∙ pass _ _ _ _ count (hit _ _ _ holds)
 
     module _ (choice : has_bad fault.BadChoice form arguments ≡ false) where
       -- a number is none
       pub table_fault-number : has_bad fault.BadNumber form arguments ≡ true
-          → table_fault p (word ∷ arguments) ≡ Some fault.BadNumber
+          → table_fault p words ≡ Some fault.BadNumber
       table_fault-number holds = table_fault-rows ∙ pass _ _ _ _ count (pass _ _ _ _ choice (hit _ _ _ holds))
 
       module _ (number : has_bad fault.BadNumber form arguments ≡ false) where
         -- two numbers are the same
         pub table_fault-permutation : is_not_permutation p arguments ≡ true
-            → table_fault p (word ∷ arguments) ≡ Some fault.NotPermutation
+            → table_fault p words ≡ Some fault.NotPermutation
         table_fault-permutation holds =
             table_fault-rows ∙ pass _ _ _ _ count (pass _ _ _ _ choice (pass _ _ _ _ number (hit _ _ _ holds)))
 
         module _ (permutation : is_not_permutation p arguments ≡ false) where
           -- an O and an X are in one square
           pub table_fault-square : has_same_square p arguments ≡ true
-              → table_fault p (word ∷ arguments) ≡ Some fault.SameSquare
+              → table_fault p words ≡ Some fault.SameSquare
           table_fault-square holds =
               table_fault-rows ∙ pass _ _ _ _ count (pass _ _ _ _ choice
               (pass _ _ _ _ number (pass _ _ _ _ permutation (hit _ _ _ holds))))
@@ -124,7 +126,7 @@ module _ (p : Place) (form : Form) (word : Word) (arguments : List Word) (here :
           module _ (square : has_same_square p arguments ≡ false) where
             -- a state is none
             pub table_fault-state : has_bad fault.BadState form arguments ≡ true
-                → table_fault p (word ∷ arguments) ≡ Some fault.BadState
+                → table_fault p words ≡ Some fault.BadState
             table_fault-state holds =
                 table_fault-rows ∙ pass _ _ _ _ count (pass _ _ _ _ choice
                 (pass _ _ _ _ number (pass _ _ _ _ permutation (pass _ _ _ _ square (hit _ _ _ holds)))))
@@ -132,7 +134,7 @@ module _ (p : Place) (form : Form) (word : Word) (arguments : List Word) (here :
             module _ (state : has_bad fault.BadState form arguments ≡ false) where
               -- two states are the same
               pub table_fault-repeated : has_repeated_state form arguments ≡ true
-                  → table_fault p (word ∷ arguments) ≡ Some fault.RepeatedState
+                  → table_fault p words ≡ Some fault.RepeatedState
               table_fault-repeated holds =
                   table_fault-rows
                   ∙ pass _ _ _ _ count (pass _ _ _ _ choice (pass _ _ _ _ number
@@ -140,8 +142,8 @@ module _ (p : Place) (form : Form) (word : Word) (arguments : List Word) (here :
 
               module _ (repeated : has_repeated_state form arguments ≡ false) where
                 -- the two columns or rows do not commute
-                pub table_fault-commuting : is_not_commuting p (word ∷ arguments) ≡ true
-                    → table_fault p (word ∷ arguments) ≡ Some fault.NotCommuting
+                pub table_fault-commuting : is_not_commuting p words ≡ true
+                    → table_fault p words ≡ Some fault.NotCommuting
                 table_fault-commuting holds =
                     table_fault-rows
                     ∙ pass _ _ _ _ count (pass _ _ _ _ choice (pass _ _ _ _ number

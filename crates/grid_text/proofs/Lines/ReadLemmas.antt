@@ -85,13 +85,14 @@ module _ (s : GridScript) (h : IsScript s) where
   -- what is known of the words after a keyword
   abbrev Rest : Keyword → List Word → Type 0
   Rest k arguments =
-      NoRowHolds (body s) (keyword_form n k) (keyword_word k) arguments
+      NoRowHolds (body s) (keyword_form n k) (keyword_word k ∷ arguments) arguments
       × (is_one_too_many (body s) (keyword_word k ∷ arguments) ≡ false)
 
   rest_of : (k : Keyword) (arguments : List Word) → table_fault (body s) (keyword_word k ∷ arguments) ≡ None
       → Rest k arguments
   rest_of k arguments none =
-      NoRowHolds-from_none (body s) (keyword_form n k) (keyword_word k) arguments refl (form_at-keyword s k) none
+      NoRowHolds-from_none (body s) (keyword_form n k) (keyword_word k ∷ arguments) arguments refl (form_at-keyword s k) refl
+      none
 
   -- a keyword that stands alone
   alone-good : (k : Keyword) (c : Command) (arguments : List Word) → keyword_form n k ≡ exactly []

@@ -3,8 +3,8 @@
 use Rattle.std.proofs.Common.{◌≡◌, ◌≢◌, ℕ, zero, suc, ◌+◌, ◌-◌, ◌<◌, ◌≤◌, Bool, true, false, ◌||◌, List, [], ◌∷◌, ◌++◌, length, map, take, drop, get_or, Bor, refl, ap, ◌∙◌, sym, arith, true≢false}
 use Rattle.std.proofs.lemmas.List.{take_all, take_more, map-append, length-map}
 use Rattle.std.proofs.lemmas.Bool.{or_right}
-use Rattle.std.specs.List.{list_any}
-use Rattle.grid_text.specs.Words.{Word, is_word}
+use Rattle.std.specs.List.{list_any, flat_map}
+use Rattle.grid_text.specs.Words.{Word, symbols, is_word}
 use Rattle.grid_text.proofs.Lines.WordLemmas.{same_word, is_word-same}
 
 -- the words
@@ -83,3 +83,12 @@ seen-any p [] i d within passes = absurd (omega (arith, within))
 seen-any p (w ∷ words) zero d within passes = ap (λ b. b || list_any p (seen words)) passes
 seen-any p (w ∷ words) (suc i) d within passes =
     ap (λ b. p w.now || b) (seen-any p words i d (omega (arith, within)) passes) ∙ or_right (p w.now) true refl
+
+-- the symbols of the words
+pub symbols-seen : (words : List (Bor (List ℕ))) (i : ℕ) → length words ≤ i
+    → flat_map (λ (w : Bor (List ℕ)). w.now) (take i words) ≡ symbols (seen words)
+symbols-seen words i all = ap (flat_map (λ (w : Bor (List ℕ)). w.now)) (take_all i words all) ∙ whole words
+  where
+    whole : (words : List (Bor (List ℕ))) → flat_map (λ (w : Bor (List ℕ)). w.now) words ≡ symbols (seen words)
+    whole [] = refl
+    whole (w ∷ words) = ap (λ r. w.now ++ r) (whole words)

@@ -4,7 +4,7 @@ use Rattle.std.proofs.Common.{◌≡◌, ◌↔◌, ℕ, ◌+◌, ◌<◌, ◌�
 use Rattle.std.proofs.lemmas.List.{append-nil, append_assoc}
 use Rattle.grid_text.specs.Words.{Word, is_blank, lines_of, words_of, words_of_lines}
 use Rattle.grid_text.specs.Script.{GridScript}
-use Rattle.grid_text.specs.Document.{Place, head, o_line, x_line, body, ended, Leads, Path, AreLinesOf, IsDocument, IsHeadLine}
+use Rattle.grid_text.specs.Document.{Place, head, o_line, x_line, picture, body, ended, Leads, Path, AreLinesOf, IsDocument, IsHeadLine}
 use Rattle.grid_text.specs.Faults.{fault_at, is_after_end, HaveFirstFault, IsFirstFault}
 use Rattle.grid_text.specs.Inner.Reading.{IsPlace}
 use Rattle.grid_text.specs.Inner.Next.{place_of, is_head, IsNextOn, IsNext}
@@ -181,6 +181,7 @@ ended_script s (ended t) = t
 ended_script s head = s
 ended_script s (o_line n) = s
 ended_script s (x_line n o) = s
+ended_script s (picture n o x) = s
 ended_script s (body t) = s
 
 -- no lines are those of two scripts

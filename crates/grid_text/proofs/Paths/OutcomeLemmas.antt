@@ -6,7 +6,7 @@ use Rattle.std.proofs.Common.{◌≡◌, ◌⊎◌, ℕ, suc, ◌+◌, false, Li
 use Rattle.std.proofs.lemmas.List.{append-nil, append_assoc}
 use Rattle.grid_text.specs.Words.{Word, words_of_lines}
 use Rattle.grid_text.specs.Script.{GridScript}
-use Rattle.grid_text.specs.Document.{Place, head, o_line, x_line, body, ended, Leads, Path, AreLinesOf, IsDocument}
+use Rattle.grid_text.specs.Document.{Place, head, o_line, x_line, picture, body, ended, Leads, Path, AreLinesOf, IsDocument}
 use Rattle.grid_text.specs.Faults.{fault_at, is_after_end, HaveFault, HaveNoEnd, HaveFirstFault, IsFirstFault}
 use Rattle.grid_text.specs.Inner.Reading.{IsPlace}
 use Rattle.grid_text.specs.declared.faults.TextFault.{TextFault}
@@ -37,6 +37,7 @@ at_the_end lines (ended s) path = inl (s, path)
 at_the_end lines head path = no_end lines head path refl
 at_the_end lines (o_line n) path = no_end lines (o_line n) path refl
 at_the_end lines (x_line n o) path = no_end lines (x_line n o) path refl
+at_the_end lines (picture n o x) path = no_end lines (picture n o x) path refl
 at_the_end lines (body s) path = no_end lines (body s) path refl
 
 -- one line has a fault or leads on

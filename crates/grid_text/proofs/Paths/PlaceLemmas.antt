@@ -1,5 +1,6 @@
 -- At a place that lines lead to, a line is allowed exactly where no row of the table holds, and then it leads to one
--- place. Both are shown place by place: the head and the O and X lines by their words, the body by its commands. What
+-- place. Both are shown place by place: the head and the O and X lines by their words, a picture by the columns of the
+-- marks of its rows, the body by its commands. What
 -- is known of the place (`IsPlace`) is handed on along the path. A blank line leaves the place and has no fault, and no
 -- line of a form is blank.
 use Rattle.std.proofs.Common.{◌≡◌, ◌≢◌, ℕ, ◌<◌, ◌^◌, true, false, cond, List, [], ◌∷◌, length, slice_index, map, None, Some, refl, ap, subst, ◌∙◌, sym, arith, inl, inr, true≢false}
@@ -10,9 +11,9 @@ use Rattle.std.proofs.lemmas.Fmt.{decimal_injective}
 use Rattle.state_rank.specs.Bijection.{IsSize, IsBijection}
 use Rattle.state_rank.proofs.MemberLemmas.{member_head, member_tail}
 use Rattle.torus_geom.specs.Marks.{IsGrid}
-use Rattle.grid_text.specs.Words.{Word, is_blank}
+use Rattle.grid_text.specs.Words.{Word, symbols, is_word, is_blank}
 use Rattle.grid_text.specs.Script.{with_command}
-use Rattle.grid_text.specs.Document.{Place, head, o_line, x_line, body, ended, LeadsOn, Leads, Path, grid_word, o_word, x_word}
+use Rattle.grid_text.specs.Document.{Place, head, o_line, x_line, picture, body, below_row, ended, LeadsOn, Leads, Path, grid_word, o_word, x_word, picture_word}
 use Rattle.grid_text.specs.Faults.{table_fault, fault_at}
 use Rattle.grid_text.specs.Inner.Reading.{IsPlace}
 use Rattle.grid_text.specs.Limits.{max_commands}
@@ -23,7 +24,11 @@ use Rattle.std.proofs.lemmas.Bool.{lt-leb, cases_Bool}
 use Rattle.grid_text.proofs.States.RepeatedLemmas.{below-IsBijection}
 use Rattle.grid_text.proofs.Lines.CommandLemmas.{faultless, table_fault-faultless, table_fault-end, command-not_end, command-filled, one_command}
 use Rattle.grid_text.proofs.Lines.FaultLemmas.{table_fault-ended}
-use Rattle.grid_text.proofs.Paths.RowLemmas.{grid-right, grid-read, o_line-right, o_line-read, x_line-right, x_line-read}
+use Rattle.grid_text.proofs.Lines.WordLemmas.{is_word-same}
+use Rattle.grid_text.proofs.Paths.HeadLemmas.{head-right, head-cases}
+use Rattle.grid_text.proofs.Paths.PictureLemmas.{IsPartOfPicture-none, IsPartOfPicture-more, IsPlace-below_row, picture-right, picture-read, filled-row}
+use Rattle.grid_text.proofs.Paths.MarkLemmas.{one_row}
+use Rattle.grid_text.proofs.Paths.RowLemmas.{o_line-right, o_line-read, x_line-right, x_line-read}
 
 -- the marks of an O and an X line are those of a grid
 IsGrid-from_lines : (n : ℕ) (o x : List ℕ) → IsSize n → IsBijection n o → IsBijection n x
@@ -39,11 +44,16 @@ IsGrid-from_lines n o x small bijection_o bijection_x apart =
 
 -- a place that a form leads on to from a right one is right
 IsPlace-leads_on : (p q : Place) (words : List Word) → IsPlace p → LeadsOn p words q → IsPlace q
-IsPlace-leads_on head q words h l = subst IsPlace (sym l.3) l.1
+IsPlace-leads_on head q words h (n, small, inl l) = subst IsPlace (sym l.1) small
+IsPlace-leads_on head q words h (n, small, inr l) =
+    subst IsPlace (sym l.1) (small, IsPartOfPicture-none n, omega (arith, small.least))
 IsPlace-leads_on (o_line n) q words h l = subst IsPlace (sym l.3) (h, l.1)
 IsPlace-leads_on (x_line n o) q words h l =
     subst IsPlace (sym l.4) (IsScript-no_command (record { o = o; x = l.0 })
     (IsGrid-from_lines n o l.0 h.0 h.1 l.1 l.2))
+IsPlace-leads_on (picture n o x) q words h l =
+    subst IsPlace (sym l.4) (IsPlace-below_row n (l.0 ∷ o) (l.1 ∷ x) h.0
+    (IsPartOfPicture-more n o x l.0 l.1 h.1 l.2) (omega (arith, h.2)))
 IsPlace-leads_on (body s) q words h (inl l) = subst IsPlace (sym l.1) h
 IsPlace-leads_on (body s) q words h (inr l) = subst IsPlace (sym l.4) (IsScript-with_command s l.0 h l.3 l.2)
 IsPlace-leads_on (ended s) q words h l = absurd l
@@ -54,9 +64,13 @@ few-last n few = lt-leb max_commands n few
 
 -- a line of a form that is allowed has no fault in the table
 table_fault-leads_on : (p q : Place) (words : List Word) → IsPlace p → LeadsOn p words q → table_fault p words ≡ None
-table_fault-leads_on head q words h l = grid-right words l.0 l.2 l.1
+table_fault-leads_on head q words h (n, small, inl l) = ap (table_fault head) l.0 ∙ head-right grid_word refl n small
+table_fault-leads_on head q words h (n, small, inr l) =
+    ap (table_fault head) l.0 ∙ head-right picture_word refl n small
 table_fault-leads_on (o_line n) q words h l = o_line-right n l.0 words h l.1 l.2
 table_fault-leads_on (x_line n o) q words h l = x_line-right n o l.0 words h.0 h.1 l.1 l.2 l.3
+table_fault-leads_on (picture n o x) q words h l =
+    picture-right n o x words l.0 l.1 h.1 l.2 l.3 (filled-row n words l.0 l.1 (omega (arith, h.2)) l.3)
 table_fault-leads_on (body s) q words h (inl l) = table_fault-end s words l.0
 table_fault-leads_on (body s) q words h (inr l) =
     table_fault-faultless s h words (faultless s h words l.0 l.1 l.2)
@@ -64,18 +78,25 @@ table_fault-leads_on (body s) q words h (inr l) =
 table_fault-leads_on (ended s) q words h l = absurd l
 
 -- a line without a fault in the table has such a form
-leads_on-no_fault : (p : Place) (words : List Word) → IsPlace p → table_fault p words ≡ None
+leads_on-no_fault : (p : Place) (words : List Word) → IsPlace p → is_blank words ≡ false → table_fault p words ≡ None
     → (q : Place) × LeadsOn p words q
-leads_on-no_fault head words h none = let r = grid-read words none in (o_line r.0, (r.0, r.1.0, r.1.1, refl))
-leads_on-no_fault (o_line n) words h none = let r = o_line-read n words h none in (x_line n r.0, (r.0, r.1.0, r.1.1, refl))
-leads_on-no_fault (x_line n o) words h none =
+leads_on-no_fault head words h filled none =
+    let r = head-cases words none in elim r.1.1 [
+      | inl grid ↦ (o_line r.0, (r.0, r.1.0, inl (grid, refl)))
+      | inr drawn ↦ (picture r.0 [] [], (r.0, r.1.0, inr (drawn, refl)))
+    ]
+leads_on-no_fault (o_line n) words h filled none = let r = o_line-read n words h none in (x_line n r.0, (r.0, r.1.0, r.1.1, refl))
+leads_on-no_fault (x_line n o) words h filled none =
     let r = x_line-read n o words h.0 h.1 none in
     (body (record { grid = record { o = o; x = r.0 }; commands = [] }), (r.0, r.1.0, r.1.1, r.1.2, refl))
-leads_on-no_fault (body s) words h none = elim (body-read s h words none) [
+leads_on-no_fault (picture n o x) words h filled none =
+    let r = picture-read n o x words filled none in
+    (below_row n (r.0 ∷ o) (r.1.0 ∷ x), (r.0, r.1.0, r.1.1.0, r.1.1.1, refl))
+leads_on-no_fault (body s) words h filled none = elim (body-read s h words none) [
   | inl last ↦ (ended s, inl (last, refl))
   | inr c ↦ (body (with_command s c.0), inr (c.0, c.1.0, c.1.1, c.1.2, refl))
 ]
-leads_on-no_fault (ended s) words h none =
+leads_on-no_fault (ended s) words h filled none =
     let clash : Some fault.AfterEnd ≡ None = sym (table_fault-ended (ended s) words refl) ∙ none in cc
 
 -- rows below n with the same decimal forms are the same
@@ -98,14 +119,28 @@ same_rows n (q ∷ x) (r ∷ y) fits small small_y e =
 tails_of : (letter : Word) (v w : List Word) → letter ∷ v ≡ letter ∷ w → v ≡ w
 tails_of letter v w e = cc
 
+-- a first line of the head has one size
+one_size : (word : Word) (n k : ℕ) → IsSize n → IsSize k → word ∷ decimal n ∷ [] ≡ word ∷ decimal k ∷ [] → n ≡ k
+one_size word n k small small_k whole =
+    let forms : decimal n ≡ decimal k = cc in
+    let most = small.greatest in
+    let most_k = small_k.greatest in
+    decimal_injective n k (omega arith) (omega arith) forms
+
+-- and one first word
+two_words : (n k : ℕ) → grid_word ∷ decimal n ∷ [] ≡ picture_word ∷ decimal k ∷ [] → ⊥
+two_words n k whole =
+    let first : grid_word ≡ picture_word = cc in
+    true≢false (sym (is_word-same grid_word) ∙ ap (is_word grid_word) first)
+
 -- the form of a line leads on to one place
 one_place_on : (p q r : Place) (words : List Word) → IsPlace p → LeadsOn p words q → LeadsOn p words r → q ≡ r
-one_place_on head q r words h l m =
-    let small = l.1.greatest in
-    let small_m = m.1.greatest in
-    let whole : grid_word ∷ decimal l.0 ∷ [] ≡ grid_word ∷ decimal m.0 ∷ [] = sym l.2 ∙ m.2 in
-    let forms : decimal l.0 ≡ decimal m.0 = cc in
-    l.3 ∙ ap o_line (decimal_injective l.0 m.0 (omega arith) (omega arith) forms) ∙ sym m.3
+one_place_on head q r words h (n, small, inl l) (k, small_k, inl m) =
+    l.1 ∙ ap o_line (one_size grid_word n k small small_k (sym l.0 ∙ m.0)) ∙ sym m.1
+one_place_on head q r words h (n, small, inl l) (k, small_k, inr m) = absurd (two_words n k (sym l.0 ∙ m.0))
+one_place_on head q r words h (n, small, inr l) (k, small_k, inl m) = absurd (two_words k n (sym m.0 ∙ l.0))
+one_place_on head q r words h (n, small, inr l) (k, small_k, inr m) =
+    l.1 ∙ ap (λ i. picture i [] []) (one_size picture_word n k small small_k (sym l.0 ∙ m.0)) ∙ sym m.1
 one_place_on (o_line n) q r words h l m =
     let small = h.greatest in
     let same = same_rows n l.0 m.0 (omega arith) (below-IsBijection n l.0 l.1) (below-IsBijection n m.0 m.1)
@@ -116,6 +151,8 @@ one_place_on (x_line n o) q r words h l m =
     let same = same_rows n l.0 m.0 (omega arith) (below-IsBijection n l.0 l.1) (below-IsBijection n m.0 m.1)
     (tails_of x_word (map decimal l.0) (map decimal m.0) (sym l.3 ∙ m.3)) in
     l.4 ∙ ap (λ x. body (record { grid = record { o = o; x = x }; commands = [] })) same ∙ sym m.4
+one_place_on (picture n o x) q r words h l m =
+    l.4 ∙ one_row n o x l.0 l.1 m.0 m.1 (symbols words) l.2 l.3 m.3 ∙ sym m.4
 one_place_on (body s) q r words h (inl l) (inl m) = l.1 ∙ sym m.1
 one_place_on (body s) q r words h (inl l) (inr m) = absurd (command-not_end s h words m.0 m.1 m.2 l.0)
 one_place_on (body s) q r words h (inr l) (inl m) = absurd (command-not_end s h words l.0 l.1 l.2 m.0)
@@ -135,13 +172,15 @@ unfolding fault_at
 fault_at-filled p words filled = ap (λ b. cond b None (table_fault p words)) filled
 
 -- a line of a form is not blank
-filled-leads_on : (p q : Place) (words : List Word) → LeadsOn p words q → is_blank words ≡ false
-filled-leads_on head q words l = ap is_blank l.2
-filled-leads_on (o_line n) q words l = ap is_blank l.2
-filled-leads_on (x_line n o) q words l = ap is_blank l.3
-filled-leads_on (body s) q words (inl l) = ap is_blank l.0
-filled-leads_on (body s) q words (inr l) = command-filled words l.0 l.1
-filled-leads_on (ended s) q words l = absurd l
+filled-leads_on : (p q : Place) (words : List Word) → IsPlace p → LeadsOn p words q → is_blank words ≡ false
+filled-leads_on head q words h (n, small, inl l) = ap is_blank l.0
+filled-leads_on head q words h (n, small, inr l) = ap is_blank l.0
+filled-leads_on (o_line n) q words h l = ap is_blank l.2
+filled-leads_on (x_line n o) q words h l = ap is_blank l.3
+filled-leads_on (picture n o x) q words h l = filled-row n words l.0 l.1 (omega (arith, h.2)) l.3
+filled-leads_on (body s) q words h (inl l) = ap is_blank l.0
+filled-leads_on (body s) q words h (inr l) = command-filled words l.0 l.1
+filled-leads_on (ended s) q words h l = absurd l
 
 -- ---- lines
 
@@ -159,7 +198,7 @@ IsPlace-path p q (words ∷ lines) h path = IsPlace-path path.0 q lines (IsPlace
 pub fault_at-leads : (p q : Place) (words : List Word) → IsPlace p → Leads p words q → fault_at p words ≡ None
 fault_at-leads p q words h (inl stays) = fault_at-blank p words stays.0
 fault_at-leads p q words h (inr l) =
-    fault_at-filled p words (filled-leads_on p q words l) ∙ table_fault-leads_on p q words h l
+    fault_at-filled p words (filled-leads_on p q words h l) ∙ table_fault-leads_on p q words h l
 
 -- a line without a fault is allowed
 pub leads-no_fault : (p : Place) (words : List Word) → IsPlace p → fault_at p words ≡ None
@@ -167,12 +206,12 @@ pub leads-no_fault : (p : Place) (words : List Word) → IsPlace p → fault_at 
 leads-no_fault p words h none = elim (cases_Bool (is_blank words)) [
   | inl blank ↦ (p, inl (blank, refl))
   | inr filled ↦
-      let on = leads_on-no_fault p words h (sym (fault_at-filled p words filled) ∙ none) in (on.0, inr on.1)
+      let on = leads_on-no_fault p words h filled (sym (fault_at-filled p words filled) ∙ none) in (on.0, inr on.1)
 ]
 
 -- a line leads to one place
 pub one_place : (p q r : Place) (words : List Word) → IsPlace p → Leads p words q → Leads p words r → q ≡ r
 one_place p q r words h (inl stays) (inl other) = sym stays.1 ∙ other.1
-one_place p q r words h (inl stays) (inr m) = absurd (true≢false (sym stays.0 ∙ filled-leads_on p r words m))
-one_place p q r words h (inr l) (inl stays) = absurd (true≢false (sym stays.0 ∙ filled-leads_on p q words l))
+one_place p q r words h (inl stays) (inr m) = absurd (true≢false (sym stays.0 ∙ filled-leads_on p r words h m))
+one_place p q r words h (inr l) (inl stays) = absurd (true≢false (sym stays.0 ∙ filled-leads_on p q words h l))
 one_place p q r words h (inr l) (inr m) = one_place_on p q r words h l m

@@ -1,28 +1,26 @@
--- The lines of the head: the line `grid`, and the O and X lines. An O or X line has a fault by the first of: another
--- first word, another number of words, a word that is no row, a row that stands twice, and, on the X line, a square
--- with both marks (`row-word` to `row-square`); without a fault its words are those of a bijection (`row-read`).
-use Rattle.std.proofs.Common.{◌≡◌, ◌≢◌, ℕ, zero, suc, ◌+◌, ◌-◌, ◌<◌, ◌^◌, Bool, true, false, ◌||◌, cond, List, [], ◌∷◌, ◌++◌, length, map, replicate, take, set, Bor, get_or, slice_index, Option, None, Some, refl, ap, subst, ◌∙◌, sym, arith, inl, inr, true≢false}
-use Rattle.std.specs.Prelude.{is_none}
+-- The O and X lines. Such a line has a fault by the first of: another first word, another number of words, a word that
+-- is no row, a row that stands twice, and, on the X line, a square with both marks (`row-word` to `row-square`); without
+-- a fault its words are those of a bijection (`row-read`).
+use Rattle.std.proofs.Common.{◌≡◌, ◌≢◌, ℕ, zero, suc, ◌+◌, ◌-◌, ◌<◌, ◌^◌, Bool, true, false, ◌||◌, cond, List, [], ◌∷◌, ◌++◌, length, map, replicate, take, set, Bor, get_or, slice_index, None, Some, refl, ap, subst, ◌∙◌, sym, arith, inl, inr, true≢false}
 use Rattle.std.specs.List.{list_any, zip, Contains, All}
 use Rattle.std.specs.Fmt.{decimal}
 use Rattle.std.proofs.lemmas.Bool.{cases_Bool, or_parts}
 use Rattle.std.proofs.lemmas.List.{length-map, length-replicate, map-append, take_more_set}
 use Rattle.std.proofs.lemmas.List.Elements.{All-push, All-contains, Contains-get_or}
-use Rattle.std.proofs.Math.Bool.{or-false}
 use Rattle.state_rank.specs.Bijection.{IsSize, IsBijection}
 use Rattle.state_rank.specs.States.{IsState}
 use Rattle.state_rank.proofs.MemberLemmas.{member_cases, member_head, member_tail, no_member}
-use Rattle.grid_text.specs.Words.{Word, is_word, numeral}
+use Rattle.grid_text.specs.Words.{Word, is_word}
 use Rattle.torus_geom.specs.Marks.{AreBijections, SharesSquare}
 use Rattle.torus_geom.specs.declared.grids.GridFault.{GridFault}
 use Rattle.torus_geom.specs.declared.grids.GridFault.TheVariants.{NotPermutation, SameSquare}
 use Rattle.std.proofs.lemmas.Fmt.{decimal_injective}
-use Rattle.grid_text.specs.Document.{Place, head, o_line, x_line, grid_word, o_word, x_word}
-use Rattle.grid_text.specs.Faults.{Kind, Form, exactly, number_between, is_bad, is_bad_by, form_at, form_among, row_form, is_after_end, is_not_commuting, has_same_square, has_repeated, is_bad_count, has_bad, table_fault}
+use Rattle.grid_text.specs.Document.{Place, o_line, x_line, o_word, x_word}
+use Rattle.grid_text.specs.Faults.{Kind, Form, number_between, is_bad, is_bad_by, form_at, form_among, row_form, is_after_end, is_not_commuting, has_same_square, has_repeated, is_bad_count, has_bad, table_fault}
 use Rattle.grid_text.specs.Inner.Reading.{IsRowPlace, AreNumerals}
 use Rattle.grid_text.specs.declared.faults.TextFault.TheVariants as fault
 use Rattle.grid_text.proofs.Lines.WordLemmas.{is_word-same, same_word, is_word-other}
-use Rattle.grid_text.proofs.Lines.KindLemmas.{list_any-never, count-other, count-same, count-right, one_word, number_of_word, number-good}
+use Rattle.grid_text.proofs.Lines.KindLemmas.{list_any-never, count-other, count-same, count-right, number_of_word, number-good}
 use Rattle.grid_text.proofs.Lines.SeenLemmas.{seen, seen-more, seen-all}
 use Rattle.grid_text.proofs.States.RepeatedLemmas.{has_repeated-bijection, bijection-has_repeated, below-IsBijection}
 use Rattle.grid_text.proofs.Lines.FaultLemmas.{NoRowHolds, NoRowHolds-from_none, table_fault-no_word, table_fault-bad_word, table_fault-last, table_fault-count, table_fault-number, table_fault-permutation, table_fault-square}
@@ -43,76 +41,10 @@ pub form_at-expected : (p : Place) (expected : Word) (form : Form)
     → ((w : Word) → form_at p w ≡ form_among ((expected, form) ∷ []) w) → form_at p expected ≡ Some form
 form_at-expected p expected form forms = forms expected ∙ ap (λ b. cond b (Some form) None) (is_word-same expected)
 
--- ---- the line `grid`
-
-pub grid-word : (words : List Word) → ((rest : List Word) → words ≢ grid_word ∷ rest)
-    → table_fault head words ≡ Some fault.BadWord
-grid-word words other =
-    table_fault-other_word head grid_word (exactly (number_between 2 9 ∷ [])) refl (λ w. refl) words other
-
-pub grid-count : (words arguments : List Word) → words ≡ grid_word ∷ arguments → length arguments ≢ 1
-    → table_fault head words ≡ Some fault.BadCount
-grid-count words arguments e other =
-    ap (table_fault head) e ∙ table_fault-count head (exactly (number_between 2 9 ∷ [])) grid_word arguments refl refl
-    (count-other 1 arguments other)
-
-pub grid-number : (words arguments : List Word) (w : Word) → words ≡ grid_word ∷ arguments → arguments ≡ w ∷ []
-    → numeral 2 9 w ≡ None → table_fault head words ≡ Some fault.BadNumber
-grid-number words arguments w e one bad =
-    ap (table_fault head) (e ∙ ap (λ a. grid_word ∷ a) one)
-    ∙ table_fault-number head (exactly (number_between 2 9 ∷ [])) grid_word (w ∷ []) refl refl refl refl
-    (ap (λ o. is_none o || false) bad)
-
--- what the reader has read of it
-pub grid-numeral : (m : ℕ) (w : Word) (r o : Option ℕ) → m ≡ 9 → r ≡ numeral 2 m w → r ≡ o → numeral 2 9 w ≡ o
-grid-numeral m w r o same value is = ap (λ k. numeral 2 k w) (sym same) ∙ sym value ∙ is
-
--- a right one has no fault
-pub grid-right : (words : List Word) (n : ℕ) → words ≡ grid_word ∷ decimal n ∷ [] → IsSize n
-    → table_fault head words ≡ None
-grid-right words n e small =
-    ap (table_fault head) e
-    ∙ table_fault-last head (exactly (number_between 2 9 ∷ [])) grid_word (decimal n ∷ []) refl refl (record {
-      count = refl;
-      choice = refl;
-      number = ap (λ b. b || false) (number-good 2 9 n small.least small.greatest (omega arith));
-      permutation = refl;
-      square = refl;
-      state = refl;
-      repeated = refl;
-      commuting = refl;
-    })
-
--- and the other way round
-pub grid-read : (words : List Word) → table_fault head words ≡ None
-    → (n : ℕ) × (IsSize n × (words ≡ grid_word ∷ decimal n ∷ []))
-grid-read [] e = let none : Some fault.BadWord ≡ None = sym (table_fault-no_word head refl) ∙ e in cc
-grid-read (w ∷ arguments) e = elim (cases_Bool (is_word grid_word w)) [
-  | inl t ↦
-      let same = same_word grid_word w t in
-      let rows = NoRowHolds-from_none head (exactly (number_between 2 9 ∷ [])) grid_word arguments refl refl
-      (ap (λ v. table_fault head (v ∷ arguments)) same ∙ e) in
-      let one = one_word arguments (count-same 1 arguments rows.0.count) in
-      let good = subst (λ a. has_bad fault.BadNumber (exactly (number_between 2 9 ∷ [])) a ≡ false) one.1
-      rows.0.number in
-      let n = number_of_word 2 9 one.0 (sym (or-false (is_bad (number_between 2 9) one.0)) ∙ good) in (
-        n.0,
-        (
-          record { least = n.1.1; greatest = n.1.2 },
-          (λ i. sym same i ∷ one.1 i)
-              ∙ ap (λ v. grid_word ∷ v ∷ []) n.1.0,
-        ),
-      )
-  | inr f ↦
-      let none : Some fault.BadWord ≡ None =
-      sym (table_fault-bad_word head w arguments refl
-      (ap (λ b. cond b (Some (exactly (number_between 2 9 ∷ []))) None) f)) ∙ e in cc
-]
-
 -- ---- O and X lines
 
 -- a test of each word for its kind, where all kinds are one
-zip-replicate : (test : Kind → Word → Bool) (kind : Kind) (n : ℕ) (words : List Word) → length words ≡ n
+pub zip-replicate : (test : Kind → Word → Bool) (kind : Kind) (n : ℕ) (words : List Word) → length words ≡ n
     → list_any (λ (a : Kind × Word). test a.0 a.1) (zip (replicate n kind) words) ≡ list_any (test kind) words
 zip-replicate test kind zero [] e = refl
 zip-replicate test kind zero (w ∷ words) e = absurd (omega arith)
@@ -135,7 +67,8 @@ module _ (p : Place) (letter : Word) (n : ℕ) (place : IsRowPlace letter n p) w
     pub row-count : length arguments ≢ n → table_fault p words ≡ Some fault.BadCount
     row-count other =
         ap (table_fault p) e
-        ∙ table_fault-count p (row_form n) letter arguments place.not_ended row-known
+        ∙ table_fault-count p (row_form n) (letter ∷ arguments) arguments place.not_ended row-known
+        (place.arguments letter arguments)
         (count-other (length (replicate n (number_between 0 (n - 1)))) arguments
         (λ same. other (same ∙ length-replicate n (number_between 0 (n - 1)))))
 
@@ -154,7 +87,8 @@ module _ (p : Place) (letter : Word) (n : ℕ) (place : IsRowPlace letter n p) w
           → table_fault p words ≡ Some fault.BadNumber
       row-number bad =
           ap (table_fault p) e
-          ∙ table_fault-number p (row_form n) letter arguments place.not_ended row-known row-counted row-choices
+          ∙ table_fault-number p (row_form n) (letter ∷ arguments) arguments place.not_ended row-known
+          (place.arguments letter arguments) row-counted row-choices
           (zip-replicate (is_bad_by fault.BadNumber) (number_between 0 (n - 1)) n arguments long ∙ bad)
 
       module _ (good : list_any (is_bad (number_between 0 (n - 1))) arguments ≡ false) where
@@ -165,7 +99,8 @@ module _ (p : Place) (letter : Word) (n : ℕ) (place : IsRowPlace letter n p) w
         pub row-permutation : has_repeated arguments ≡ true → table_fault p words ≡ Some fault.NotPermutation
         row-permutation twice =
             ap (table_fault p) e
-            ∙ table_fault-permutation p (row_form n) letter arguments place.not_ended row-known row-counted row-choices
+            ∙ table_fault-permutation p (row_form n) (letter ∷ arguments) arguments place.not_ended row-known
+            (place.arguments letter arguments) row-counted row-choices
             row-numbers (place.permutation arguments ∙ twice)
 
         -- an O and an X in one square
@@ -173,7 +108,8 @@ module _ (p : Place) (letter : Word) (n : ℕ) (place : IsRowPlace letter n p) w
             → table_fault p words ≡ Some fault.SameSquare
         row-square once shared =
             ap (table_fault p) e
-            ∙ table_fault-square p (row_form n) letter arguments place.not_ended row-known row-counted row-choices
+            ∙ table_fault-square p (row_form n) (letter ∷ arguments) arguments place.not_ended row-known
+            (place.arguments letter arguments) row-counted row-choices
             row-numbers (place.permutation arguments ∙ once) shared
 
         row-states : has_bad fault.BadState (row_form n) arguments ≡ false
@@ -269,10 +205,10 @@ module _ (n : ℕ) (rows : List ℕ) (words : List Word) (h : AreNumerals n rows
 
 -- the places of O and X lines
 pub IsRowPlace-o_line : (n : ℕ) → IsRowPlace o_word n (o_line n)
-IsRowPlace-o_line n = record { not_ended = refl; form = λ w. refl; permutation = λ a. refl }
+IsRowPlace-o_line n = record { not_ended = refl; form = λ w. refl; arguments = λ w a. refl; permutation = λ a. refl }
 
 pub IsRowPlace-x_line : (n : ℕ) (o : List ℕ) → IsRowPlace x_word n (x_line n o)
-IsRowPlace-x_line n o = record { not_ended = refl; form = λ w. refl; permutation = λ a. refl }
+IsRowPlace-x_line n o = record { not_ended = refl; form = λ w. refl; arguments = λ w a. refl; permutation = λ a. refl }
 
 -- no O is in the square of an X
 pub squares-apart : (o x : List ℕ) → length o ≡ length x
@@ -341,7 +277,8 @@ module _ (p : Place) (letter : Word) (n : ℕ) (place : IsRowPlace letter n p) w
   row-read small (w ∷ arguments) e = elim (cases_Bool (is_word letter w)) [
     | inl t ↦
         let same = same_word letter w t in
-        let rows = NoRowHolds-from_none p (row_form n) letter arguments place.not_ended (row-known p letter n place)
+        let rows = NoRowHolds-from_none p (row_form n) (letter ∷ arguments) arguments place.not_ended
+        (row-known p letter n place) (place.arguments letter arguments)
         (ap (λ v. table_fault p (v ∷ arguments)) same ∙ e) in
         let long : length arguments ≡ n =
         count-same (length (replicate n (number_between 0 (n - 1)))) arguments rows.0.count
@@ -369,7 +306,7 @@ module _ (p : Place) (letter : Word) (n : ℕ) (place : IsRowPlace letter n p) w
 
   -- the rows of the table, but for the squares
   row-right : IsSize n → (x : List ℕ) → IsBijection n x → has_same_square p (map decimal x) ≡ false
-      → is_not_commuting p (letter ∷ map decimal x) ≡ false → NoRowHolds p (row_form n) letter (map decimal x)
+      → is_not_commuting p (letter ∷ map decimal x) ≡ false → NoRowHolds p (row_form n) (letter ∷ map decimal x) (map decimal x)
   row-right small x bijection apart commuting =
       let most = small.greatest in
       let long : length (map decimal x) ≡ n = length-map x decimal ∙ bijection.long in
@@ -390,8 +327,8 @@ pub o_line-right : (n : ℕ) (o : List ℕ) (words : List Word) → IsSize n →
     → words ≡ o_word ∷ map decimal o → table_fault (o_line n) words ≡ None
 o_line-right n o words small bijection e =
     ap (table_fault (o_line n)) e
-    ∙ table_fault-last (o_line n) (row_form n) o_word (map decimal o) refl
-    (row-known (o_line n) o_word n (IsRowPlace-o_line n))
+    ∙ table_fault-last (o_line n) (row_form n) (o_word ∷ map decimal o) (map decimal o) refl
+    (row-known (o_line n) o_word n (IsRowPlace-o_line n)) refl
     (row-right (o_line n) o_word n (IsRowPlace-o_line n) small o bijection refl refl)
 
 pub o_line-read : (n : ℕ) (words : List Word) → IsSize n → table_fault (o_line n) words ≡ None
@@ -407,8 +344,8 @@ x_line-right n o x words small bijection_o bijection apart e =
     let most = small.greatest in
     let long = bijection_o.long in
     ap (table_fault (x_line n o)) e
-    ∙ table_fault-last (x_line n o) (row_form n) x_word (map decimal x) refl
-    (row-known (x_line n o) x_word n (IsRowPlace-x_line n o))
+    ∙ table_fault-last (x_line n o) (row_form n) (x_word ∷ map decimal x) (map decimal x) refl
+    (row-known (x_line n o) x_word n (IsRowPlace-x_line n o)) refl
     (row-right (x_line n o) x_word n (IsRowPlace-x_line n o) small x bijection
     (squares-apart o x (bijection_o.long ∙ sym bijection.long) (λ c l. apart c (omega arith))
     (λ r m. let b = below-IsBijection n o bijection_o r m in omega arith)

@@ -257,7 +257,7 @@ IsDocument-plain_form s h =
     (lines-plain x_word (map decimal x) tail (closed x_word refl (omega arith)) plain_x)) in
     subst (λ ls. Path head ls (ended s)) (sym lines) (
       o_line n,
-      inr (n, h.grid.is_size, refl, refl),
+      inr (n, h.grid.is_size, inl (refl, refl)),
       (
         x_line n o,
         inr (o, h.grid.o, refl, refl),

@@ -8,7 +8,7 @@ use Rattle.std.specs.declared.option.Option.TheVariants.{Some}
 use Rattle.std.specs.declared.result.Result.{Result}
 use Rattle.std.specs.declared.result.Result.TheVariants.{Ok, Err}
 use Rattle.grid_text.specs.Words.{Word}
-use Rattle.grid_text.specs.Document.{Place, head, o_line, x_line, body, ended, LeadsOn, Leads}
+use Rattle.grid_text.specs.Document.{Place, head, o_line, x_line, picture, body, ended, LeadsOn, Leads}
 use Rattle.grid_text.specs.Faults.{table_fault, fault_at}
 use Rattle.grid_text.specs.Inner.Reading.{IsPlace}
 use Rattle.grid_text.specs.declared.faults.TextFault.{TextFault}
@@ -19,6 +19,7 @@ abbrev pub place_of : StoredPlace → Place
 place_of stored.Head = head
 place_of (stored.OLine n) = o_line n
 place_of (stored.XLine o) = x_line (length o) o
+place_of (stored.Picture p) = picture p.size p.o.items p.x.items
 place_of (stored.Body s) = body s
 place_of (stored.Ended s) = ended s
 

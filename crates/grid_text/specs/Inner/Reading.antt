@@ -10,7 +10,7 @@
 --                                 `end`, or a line with a fault before `TooMany`
 --     IsRowPlace letter n p       a line of n rows that begins with the letter stands at the place
 --     AreNumerals n rows words    the words are the decimal forms of rows below n
-use Rattle.std.specs.Prelude.{◌≡◌, ℕ, ◌<◌, Bool, true, false, List, [], ◌∷◌, map}
+use Rattle.std.specs.Prelude.{◌≡◌, ℕ, ◌<◌, Bool, true, false, List, [], ◌∷◌, length, map}
 use Rattle.std.specs.List.{All}
 use Rattle.std.specs.Fmt.{decimal}
 use Rattle.std.specs.Option.{option_map_or}
@@ -22,8 +22,9 @@ use Rattle.state_rank.specs.Bijection.{IsSize, IsBijection}
 use Rattle.grid_text.specs.Words.{Word}
 use Rattle.grid_text.specs.Commands.{command_row, IsLineOf, IsAllowed}
 use Rattle.grid_text.specs.Script.{GridScript, IsScript, grid_in_force}
-use Rattle.grid_text.specs.Document.{Place, head, o_line, x_line, body, ended, end_word}
-use Rattle.grid_text.specs.Faults.{Form, exactly, form_of, is_after_end, form_at, form_among, row_form, is_not_permutation, has_repeated, table_fault}
+use Rattle.grid_text.specs.Document.{Place, head, o_line, x_line, picture, body, ended, end_word}
+use Rattle.grid_text.specs.Faults.{Form, exactly, form_of, is_after_end, form_at, form_among, row_form, arguments_at, is_not_permutation, has_repeated, table_fault}
+use Rattle.grid_text.specs.Inner.Pictures.{IsPartOfPicture}
 use Rattle.grid_text.specs.declared.commands.Command.{Command}
 use Rattle.grid_text.specs.declared.commands.Command.TheVariants as command
 use Rattle.grid_text.specs.declared.commands.Sign.TheVariants.{Plus}
@@ -65,6 +66,7 @@ abbrev pub IsPlace : Place → Type 0
 IsPlace head = Unit {0}
 IsPlace (o_line n) = IsSize n
 IsPlace (x_line n o) = IsSize n × IsBijection n o
+IsPlace (picture n o x) = IsSize n × IsPartOfPicture n o x × (length o < n)
 IsPlace (body s) = IsScript s
 IsPlace (ended s) = IsScript s
 
@@ -79,6 +81,7 @@ IsRead s words (Err f) = table_fault (body s) words ≡ Some f
 pub record IsRowPlace (letter : Word) (n : ℕ) (p : Place) : Type 0 where
   pub not_ended : is_after_end p ≡ false
   pub form : (word : Word) → form_at p word ≡ form_among ((letter, row_form n) ∷ []) word
+  pub arguments : (word : Word) (rest : List Word) → arguments_at p (word ∷ rest) ≡ rest
   pub permutation : (arguments : List Word) → is_not_permutation p arguments ≡ has_repeated arguments
 
 pub record AreNumerals (n : ℕ) (rows : List ℕ) (words : List Word) : Type 0 where
