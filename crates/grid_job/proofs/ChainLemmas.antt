@@ -4,18 +4,23 @@ use Rattle.std.specs.List.{AllPairs, Contains}
 use Rattle.std.proofs.lemmas.Bool.{cases_Bool, eqb-true, true≢false}
 use Rattle.std.proofs.lemmas.List.{take_more, take_all, length-map, get_or-map}
 use Rattle.std.proofs.lemmas.List.Elements.{All-contains, All-head, All-map, All-tail}
-use Rattle.f2_algebra.specs.Chain.{of_codes, single, ◌⊕◌}
+use Rattle.f2_algebra.specs.Chain.{nothing, of_codes, single, ◌⊕◌}
 use Rattle.f2_algebra.proofs.Chains.Lists.{All-codes}
-use Rattle.f2_algebra.proofs.Chains.Sets.{any, any-append, holds-add, holds-of_codes, holds-single, same_chain}
+use Rattle.f2_algebra.proofs.Chains.Sets.{any, any-append, holds-add, holds-nothing, holds-of_codes, holds-single, same_chain}
 use Rattle.f2_algebra.proofs.Chains.Tables.{◌⊻◌}
 use Rattle.state_rank.specs.Bijection.{IsBijection}
 use Rattle.state_rank.specs.States.{IsState, rank, factorial}
 use Rattle.state_rank.proofs.MemberLemmas.{member_cases, pairs_head, pairs_tail}
 use Rattle.state_rank.proofs.RankLemmas.{rank-below, ranks_rise}
-use Rattle.torus_geom.specs.Marks.{Marks, size}
-use Rattle.grid_text.specs.Commands.{IsStateOf}
+use Rattle.torus_geom.specs.Marks.{Marks, size, IsGrid}
+use Rattle.grid_text.specs.Commands.{IsAllowed, IsStateOf}
 use Rattle.grid_text.specs.States.{AreStates}
+use Rattle.grid_text.specs.declared.commands.Command.{Command}
+use Rattle.grid_text.specs.declared.commands.Command.TheVariants as command
 use Rattle.legendrian_class.specs.States.{HasStates}
+use Rattle.legendrian_class.proofs.BoundsLemmas.{HasStates-exchanged}
+use Rattle.legendrian_class.proofs.FollowedLemmas.{HasStates-after_turn}
+use Rattle.grid_job.specs.InForce.{InForce, after}
 
 -- ---- codes that rise
 not_above : (c x : ℕ) → x < c → eqb c x ≡ false
@@ -89,3 +94,13 @@ ranks-below g xs states =
     let n = factorial (size g) in
     let ranks = All-map (λ c. c < n) rank xs (λ i d l. rank-below_state g (get_or xs i d) (states i d l)) in
     All-codes (λ c. c < n) (of_codes (map rank xs)) (λ q held. any-below n (map rank xs) q ranks (sym (holds-of_codes (map rank xs) q) ∙ held))
+
+pub HasStates-nothing : (g : Marks) → HasStates g nothing
+HasStates-nothing g = All-codes (λ c. c < factorial (size g)) nothing (λ q held. absurd (true≢false (sym held ∙ holds-nothing q)))
+
+-- what is in force stays a grid with a chain of its states
+pub HasStates-after : (p : InForce) (c : Command) → IsGrid p.grid → HasStates p.grid p.chain → IsAllowed p.grid c → HasStates (after p c).grid (after p c).chain
+HasStates-after p (command.Chain xs) grid states allowed = ranks-below p.grid xs allowed.0
+HasStates-after p (command.Turn side) grid states allowed = HasStates-after_turn side p.grid _ (size p.grid) p.chain _ states refl refl refl
+HasStates-after p (command.Commute axis c corner) grid states allowed = HasStates-exchanged axis p.grid _ c corner p.chain _ grid refl refl
+HasStates-after p other grid states allowed = states

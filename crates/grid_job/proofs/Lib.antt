@@ -4,3 +4,4 @@ pub mod OutcomeLemmas
 pub mod ModeLemmas
 pub mod WrittenLemmas
 pub mod ChainLemmas
+pub mod ClassLemmas

@@ -18,6 +18,7 @@ use Rattle.grid_job.specs.declared.modes.Mode.{Mode}
 use Rattle.grid_job.specs.declared.modes.Mode.TheVariants.{Run}
 use Rattle.grid_job.specs.declared.statuses.Status.{Status}
 use Rattle.grid_job.specs.declared.statuses.Status.TheVariants.{Done, Usage, Refused, ReadFault, WriteFault, NoMemory, No}
+use Rattle.grid_job.proofs.ChainLemmas.{HasStates-nothing}
 use Rattle.grid_job.proofs.ReportLemmas.{exists_answers}
 
 -- ---- one status
@@ -50,9 +51,7 @@ one_status Run text Refused No a b x y = absurd y
 
 -- ---- an outcome
 built_or_not : (c : Command) → IsBuiltCommand c ⊎ (IsBuiltCommand c → ⊥)
-built_or_not (command.Class sign) = inr (λ b. b)
-built_or_not command.Bounds = inr (λ b. b)
-built_or_not other = inl tt
+built_or_not c = inl tt
 
 pub all_built_or_not : (cs : List Command) → All IsBuiltCommand cs ⊎ (All IsBuiltCommand cs → ⊥)
 all_built_or_not [] = inl (All-nil IsBuiltCommand)
@@ -79,7 +78,7 @@ within_or_long text = elim (cases_Bool (nat_lt max_text (length text))) [
 outcome_of_script : (text : List ℕ) (s : GridScript) → length text ≤ max_text → IsDocument text s → IsScript s → SomeOutcome Run text
 outcome_of_script text s within document is_script = elim (all_built_or_not s.commands) [
   | inl built ↦
-      let report = exists_answers (at_start s.grid) s.commands is_script.grid built is_script.allowed in
+      let report = exists_answers (at_start s.grid) s.commands is_script.grid (HasStates-nothing s.grid) built is_script.allowed in
       (Done, report.0, record { within = within; script = s; document = document; built = built; report = report.1 })
   | inr not_built ↦ (Refused, _, inr (inr (record { within = within; script = s; document = document; not_built = not_built; told = refl })))
 ]

@@ -1,5 +1,6 @@
 pub mod InForce
 pub mod Hat
+pub mod VerdictTexts
 pub mod Report
 pub mod Status
 pub mod Outcome

@@ -20,11 +20,11 @@ use Rattle.grid_text.specs.declared.commands.Command.{Command}
 use Rattle.grid_text.specs.declared.commands.Command.TheVariants as command
 use Rattle.grid_job.specs.InForce.{InForce, at_start, after}
 use Rattle.grid_job.specs.Hat.{IsHatText}
+use Rattle.grid_job.specs.VerdictTexts.{IsClassText, IsBoundsText}
 
+-- each command of the language has
 abbrev pub IsBuiltCommand : Command → Type 0
-IsBuiltCommand (command.Class sign) = ⊥
-IsBuiltCommand command.Bounds = ⊥
-IsBuiltCommand other = Unit {0}
+IsBuiltCommand c = Unit {0}
 
 abbrev pub IsBuilt : GridScript → Type 0
 IsBuilt s = All IsBuiltCommand s.commands
@@ -35,18 +35,18 @@ pub record IsTableText (g : Marks) (text : List ℕ) : Type 0 where
   pub table : IsHomologyTable g (map homology_row rows)
   pub lines : text ≡ table_lines rows
 
--- the classical invariants of the front; the table of ranks; the hat, or that there is none; the states of the border,
--- and those of the chain in force, in ascending order; nothing where a command makes what is in force. The other
--- commands have no answer yet
+-- the classical invariants of the front; the table of ranks; the hat, or that there is none; the verdict of the class of
+-- x+ or x-, and of the chain in force, each with its evidence; the states of the border, and those of the chain in force,
+-- in ascending order; nothing where a command makes what is in force
 abbrev pub IsAnswer : InForce → Command → List ℕ → Type 0
 IsAnswer p command.Front text = text ≡ front_line (thurston_bennequin p.grid) (rotation p.grid) (components p.grid)
 IsAnswer p command.Ranks text = IsTableText p.grid text
 IsAnswer p command.Hat text = IsHatText p.grid text
-IsAnswer p (command.Class sign) text = ⊥
+IsAnswer p (command.Class sign) text = IsClassText p.grid sign text
 IsAnswer p (command.Border x) text = text ≡ set_line (codes "border") (size p.grid) (border_of_state p.grid x)
 IsAnswer p (command.Chain z) text = text ≡ []
 IsAnswer p command.Show text = text ≡ set_line (codes "chain") (size p.grid) p.chain
-IsAnswer p command.Bounds text = ⊥
+IsAnswer p command.Bounds text = IsBoundsText p.grid p.chain text
 IsAnswer p (command.Turn side) text = text ≡ []
 IsAnswer p (command.Commute axis c corner) text = text ≡ []
 

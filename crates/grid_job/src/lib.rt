@@ -3,10 +3,12 @@
 //! Read `gridhom` first. Its contract says that a run that is done has read a document to its end and
 //! written a report of it, and when each other answer comes, with what was written until then. What a
 //! document and a report are is said in specs/, with no trace of how they are read and written.
-//! Stands on `grid_ports`, on `grid_text`, which judges texts, on `front_data`, `rectangles`,
-//! `homology_cert` and `hat_division`, which answer the commands, and on `report_text`, which prints their answers.
+//! Stands on `grid_ports`, on `grid_text`, which judges texts, on `front_data`, `rectangles`, `homology_cert`,
+//! `hat_division` and `legendrian_class`, which answer the commands, and on `report_text`, which prints their
+//! answers.
 #![tactic(auto)]
 
+mod classes;
 mod hats;
 mod in_force;
 mod jobs;
@@ -20,3 +22,5 @@ pub use statuses::Status;
 
 #[cfg(test)]
 mod tests;
+#[cfg(test)]
+mod verdict_tests;

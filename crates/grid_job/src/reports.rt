@@ -11,6 +11,7 @@ ghost use Rattle.grid_text.specs.Script.{AreAllowed};
 ghost use Rattle.grid_job.specs.InForce.{at_start};
 ghost use Rattle.grid_job.specs.Report.{IsBuiltCommand, IsAnswer, AreAnswers, IsTableText};
 
+use crate::classes::{bounds_lines, class_lines};
 use crate::hats::hat_text;
 use crate::in_force::follow;
 use front_data::front;
@@ -69,10 +70,8 @@ pub fn are_built(commands: &[Command]) -> bool
 fn is_built(command: &Command) -> bool
     ensures { IsTrue result ↔ IsBuiltCommand command.now }
 {
-    match command {
-        Command::Class(_) | Command::Bounds => false,
-        _ => true,
-    }
+    let _ = command;
+    true
 }
 
 /// Writes a report of the commands on the grid. Where it ends early, a prefix of a report is written.
@@ -115,9 +114,10 @@ fn answer_to(alloc: Global, p: &Follower, command: &Command) -> Result<Vec<u8>, 
         Command::Ranks => ranks_lines(alloc, g),
         Command::Hat => hat_text(alloc, g),
         Command::Border(state) => border_line(alloc, g, state),
+        Command::Class(sign) => class_lines(alloc, g, *sign),
         Command::Show => set_line(alloc, "chain", g.size(), p.chain()),
+        Command::Bounds => bounds_lines(alloc, g, p.chain()),
         Command::Chain(_) | Command::Turn(_) | Command::Commute(_, _, _) => Ok(Vec::new(alloc)),
-        _ => unreachable!(),
     }
 }
 

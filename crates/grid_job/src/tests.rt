@@ -128,7 +128,7 @@ const SMALL: &str = "grid 2\nO 1 0\nX 0 1\n";
 const LARGE: &str = "grid 5\nO 0 1 2 3 4\nX 2 3 4 0 1\n";
 
 /// Texts that are refused, each in two parts, and the line that says so.
-const FAULTS: [(&str, &str, &str); 19] = [
+const FAULTS: [(&str, &str, &str); 17] = [
     (LARGE, "cols 1 over\nend\n", "refused NotCommuting line 4\n"),
     (SMALL, "", "refused NoEnd line 4\n"),
     (SMALL, "end\nfront\n", "refused AfterEnd line 5\n"),
@@ -161,8 +161,6 @@ const FAULTS: [(&str, &str, &str); 19] = [
         "refused RepeatedState line 4\n",
     ),
     (SMALL, "cols 1 over\nend\n", "refused NotCommuting line 4\n"),
-    (SMALL, "class +\nend\n", "refused NotBuilt line 0\n"),
-    (SMALL, "bounds\nend\n", "refused NotBuilt line 0\n"),
     (SMALL, "show\nfronts\n", "refused BadWord line 5\n"),
 ];
 
@@ -266,7 +264,7 @@ const HATS: [(&str, &str); 5] = [
 ];
 
 /// The exit status of a call, and what it wrote.
-fn answer(
+pub(crate) fn answer(
     alloc: Global,
     words: &str,
     text: Vec<u8>,
@@ -381,6 +379,22 @@ fn faults_and_their_lines(rt: HostRuntime) -> Result<(), Fail> {
             "what is written on {first:?} {later:?}"
         );
     }
+    Ok(())
+}
+
+#[test]
+fn as_many_commands_as_there_may_be(rt: HostRuntime) -> Result<(), Fail> {
+    let alloc = rt.alloc();
+    let mut text = Vec::from_slice(alloc, SMALL.as_bytes())?;
+    let mut report = Vec::new(alloc);
+    for _ in 0..256 {
+        text.extend_from_slice(b"show\n")?;
+        report.extend_from_slice(b"chain\n")?;
+    }
+    text.extend_from_slice(b"end\n")?;
+    let (status, written) = answer(alloc, "run", text, (0, 0))?;
+    assert_eq!(rt; status, 0);
+    assert_eq!(rt; written.as_slice(), report.as_slice());
     Ok(())
 }
 

@@ -4,16 +4,21 @@
 --     front_line tb rot l        the Thurston-Bennequin number, the rotation number and the number of
 --                                components of a front
 --     row_line row               the line of a row of a table: its Maslov degree, its Alexander degree and its rank
+--     class_line sign x m a alive
+--                                the state x+ or x- of a grid, its Maslov and its Alexander degree, and whether its
+--                                class is alive or null
 --     table_lines rows           the number of rows of a table, and a line for each row
 --     hat_lines exponent hat     the exponent, the number of rows and a line for each row of a hat, or that there is none
 --     set_line word n z          a word, and the states of size n of a chain, in ascending order
 --     refused_line word number   the word of a fault, and the number of its line
-use Rattle.std.specs.Prelude.{ℕ, ℤ, List, [], ◌∷◌, ◌++◌, length, codes, Option, None, Some}
+use Rattle.std.specs.Prelude.{ℕ, ℤ, Bool, List, [], ◌∷◌, ◌++◌, length, codes, Option, None, Some, if◌then◌else◌}
 use Rattle.std.specs.List.{flat_map}
 use Rattle.std.specs.Fmt.{decimal, signed_decimal}
 use Rattle.f2_algebra.specs.Chain.{Chain, codes as ranks}
 use Rattle.state_rank.specs.States.{unrank, state_word}
 use Rattle.hat_division.specs.declared.tables.TableRow.{TableRow}
+use Rattle.grid_text.specs.Commands.{sign_word}
+use Rattle.grid_text.specs.declared.commands.Sign.{Sign}
 
 abbrev pub line : List ℕ → List ℕ
 line words = words ++ 10 ∷ []
@@ -22,6 +27,11 @@ abbrev pub front_line : ℤ → ℤ → ℕ → List ℕ
 front_line tb rot components = line
     (codes "front tb " ++ signed_decimal tb ++ codes " rot " ++ signed_decimal rot
     ++ codes " components " ++ decimal components)
+
+abbrev pub class_line : Sign → List ℕ → ℤ → ℤ → Bool → List ℕ
+class_line sign x m a alive = line
+    (codes "class " ++ sign_word sign ++ 32 ∷ state_word x ++ codes " at " ++ signed_decimal m ++ 32 ∷ signed_decimal a
+    ++ (if alive then codes " alive" else codes " null"))
 
 abbrev pub row_line : TableRow → List ℕ
 row_line row = line

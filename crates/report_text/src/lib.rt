@@ -2,12 +2,12 @@
 //!
 //! Read `front_line` first. The contract of each function says that the answer is exactly the bytes of
 //! the lines that specs/ defines, for the values that are handed in.
-//! Stands on `front_data`, `hat_division` and `f2_chain`, whose values it prints.
+//! Stands on `front_data`, `gradings`, `grid_text`, `hat_division` and `f2_chain`, whose values it prints.
 #![tactic(auto)]
 
 mod lines;
 
-pub use lines::{front_line, hat_lines, refused_line, set_line, table_lines};
+pub use lines::{class_line, front_line, hat_lines, refused_line, set_line, table_lines};
 
 #[cfg(test)]
 mod tests;

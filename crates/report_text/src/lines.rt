@@ -1,15 +1,18 @@
 //! Lines of values.
-ghost use Rattle.std.specs.Prelude.{◌≡◌, ◌+◌, ◌<◌, ◌∷◌, ◌++◌, length, All, IfOk, OnOk, Some};
+ghost use Rattle.std.specs.Prelude.{◌≡◌, ◌+◌, ◌<◌, ◌∷◌, [], ◌++◌, length, codes, All, IfOk, OnOk, Some, if◌then◌else◌};
 ghost use Rattle.std.specs.List.{flat_map};
 ghost use Rattle.std.specs.Option.{option_copied};
 ghost use Rattle.f2_algebra.specs.Chain.{codes as codes_of};
 ghost use Rattle.state_rank.specs.Bijection.{IsSize};
 ghost use Rattle.state_rank.specs.States.{factorial, state_word};
-ghost use Rattle.report_text.specs.Lines.{front_line as front_line_of, row_line, table_lines as table_lines_of, hat_lines as hat_lines_of, set_line as set_line_of, refused_line as refused_line_of};
+ghost use Rattle.grid_text.specs.Commands.{sign_word};
+ghost use Rattle.report_text.specs.Lines.{front_line as front_line_of, class_line as class_line_of, row_line, table_lines as table_lines_of, hat_lines as hat_lines_of, set_line as set_line_of, refused_line as refused_line_of};
 
 use f2_chain::Chain;
 use front_data::FrontNumbers;
+use gradings::Bidegree;
 use grid_ports::NoMemory;
+use grid_text::Sign;
 use hat_division::{Table, TableRow};
 use itoa::{Buffer, Integer};
 use state_rank::State;
@@ -30,6 +33,33 @@ pub fn front_line(alloc: Global, f: &FrontNumbers) -> Result<Vec<u8>, NoMemory>
     push_number(&mut line, f.rot)?;
     line.extend_from_slice(b" components ")?;
     push_number(&mut line, f.components)?;
+    line.push(b'\n')?;
+    Ok(line)
+}
+
+/// The line of a class: `class + S at M A alive`, or `class - S at M A null`, with the sign, the state
+/// `x` that stands for the class, and its Maslov and Alexander degrees.
+///
+/// # Errors
+///
+/// `NoMemory` if the allocator refuses.
+pub fn class_line(
+    alloc: Global,
+    sign: Sign,
+    x: &State,
+    d: Bidegree,
+    alive: bool,
+) -> Result<Vec<u8>, NoMemory>
+    ensures { IfOk result (λ line. line.items ≡ class_line_of sign x.now d.m d.a alive) }
+{
+    let mut line = Vec::from_slice(alloc, b"class ")?;
+    line.push(sign_byte(sign))?;
+    push_word(&mut line, x)?;
+    line.extend_from_slice(b" at ")?;
+    push_number(&mut line, d.m)?;
+    line.push(b' ')?;
+    push_number(&mut line, d.a)?;
+    line.extend_from_slice(verdict_word(alive))?;
     line.push(b'\n')?;
     Ok(line)
 }
@@ -67,7 +97,7 @@ pub fn hat_lines(alloc: Global, exponent: u8, q: Option<&Table>) -> Result<Vec<u
 }
 
 /// The line of a set of states: `word`, then the states of size `n` whose ranks are in `z`, in ascending
-/// order. An empty set adds nothing to the word.
+/// order. An empty set adds nothing to the word, which may be any, as `bound` or `bounds notcycle`.
 ///
 /// # Errors
 ///
@@ -113,6 +143,23 @@ fn quotient_lines(alloc: Global, exponent: u8, quotient: &Table) -> Result<Vec<u
     lines.push(b'\n')?;
     push_rows(&mut lines, hat)?;
     Ok(lines)
+}
+
+// The character of a sign.
+fn sign_byte(sign: Sign) -> u8
+    ensures { result ∷ [] ≡ sign_word sign }
+{
+    match sign {
+        Sign::Plus => b'+',
+        Sign::Minus => b'-',
+    }
+}
+
+// A space, and the word for what a class is.
+fn verdict_word(alive: bool) -> &'static [u8]
+    ensures { result.now ≡ (if alive then codes " alive" else codes " null") }
+{
+    if alive { b" alive" } else { b" null" }
 }
 
 // Appends the decimal digits of a number.

@@ -1,0 +1,99 @@
+//! The lines of verdicts, each with its evidence.
+ghost use Rattle.std.specs.Prelude.{◌≡◌, ◌++◌, ◌<◌, length, IfOk, All, codes};
+ghost use Rattle.f2_algebra.specs.Chain.{codes as codes_of};
+ghost use Rattle.state_rank.specs.Bijection.{IsSize};
+ghost use Rattle.state_rank.specs.States.{factorial};
+ghost use Rattle.torus_geom.specs.Marks.{size};
+ghost use Rattle.report_text.specs.Lines.{line as line_of, set_line as set_line_of};
+ghost use Rattle.grid_job.specs.VerdictTexts.{class_state as class_state_of, verdict_line as verdict_line_of, IsClassText, IsBoundsText};
+ghost use Rattle.legendrian_class.specs.States.{HasStates};
+
+use f2_chain::{Chain, CodeSet};
+use front_data::{minus_state, plus_state};
+use gradings::degree;
+use grid_ports::NoMemory;
+use grid_text::Sign;
+use legendrian_class::{ClassVerdict, verdict};
+use report_text::{class_line, set_line};
+use state_rank::State;
+use std::alloc::Global;
+use torus_geom::Grid;
+
+/// The lines of the class of x+ or x-: its state with its degrees, and whether it is null or alive, with
+/// the evidence.
+pub(crate) fn class_lines(alloc: Global, g: &Grid, sign: Sign) -> Result<Vec<u8>, NoMemory>
+    ensures { IfOk result (λ text. IsClassText g.now sign text.items) }
+{
+    let n = g.size();
+    let x = class_state(g, sign);
+    let z = CodeSet::single(alloc, x.rank())?;
+    match verdict(alloc, g, &z)? {
+        ClassVerdict::NotCycle { state: _ } => unreachable!(),
+        ClassVerdict::Null { bound } => {
+            let text = verdict_line(alloc, g, sign, false)?;
+            with_set(alloc, text, "bound", n, &bound)
+        }
+        ClassVerdict::Alive { cocycle } => {
+            let text = verdict_line(alloc, g, sign, true)?;
+            with_set(alloc, text, "cocycle", n, &cocycle)
+        }
+    }
+}
+
+/// The lines of the verdict of the chain `z`, with its evidence.
+pub(crate) fn bounds_lines(alloc: Global, g: &Grid, z: &Chain) -> Result<Vec<u8>, NoMemory>
+    requires { HasStates g.now z.now }
+    ensures { IfOk result (λ text. IsBoundsText g.now z.now text.items) }
+{
+    let n = g.size();
+    match verdict(alloc, g, z)? {
+        ClassVerdict::NotCycle { state } => {
+            let least = CodeSet::single(alloc, state)?;
+            set_line(alloc, "bounds notcycle", n, &least)
+        }
+        ClassVerdict::Null { bound } => {
+            let text = Vec::from_slice(alloc, b"bounds null\n")?;
+            with_set(alloc, text, "bound", n, &bound)
+        }
+        ClassVerdict::Alive { cocycle } => {
+            let text = Vec::from_slice(alloc, b"bounds alive\n")?;
+            with_set(alloc, text, "cocycle", n, &cocycle)
+        }
+    }
+}
+
+// The state x+ or x-.
+fn class_state(g: &Grid, sign: Sign) -> State
+    ensures { result ≡ class_state_of g.now sign }
+{
+    match sign {
+        Sign::Plus => plus_state(g),
+        Sign::Minus => minus_state(g),
+    }
+}
+
+// The line of a class that is alive, or null.
+fn verdict_line(alloc: Global, g: &Grid, sign: Sign, alive: bool) -> Result<Vec<u8>, NoMemory>
+    ensures { IfOk result (λ text. text.items ≡ verdict_line_of g.now sign alive) }
+{
+    let _ = g.size();
+    let x = class_state(g, sign);
+    class_line(alloc, sign, &x, degree(g, &x), alive)
+}
+
+// The text, and below it the line of a set of states.
+fn with_set(
+    alloc: Global,
+    mut text: Vec<u8>,
+    word: &str,
+    n: u8,
+    z: &Chain,
+) -> Result<Vec<u8>, NoMemory>
+    requires size { IsSize n }
+    requires ranks { All (λ code. code < factorial n) (codes_of z.now) }
+    ensures { IfOk result (λ lines. lines.items ≡ text.items ++ set_line_of word.now n z.now) }
+{
+    let set = set_line(alloc, word, n, z)?;
+    text.extend_from_slice(&set)?;
+    Ok(text)
+}
