@@ -44,10 +44,10 @@ const ROWS: [(&str, &str, (u64, u64), u8, &str); 24] = [
     ),
     (
         "run",
-        "grid 2\n# note\nO 1 0\nX 0 1\nranks\nend\n\n",
+        "grid 2\n# note\nO 1 0\nX 0 1\nranks\nhat\nend\n\n",
         (0, 0),
         0,
-        "ranks 2\nrank 0 0 1\nrank -1 -1 1\n",
+        "ranks 2\nrank 0 0 1\nrank -1 -1 1\nhat exponent 1 rows 1\nrank 0 0 1\n",
     ),
     (
         "run",

@@ -14,8 +14,9 @@
 --     AreLinesOf lines s     lines with these words are a document of the script s
 --     IsDocument text s      the text is a document of the script s
 --     IsHeadLine lines line  the line of this number, counted from 1, is the first of the head: the lines before it
---                            leave the place at the head, and it leads on from there
+--                            are blank, and it leads on from the head
 use Rattle.std.specs.Prelude.{◌≡◌, ◌≢◌, ◌⊎◌, ℕ, ◌+◌, ◌<◌, true, List, [], ◌∷◌, ◌++◌, length, map, slice_index, codes, ◌==◌, if◌then◌else◌}
+use Rattle.std.specs.List.{All}
 use Rattle.std.specs.Fmt.{decimal}
 use Rattle.state_rank.specs.Bijection.{IsSize, IsBijection}
 use Rattle.grid_text.specs.Limits.{max_commands}
@@ -93,6 +94,6 @@ pub record IsHeadLine (lines : List (List Word)) (line : ℕ) : Type 0 where
   pub after : List (List Word)
   pub next : Place
   pub split : lines ≡ before ++ words ∷ after
-  pub blank : Path head before head
+  pub blank : All (λ words. is_blank words ≡ true) before
   pub leads : LeadsOn head words next
   pub number : line ≡ length before + 1

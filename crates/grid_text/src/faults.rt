@@ -7,13 +7,14 @@ ghost use Rattle.grid_text.specs.FaultWords.{fault_word as word_of};
 pub enum TextFault {
     /// The first word is not one that may stand there.
     BadWord,
-    /// The number of words is not that of the form.
+    /// The number of words, or of symbols in a row of a picture, is not that of the form.
     BadCount,
-    /// A sign, side or corner is not one of the words for it.
+    /// A sign, side or corner, or a symbol of a picture, is not one of the words for it.
     BadChoice,
     /// A word that is to be a number is no numeral in its bounds.
     BadNumber,
-    /// The numbers of an O or X line are not all different.
+    /// The numbers of an O or X line are not all different, or a row of a picture has not exactly one O and one X, or
+    /// has one in a column where a row above it has one.
     NotPermutation,
     /// Some column has its O and its X in one square.
     SameSquare,
@@ -27,7 +28,7 @@ pub enum TextFault {
     TooMany,
     /// The text stops before `end`.
     NoEnd,
-    /// A line stands after `end`.
+    /// A line that is not blank stands after `end`.
     AfterEnd,
 }
 

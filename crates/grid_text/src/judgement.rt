@@ -76,6 +76,10 @@ pub fn judge(alloc: Global, text: &[u8]) -> Result<Judged, TextEnd>
     ensures one_fault { (other : List ℕ) (f g : TextFault) (line number : ℕ)
         → IsFirstFault other f line → IsFirstFault other g number → (f ≡ g) × (line ≡ number) }
 
+    // The head begins at one line.
+    ensures one_head { (other : List ℕ) (line number : ℕ) → IsHeadLine (words_of_lines other) line
+        → IsHeadLine (words_of_lines other) number → line ≡ number }
+
     // At a place that lines lead to, a line is allowed exactly where no row of the table holds, and
     // then it leads to one place.
     ensures allowed { (lines : List (List Word)) (p : PlaceOf) (words : List Word) → Path head lines p

@@ -2,8 +2,8 @@
 //!
 //! Read `judge` first: it decides of every text whether it is a document, and of which script, or which
 //! line has the first fault. `print` writes the plain form of a script, which `judge` reads back. A text is
-//! a list of bytes; its lines and words are in specs/Words.antt, documents in specs/Document.antt, faults
-//! in specs/Faults.antt.
+//! a list of bytes; its lines and words are in specs/Words.antt, documents in specs/Document.antt, the rows
+//! of a picture in specs/Picture.antt, faults in specs/Faults.antt.
 #![tactic(auto)]
 
 mod bodies;

@@ -59,7 +59,7 @@ module _ (word : Word) (known : form_at head word ≡ Some size_form) where
       })
 
   -- and the other way round
-  pub head-read : (arguments : List Word) → table_fault head (word ∷ arguments) ≡ None
+  head-read : (arguments : List Word) → table_fault head (word ∷ arguments) ≡ None
       → (n : ℕ) × (IsSize n × (arguments ≡ decimal n ∷ []))
   head-read arguments e =
       let rows = NoRowHolds-from_none head size_form (word ∷ arguments) arguments refl known refl e in

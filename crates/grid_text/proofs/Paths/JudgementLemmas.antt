@@ -1,10 +1,15 @@
 -- The lines that were judged so far, and the laws of the judgement. The same lines lead from the head to one place,
 -- so they are those of one script; and a line with a fault leads nowhere, so they have no first fault then.
-use Rattle.std.proofs.Common.{◌≡◌, ◌↔◌, ℕ, ◌+◌, ◌<◌, ◌≤◌, Bool, false, cond, List, [], ◌∷◌, ◌++◌, length, map, None, Some, Result, Ok, Err, IfOk, refl, ap, subst, ◌∙◌, sym, arith, inl, inr, true≢false, length-append}
+use Rattle.std.proofs.Common.{◌≡◌, ◌↔◌, ℕ, suc, ◌+◌, ◌<◌, ◌≤◌, Bool, true, false, cond, List, [], ◌∷◌, ◌++◌, length, map, None, Some, Result, Ok, Err, IfOk, refl, ap, subst, ◌∙◌, sym, arith, inl, inr, true≢false, length-append}
+use Rattle.std.specs.Prelude.{◌==◌}
+use Rattle.std.specs.List.{All}
+use Rattle.std.proofs.lemmas.Bool.{cases_Bool}
+use Rattle.std.proofs.lemmas.List.Elements.{All-push, All-tail}
 use Rattle.std.proofs.lemmas.List.{append-nil, append_assoc}
+use Rattle.grid_text.specs.Picture.{grid_of_rows}
 use Rattle.grid_text.specs.Words.{Word, is_blank, lines_of, words_of, words_of_lines}
 use Rattle.grid_text.specs.Script.{GridScript}
-use Rattle.grid_text.specs.Document.{Place, head, o_line, x_line, picture, body, ended, Leads, Path, AreLinesOf, IsDocument, IsHeadLine}
+use Rattle.grid_text.specs.Document.{Place, head, o_line, x_line, picture, body, ended, body_of, below_row, LeadsOn, Leads, Path, AreLinesOf, IsDocument, IsHeadLine}
 use Rattle.grid_text.specs.Faults.{fault_at, is_after_end, HaveFirstFault, IsFirstFault}
 use Rattle.grid_text.specs.Inner.Reading.{IsPlace}
 use Rattle.grid_text.specs.Inner.Next.{place_of, is_head, IsNextOn, IsNext}
@@ -12,11 +17,11 @@ use Rattle.grid_text.specs.declared.places.Place.{Place as StoredPlace}
 use Rattle.grid_text.specs.declared.places.Place.TheVariants as stored
 use Rattle.grid_text.specs.declared.faults.TextFault.{TextFault}
 use Rattle.grid_text.specs.declared.faults.TextFault.TheVariants as fault
-use Rattle.grid_text.proofs.Paths.PlaceLemmas.{IsPlace-next, IsPlace-path, fault_at-leads, fault_at-filled, leads-no_fault, one_place}
+use Rattle.grid_text.proofs.Paths.PlaceLemmas.{filled-leads_on, IsPlace-next, IsPlace-path, fault_at-leads, fault_at-filled, leads-no_fault, one_place}
 
--- past the head, the line where it begins
+-- at the head all lines are blank; past it, the line where it begins is known
 abbrev HasHead : List (List Word) → ℕ → Place → Type 0
-HasHead lines grid_line head = Unit {0}
+HasHead lines grid_line head = All (λ words. is_blank words ≡ true) lines
 HasHead lines grid_line p = IsHeadLine lines grid_line
 
 -- the lines before the number lead to the place, and the rest is to be judged
@@ -38,14 +43,33 @@ HasRead-none text = record {
   number = refl;
   room = omega arith;
   place = tt;
-  begun = tt;
+  begun = λ k d l. absurd (omega (arith, l));
 }
 
--- the line where the head begins is known at each place
-HasHead-known : (lines : List (List Word)) (grid_line : ℕ) (q : Place) → IsHeadLine lines grid_line
-    → HasHead lines grid_line q
-HasHead-known lines grid_line head h = tt
-HasHead-known lines grid_line q h = h
+-- no line leads on to the head
+below_row-head : (n : ℕ) (o x : List ℕ) → head ≡ below_row n o x → ⊥
+below_row-head n o x e = elim (cases_Bool (length o == n)) [
+  | inl all ↦ let at : head ≡ body_of (grid_of_rows o x) =
+      e ∙ ap (λ b. cond b (body_of (grid_of_rows o x)) (picture n o x)) all in cc
+  | inr more ↦ let at : head ≡ picture n o x =
+      e ∙ ap (λ b. cond b (body_of (grid_of_rows o x)) (picture n o x)) more in cc
+]
+
+leads_on-head : (p : Place) (words : List Word) → LeadsOn p words head → ⊥
+leads_on-head head words (n, small, inl l) = let e = l.1 in cc
+leads_on-head head words (n, small, inr l) = let e = l.1 in cc
+leads_on-head (o_line n) words l = let e = l.3 in cc
+leads_on-head (x_line n o) words l = let e = l.4 in cc
+leads_on-head (picture n o x) words l = below_row-head n (l.0 ∷ o) (l.1 ∷ x) l.4
+leads_on-head (body s) words (inl l) = let e = l.1 in cc
+leads_on-head (body s) words (inr l) = let e = l.4 in cc
+leads_on-head (ended s) words l = l
+
+-- the line where the head begins is known at each place that a line leads on to
+HasHead-leads_on : (lines : List (List Word)) (grid_line : ℕ) (p q : Place) (words : List Word) → LeadsOn p words q
+    → IsHeadLine lines grid_line → HasHead lines grid_line q
+HasHead-leads_on lines grid_line p head words l h = absurd (leads_on-head p words l)
+HasHead-leads_on lines grid_line p q words l h = h
 
 -- one more line after it
 IsHeadLine-more : (lines : List (List Word)) (words : List Word) (grid_line : ℕ) → IsHeadLine lines grid_line
@@ -62,24 +86,27 @@ IsHeadLine-more lines words grid_line h = record {
 }
 
 -- one more line
-HasHead-more : (lines : List (List Word)) (words : List Word) (line grid_line : ℕ) (p q : Place) → Path head lines p
+HasHead-more : (lines : List (List Word)) (words : List Word) (line grid_line : ℕ) (p q : Place)
     → line ≡ length lines + 1 → Leads p words q → HasHead lines grid_line p
     → HasHead (lines ++ words ∷ []) (cond (is_head p) line grid_line) q
-HasHead-more lines words line grid_line head q path number (inl stays) h =
-    subst (HasHead (lines ++ words ∷ []) line) stays.1 tt
-HasHead-more lines words line grid_line head q path number (inr l) h =
-    HasHead-known (lines ++ words ∷ []) line q (record {
+HasHead-more lines words line grid_line head q number (inl stays) h =
+    subst (HasHead (lines ++ words ∷ []) line) stays.1
+    (All-push (λ ws. is_blank ws ≡ true) lines words h stays.0)
+HasHead-more lines words line grid_line head q number (inr l) h =
+    HasHead-leads_on (lines ++ words ∷ []) line head q words l (record {
       before = lines;
       words = words;
       after = [];
       next = q;
       split = refl;
-      blank = path;
+      blank = h;
       leads = l;
       number = number;
     })
-HasHead-more lines words line grid_line p q path number l h =
-    HasHead-known (lines ++ words ∷ []) grid_line q (IsHeadLine-more lines words grid_line h)
+HasHead-more lines words line grid_line p q number (inl stays) h =
+    subst (HasHead (lines ++ words ∷ []) grid_line) stays.1 (IsHeadLine-more lines words grid_line h)
+HasHead-more lines words line grid_line p q number (inr l) h =
+    HasHead-leads_on (lines ++ words ∷ []) grid_line p q words l (IsHeadLine-more lines words grid_line h)
 
 -- one more line at the end of a path
 pub Path-more : (p q r : Place) (lines : List (List Word)) (words : List Word) → Path p lines q → Leads q words r
@@ -89,7 +116,8 @@ Path-more p q r (first ∷ lines) words path l = (path.0, path.1, Path-more path
 
 -- one more line
 pub HasRead-more : (text : List ℕ) (line grid_line begins : ℕ) (rest bytes after : List ℕ) (p q : Place)
-    → HasRead text line grid_line rest p → begins ≡ cond (is_head p) line grid_line → lines_of rest ≡ bytes ∷ lines_of after → length after < length rest
+    → HasRead text line grid_line rest p → begins ≡ cond (is_head p) line grid_line
+    → lines_of rest ≡ bytes ∷ lines_of after → length after < length rest
     → Leads p (words_of bytes) q × IsPlace q → HasRead text (line + 1) begins after q
 HasRead-more text line grid_line begins rest bytes after p q h from e shorter next =
     let room = h.room in
@@ -105,7 +133,7 @@ HasRead-more text line grid_line begins rest bytes after p q h from e shorter ne
       room = omega arith;
       place = next.1;
       begun = subst (λ k. HasHead (h.before ++ words_of bytes ∷ []) k q) (sym from)
-          (HasHead-more h.before (words_of bytes) line grid_line p q h.path h.number next.0 h.begun);
+          (HasHead-more h.before (words_of bytes) line grid_line p q h.number next.0 h.begun);
     }
 
 -- a line with a fault is the first
@@ -233,3 +261,41 @@ allowed lines p words path =
 pub one_place_of_path : (lines : List (List Word)) (p q r : Place) (words : List Word) → Path head lines p
     → Leads p words q → Leads p words r → q ≡ r
 one_place_of_path lines p q r words path l m = one_place p q r words (IsPlace-path head p lines tt path) l m
+
+-- ---- the line of the head
+
+-- what stands first, and what follows
+unfoldable pub head_of : List Word → List (List Word) → List Word
+head_of d [] = d
+head_of d (w ∷ ws) = w
+
+unfoldable pub tail_of : List (List Word) → List (List Word)
+tail_of [] = []
+tail_of (w ∷ ws) = ws
+
+-- the first line that is not blank is one
+same_first : (a b after later : List (List Word)) (v w : List Word) → a ++ v ∷ after ≡ b ++ w ∷ later
+    → All (λ words. is_blank words ≡ true) a → All (λ words. is_blank words ≡ true) b → is_blank v ≡ false
+    → is_blank w ≡ false → length a ≡ length b
+unfolding head_of tail_of
+same_first [] [] after later v w e x y s t = refl
+same_first [] (u ∷ b) after later v w e x y s t =
+    absurd (true≢false (sym (y 0 [] (omega arith)) ∙ ap is_blank (sym (ap (head_of v) e)) ∙ s))
+same_first (u ∷ a) [] after later v w e x y s t =
+    absurd (true≢false (sym (x 0 [] (omega arith)) ∙ ap is_blank (ap (head_of u) e) ∙ t))
+same_first (u ∷ a) (z ∷ b) after later v w e x y s t =
+    ap suc (same_first a b after later v w (ap tail_of e) (All-tail (λ ws. is_blank ws ≡ true) u a x)
+    (All-tail (λ ws. is_blank ws ≡ true) z b y) s t)
+
+-- lines have one line of the head
+one_head_of_lines : (lines : List (List Word)) (line number : ℕ) → IsHeadLine lines line → IsHeadLine lines number
+    → line ≡ number
+one_head_of_lines lines line number x y =
+    x.number
+    ∙ ap (λ k. k + 1) (same_first x.before y.before x.after y.after x.words y.words (sym x.split ∙ y.split) x.blank
+    y.blank (filled-leads_on head x.next x.words tt x.leads) (filled-leads_on head y.next y.words tt y.leads))
+    ∙ sym y.number
+
+pub one_head : (text : List ℕ) (line number : ℕ) → IsHeadLine (words_of_lines text) line
+    → IsHeadLine (words_of_lines text) number → line ≡ number
+one_head text line number x y = one_head_of_lines (words_of_lines text) line number x y

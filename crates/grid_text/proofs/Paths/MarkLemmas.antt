@@ -113,7 +113,7 @@ IsOnly-once w words t = elim (cases_eq (count_by (is_word w) words) 1) [
 
 -- ---- symbols as words
 
-pub get_or-row_words : (row : List ℕ) (i : ℕ) → i < length row → get_or (row_words row) i [] ≡ get_or row i 0 ∷ []
+get_or-row_words : (row : List ℕ) (i : ℕ) → i < length row → get_or (row_words row) i [] ≡ get_or row i 0 ∷ []
 get_or-row_words row i within = get_or-map (λ (b : ℕ). b ∷ []) row i 0 [] within
 
 pub length-row_words : (row : List ℕ) → length (row_words row) ≡ length row

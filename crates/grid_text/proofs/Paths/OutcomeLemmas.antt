@@ -12,7 +12,7 @@ use Rattle.grid_text.specs.Inner.Reading.{IsPlace}
 use Rattle.grid_text.specs.declared.faults.TextFault.{TextFault}
 use Rattle.grid_text.specs.declared.faults.TextFault.TheVariants as fault
 use Rattle.grid_text.proofs.Paths.PlaceLemmas.{IsPlace-next, IsPlace-path, fault_at-leads, leads-no_fault, one_place}
-use Rattle.grid_text.proofs.Paths.JudgementLemmas.{Path-more, Path-rest}
+use Rattle.grid_text.proofs.Paths.JudgementLemmas.{Path-more, Path-rest, head_of, tail_of}
 
 -- lines are those of a script, or have a first fault
 abbrev pub Outcome : List (List Word) → Type 0
@@ -84,15 +84,6 @@ pub every_text : (text : List ℕ)
 every_text text = every_outcome (words_of_lines text)
 
 -- ---- one first fault
-
--- the parts of lists
-head_of : List Word → List (List Word) → List Word
-head_of d [] = d
-head_of d (w ∷ ws) = w
-
-tail_of : List (List Word) → List (List Word)
-tail_of [] = []
-tail_of (w ∷ ws) = ws
 
 -- the first faults of the same lines are one
 same_fault : (p q r : Place) (a b after later : List (List Word)) (v w : List Word) (f g : TextFault) → IsPlace p

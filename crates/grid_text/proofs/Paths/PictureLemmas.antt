@@ -106,7 +106,7 @@ module _ (n : ℕ) (o x : List ℕ) (words : List Word) (filled : is_blank words
   its_words = row_words (symbols words)
 
   -- another number of symbols
-  pub picture-count : length (symbols words) ≢ n → table_fault (picture n o x) words ≡ Some fault.BadCount
+  picture-count : length (symbols words) ≢ n → table_fault (picture n o x) words ≡ Some fault.BadCount
   picture-count other =
       table_fault-count (picture n o x) (picture_form n) words its_words refl (row-known n o x words filled) refl
       (count-other (length (replicate n (choice_of symbol_words))) its_words
@@ -122,7 +122,7 @@ module _ (n : ℕ) (o x : List ℕ) (words : List Word) (filled : is_blank words
         (row-long ∙ sym (length-replicate n (choice_of symbol_words)))
 
     -- a symbol that is none
-    pub picture-choice : list_any (is_bad (choice_of symbol_words)) its_words ≡ true
+    picture-choice : list_any (is_bad (choice_of symbol_words)) its_words ≡ true
         → table_fault (picture n o x) words ≡ Some fault.BadChoice
     picture-choice bad =
         table_fault-choice (picture n o x) (picture_form n) words its_words refl (row-known n o x words filled) refl
@@ -143,7 +143,7 @@ module _ (n : ℕ) (o x : List ℕ) (words : List Word) (filled : is_blank words
           zip-replicate (is_bad_by fault.BadChoice) (choice_of symbol_words) n its_words row-long ∙ good
 
       -- marks that may not stand there
-      pub picture-permutation : is_not_permutation (picture n o x) its_words ≡ true
+      picture-permutation : is_not_permutation (picture n o x) its_words ≡ true
           → table_fault (picture n o x) words ≡ Some fault.NotPermutation
       picture-permutation wrong =
           table_fault-permutation (picture n o x) (picture_form n) words its_words refl
@@ -232,7 +232,7 @@ picture-right n o x words c d h fits e filled =
 -- ---- a row without a fault
 
 -- and its marks are in two columns
-pub marks_apart : (c d : ℕ) (row : List ℕ) → IsOnly (is_word o_word) (row_words row) c
+marks_apart : (c d : ℕ) (row : List ℕ) → IsOnly (is_word o_word) (row_words row) c
     → IsOnly (is_word x_word) (row_words row) d → c ≢ d
 marks_apart c d row only_o only_x e =
     let one = symbol-here o_symbol row c only_o in
@@ -240,7 +240,7 @@ marks_apart c d row only_o only_x e =
     omega (arith, sym one ∙ ap (λ k. get_or row k 0) e ∙ other)
 
 -- marks in new columns
-pub FitsRow-marks : (n : ℕ) (o x row : List ℕ) (c d : ℕ) → length row ≡ n → IsOnly (is_word o_word) (row_words row) c
+FitsRow-marks : (n : ℕ) (o x row : List ℕ) (c d : ℕ) → length row ≡ n → IsOnly (is_word o_word) (row_words row) c
     → IsOnly (is_word x_word) (row_words row) d → ¬ Contains o c → ¬ Contains x d → FitsRow n o x c d
 FitsRow-marks n o x row c d long only_o only_x new_o new_x =
     let within = only_o.within in

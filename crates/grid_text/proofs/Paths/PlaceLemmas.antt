@@ -172,7 +172,7 @@ unfolding fault_at
 fault_at-filled p words filled = ap (λ b. cond b None (table_fault p words)) filled
 
 -- a line of a form is not blank
-filled-leads_on : (p q : Place) (words : List Word) → IsPlace p → LeadsOn p words q → is_blank words ≡ false
+pub filled-leads_on : (p q : Place) (words : List Word) → IsPlace p → LeadsOn p words q → is_blank words ≡ false
 filled-leads_on head q words h (n, small, inl l) = ap is_blank l.0
 filled-leads_on head q words h (n, small, inr l) = ap is_blank l.0
 filled-leads_on (o_line n) q words h l = ap is_blank l.2

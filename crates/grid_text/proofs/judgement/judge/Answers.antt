@@ -19,3 +19,6 @@ returns-clause-every_text c = every_text
 
 pub returns-clause-one_fault : goal.returns-clause-one_fault
 returns-clause-one_fault c = one_fault
+
+pub returns-clause-one_head : goal.returns-clause-one_head
+returns-clause-one_head c = laws.one_head
