@@ -47,7 +47,7 @@ all_turned side n cs z e =
     (moved-undone n (turned_state (opposite side)) (turned_state side) back) (moved-undone n (turned_state side) (turned_state (opposite side)) there) z)
 
 -- the turned chain has states of the turned grid
-HasStates-turned : (side : Side) (g : Marks) (z : Chain) → HasStates g z → HasStates (turned side g) (turned_chain side (size g) z)
+pub HasStates-turned : (side : Side) (g : Marks) (z : Chain) → HasStates g z → HasStates (turned side g) (turned_chain side (size g) z)
 HasStates-turned side g z states = All-codes (λ c. c < factorial (size (turned side g))) (turned_chain side (size g) z) (λ q held.
     let same = ap factorial (length-turned_rows side (size g) g.o) in
     let below : q < factorial (size g) = elim (cases_lt q (factorial (size g))) [

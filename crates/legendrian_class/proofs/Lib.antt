@@ -3,3 +3,4 @@ pub mod ChainLemmas
 pub mod FollowedLemmas
 pub mod PartLemmas
 pub mod VerdictLemmas
+pub mod TurnedBounds

@@ -5,7 +5,7 @@ ghost use Rattle.state_rank.specs.Bijection.{IsSize};
 ghost use Rattle.state_rank.specs.States.{factorial};
 ghost use Rattle.torus_geom.specs.Marks.{size};
 ghost use Rattle.grid_moves.specs.Carried.{turned_chain};
-ghost use Rattle.grid_moves.specs.Moves.{are_commuting, swapped};
+ghost use Rattle.grid_moves.specs.Moves.{are_commuting, swapped, turned};
 ghost use Rattle.legendrian_class.specs.Bounds.{Bounds, minus_chain, plus_chain};
 ghost use Rattle.legendrian_class.specs.Followed.{after_commutation, after_turn, at_start};
 ghost use Rattle.legendrian_class.specs.States.{HasStates};
@@ -82,6 +82,14 @@ impl Follower {
     pub fn turn(&mut self, alloc: Global, side: Side) -> Result<(), NoMemory>
         ensures after { OnOk result (self.new ≡ after_turn side self.old) }
         ensures unchanged { OnErr result (self.new ≡ self.old) }
+
+        // Whatever the call answers: x+ bounds in the grid exactly where it bounds in the turned grid.
+        ensures plus_bounds { Bounds self.old.grid (plus_chain self.old.grid)
+            ↔ Bounds (turned side self.old.grid) (plus_chain (turned side self.old.grid)) }
+
+        // And so does x-.
+        ensures minus_bounds { Bounds self.old.grid (minus_chain self.old.grid)
+            ↔ Bounds (turned side self.old.grid) (minus_chain (turned side self.old.grid)) }
     {
         let n = self.grid.size();
         self.chain = turned_states(alloc, n, side, &self.chain)?;
