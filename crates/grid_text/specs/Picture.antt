@@ -1,5 +1,5 @@
--- Pictures of grids: a row of symbols for each row of the grid, the top row first. The symbols are those of the columns,
--- from column 0 on: an O, an X, or a dot for an empty square.
+-- Pictures of grids: a row of symbols for each row of the grid, the top row first. The symbols are those of the
+-- columns, from column 0 on: an O, an X, or a dot for an empty square.
 --     o_symbol, x_symbol, empty_symbol    the bytes 79, 88 and 46
 --     row_symbols n c d      the symbols of a row of n columns with its O in column c and its X in column d
 --     FitsRow n o x c d      such a row may follow rows whose O are in the columns o, and whose X are in the columns x

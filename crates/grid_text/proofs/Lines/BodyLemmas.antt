@@ -47,7 +47,8 @@ use Rattle.grid_text.proofs.States.ChainLemmas.{apart-states, AreStates-from_sor
 -- ---- the first word
 
 -- no word
-pub table_fault-empty : (s : GridScript) (words : List Word) → words ≡ [] → table_fault (body s) words ≡ Some fault.BadWord
+pub table_fault-empty : (s : GridScript) (words : List Word) → words ≡ []
+    → table_fault (body s) words ≡ Some fault.BadWord
 table_fault-empty s words none = ap (table_fault (body s)) none ∙ table_fault-no_word (body s) refl
 
 -- a word that is no keyword
@@ -132,7 +133,8 @@ module _ (s : GridScript) (arguments : List Word) (w : Word) (one : arguments �
       → table_fault (body s) (keyword_word keyword.Class ∷ arguments) ≡ Some fault.BadChoice
   class-choice r is none =
       ap (λ a. table_fault (body s) (keyword_word keyword.Class ∷ a)) one
-      ∙ table_fault-choice (body s) (keyword_form (size (grid_in_force s)) keyword.Class) (keyword_word keyword.Class ∷ w ∷ [])
+      ∙ table_fault-choice (body s) (keyword_form (size (grid_in_force s)) keyword.Class)
+      (keyword_word keyword.Class ∷ w ∷ [])
       (w ∷ []) refl refl refl refl
       (ap (λ b. b || false) (bad-find sign_word signs w (sym is ∙ none)))
 
@@ -140,7 +142,8 @@ module _ (s : GridScript) (arguments : List Word) (w : Word) (one : arguments �
       → table_fault (body s) (keyword_word keyword.Turn ∷ arguments) ≡ Some fault.BadChoice
   turn-choice r is none =
       ap (λ a. table_fault (body s) (keyword_word keyword.Turn ∷ a)) one
-      ∙ table_fault-choice (body s) (keyword_form (size (grid_in_force s)) keyword.Turn) (keyword_word keyword.Turn ∷ w ∷ [])
+      ∙ table_fault-choice (body s) (keyword_form (size (grid_in_force s)) keyword.Turn)
+      (keyword_word keyword.Turn ∷ w ∷ [])
       (w ∷ []) refl refl refl refl
       (ap (λ b. b || false) (bad-find side_word sides w (sym is ∙ none)))
 
@@ -176,7 +179,8 @@ module _ (s : GridScript) (g : Marks) (m : ℕ) (arguments : List Word) (w : Wor
   pub border-state : r ≡ None → table_fault (body s) (keyword_word keyword.Border ∷ arguments) ≡ Some fault.BadState
   border-state none =
       ap (λ a. table_fault (body s) (keyword_word keyword.Border ∷ a)) one
-      ∙ table_fault-state (body s) (keyword_form (size (grid_in_force s)) keyword.Border) (keyword_word keyword.Border ∷ w ∷ [])
+      ∙ table_fault-state (body s) (keyword_form (size (grid_in_force s)) keyword.Border)
+      (keyword_word keyword.Border ∷ w ∷ [])
       (w ∷ []) refl refl refl refl refl refl refl refl
       (ap (λ o. is_none o || false) (state_of-at s g m w r None long is value none))
 
@@ -204,7 +208,8 @@ module _ (s : GridScript) (axis : Axis) (arguments : List Word) where
   -- too few or too many words
   pub commute-count : length arguments ≢ 2 → table_fault (body s) (axis_word axis ∷ arguments) ≡ Some fault.BadCount
   commute-count other =
-      table_fault-count (body s) commute_form (axis_word axis ∷ arguments) arguments refl known refl (count-other 2 arguments other)
+      table_fault-count (body s) commute_form (axis_word axis ∷ arguments) arguments refl known refl
+      (count-other 2 arguments other)
 
   -- a choice that is none
   pub commute-choice : (w u : Word) (r : Option Corner) → arguments ≡ w ∷ u ∷ []
@@ -234,8 +239,8 @@ module _ (s : GridScript) (axis : Axis) (arguments : List Word) where
     pub commute-number : r ≡ None → table_fault (body s) (axis_word axis ∷ arguments) ≡ Some fault.BadNumber
     commute-number none =
         ap (λ a. table_fault (body s) (axis_word axis ∷ a)) line
-        ∙ table_fault-number (body s) commute_form (axis_word axis ∷ w ∷ corner_word v ∷ []) (w ∷ corner_word v ∷ []) refl
-        known refl refl choice
+        ∙ table_fault-number (body s) commute_form (axis_word axis ∷ w ∷ corner_word v ∷ []) (w ∷ corner_word v ∷ [])
+        refl known refl refl choice
         (ap (λ o. is_none o || false) (numbered None none))
 
     -- columns or rows that do not commute
@@ -243,8 +248,8 @@ module _ (s : GridScript) (axis : Axis) (arguments : List Word) where
         → table_fault (body s) (axis_word axis ∷ arguments) ≡ Some fault.NotCommuting
     commute-commuting c found fails =
         ap (λ a. table_fault (body s) (axis_word axis ∷ a)) line
-        ∙ table_fault-commuting (body s) commute_form (axis_word axis ∷ w ∷ corner_word v ∷ []) (w ∷ corner_word v ∷ []) refl
-        known refl refl choice
+        ∙ table_fault-commuting (body s) commute_form (axis_word axis ∷ w ∷ corner_word v ∷ [])
+        (w ∷ corner_word v ∷ []) refl known refl refl choice
         (ap (λ o. is_none o || false) (numbered (Some c) found)) refl refl refl refl
         (at axis (ap (λ k. are_commuting axis k c) (sym is) ∙ fails))
       where
@@ -278,7 +283,8 @@ chain-state : (s : GridScript) (arguments : List Word)
     → table_fault (body s) (keyword_word keyword.Chain ∷ arguments) ≡ Some fault.BadState
 chain-state s arguments bad =
     let kind = state_of_size (size (grid_in_force s)) in
-    table_fault-state (body s) (any_number_of kind) (keyword_word keyword.Chain ∷ arguments) arguments refl refl refl refl
+    table_fault-state (body s) (any_number_of kind) (keyword_word keyword.Chain ∷ arguments) arguments
+    refl refl refl refl
     (list_any-never (is_bad_by fault.BadChoice kind) arguments (λ w. refl))
     (list_any-never (is_bad_by fault.BadNumber kind) arguments (λ w. refl)) refl refl bad
 
@@ -289,7 +295,8 @@ chain-repeated : (s : GridScript) (arguments : List Word)
     → table_fault (body s) (keyword_word keyword.Chain ∷ arguments) ≡ Some fault.RepeatedState
 chain-repeated s arguments good twice =
     let kind = state_of_size (size (grid_in_force s)) in
-    table_fault-repeated (body s) (any_number_of kind) (keyword_word keyword.Chain ∷ arguments) arguments refl refl refl refl
+    table_fault-repeated (body s) (any_number_of kind) (keyword_word keyword.Chain ∷ arguments) arguments
+    refl refl refl refl
     (list_any-never (is_bad_by fault.BadChoice kind) arguments (λ w. refl))
     (list_any-never (is_bad_by fault.BadNumber kind) arguments (λ w. refl)) refl refl good twice
 

@@ -32,7 +32,8 @@ pub record NoRowHolds (p : Place) (form : Form) (words arguments : List Word) : 
   pub commuting : is_not_commuting p words ≡ false
 
 -- after the end each line has a fault
-pub table_fault-ended : (p : Place) (words : List Word) → is_after_end p ≡ true → table_fault p words ≡ Some fault.AfterEnd
+pub table_fault-ended : (p : Place) (words : List Word) → is_after_end p ≡ true
+    → table_fault p words ≡ Some fault.AfterEnd
 unfolding table_fault
 table_fault-ended p words e = hit _ _ _ e
 

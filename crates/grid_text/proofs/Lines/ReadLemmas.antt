@@ -91,8 +91,8 @@ module _ (s : GridScript) (h : IsScript s) where
   rest_of : (k : Keyword) (arguments : List Word) → table_fault (body s) (keyword_word k ∷ arguments) ≡ None
       → Rest k arguments
   rest_of k arguments none =
-      NoRowHolds-from_none (body s) (keyword_form n k) (keyword_word k ∷ arguments) arguments refl (form_at-keyword s k) refl
-      none
+      NoRowHolds-from_none (body s) (keyword_form n k) (keyword_word k ∷ arguments) arguments refl
+      (form_at-keyword s k) refl none
 
   -- a keyword that stands alone
   alone-good : (k : Keyword) (c : Command) (arguments : List Word) → keyword_form n k ≡ exactly []
@@ -203,7 +203,8 @@ module _ (s : GridScript) (h : IsScript s) where
   body-read [] none = let clash : Some fault.BadWord ≡ None = sym (table_fault-no_word (body s) refl) ∙ none in cc
   body-read (w ∷ arguments) none = elim (keyword_cases n w) [
     | inl k ↦ subst (λ v. IsGood (v ∷ arguments)) (sym k.1)
-        (key-good k.0 arguments (rest_of k.0 arguments (ap (λ v. table_fault (body s) (v ∷ arguments)) (sym k.1) ∙ none)))
+        (key-good k.0 arguments (rest_of k.0 arguments
+        (ap (λ v. table_fault (body s) (v ∷ arguments)) (sym k.1) ∙ none)))
     | inr unknown ↦ let clash : Some fault.BadWord ≡ None =
         sym (table_fault-bad_word (body s) w arguments refl unknown) ∙ none in cc
   ]

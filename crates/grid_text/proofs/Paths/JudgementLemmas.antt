@@ -152,7 +152,8 @@ HasRead-fault text line grid_line rest bytes after p f h e faulty = inl (record 
 })
 
 -- all lines were read
-pub HasRead-all : (text : List ℕ) (line grid_line : ℕ) (rest : List ℕ) (p : Place) → HasRead text line grid_line rest p → rest ≡ []
+pub HasRead-all : (text : List ℕ) (line grid_line : ℕ) (rest : List ℕ) (p : Place)
+    → HasRead text line grid_line rest p → rest ≡ []
     → Path head (words_of_lines text) p × (line ≡ length (words_of_lines text) + 1)
 HasRead-all text line grid_line rest p h none =
     let whole : words_of_lines text ≡ h.before =
@@ -168,7 +169,8 @@ HasRead-head text line grid_line rest s h none =
     subst (λ ls. IsHeadLine ls grid_line) (sym whole) h.begun
 
 -- `end` was not met
-pub HasNoEnd-from_place : (text : List ℕ) (line grid_line : ℕ) (rest : List ℕ) (p : Place) → HasRead text line grid_line rest p
+pub HasNoEnd-from_place : (text : List ℕ) (line grid_line : ℕ) (rest : List ℕ) (p : Place)
+    → HasRead text line grid_line rest p
     → rest ≡ [] → is_after_end p ≡ false → IsFirstFault text fault.NoEnd line
 HasNoEnd-from_place text line grid_line rest p h none not_ended =
     let all = HasRead-all text line grid_line rest p h none in

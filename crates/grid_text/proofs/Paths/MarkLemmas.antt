@@ -1,6 +1,6 @@
--- The marks of a row of a picture. Where exactly one symbol is an O and one an X, and the others are those of empty squares,
--- the symbols are those of the row with its marks in these two columns (`row_of_marks`), and the other way round
--- (`IsOnly-o`, `IsOnly-x`).
+-- The marks of a row of a picture. Where exactly one symbol is an O and one an X, and the others are those of empty
+-- squares, the symbols are those of the row with its marks in these two columns (`row_of_marks`), and the other way
+-- round (`IsOnly-o`, `IsOnly-x`).
 use Rattle.std.proofs.Common.{◌≡◌, ◌≢◌, ℕ, zero, suc, ◌+◌, ◌<◌, Bool, true, false, ◌&&◌, ◌||◌, cond, List, [], ◌∷◌, length, get_or, Some, refl, ap, subst, ◌∙◌, sym, arith, inl, inr, true≢false, None}
 use Rattle.std.specs.Prelude.{◌==◌, count_by}
 use Rattle.std.specs.List.{list_any, Contains, position, position_from}
@@ -23,13 +23,16 @@ use Rattle.grid_text.proofs.States.RepeatedLemmas.{list_any-none, none-list_any}
 -- ---- one word alone passes a test
 
 -- one more word
-count-cons : (p : Word → Bool) (w : Word) (words : List Word) → count_by p (w ∷ words) ≡ cond (p w) 1 0 + count_by p words
+count-cons : (p : Word → Bool) (w : Word) (words : List Word)
+    → count_by p (w ∷ words) ≡ cond (p w) 1 0 + count_by p words
 count-cons p w words = sum_by-cons (λ v. cond (p v) 1 0) w words
 
-count-passes : (p : Word → Bool) (w : Word) (words : List Word) → p w ≡ true → count_by p (w ∷ words) ≡ 1 + count_by p words
+count-passes : (p : Word → Bool) (w : Word) (words : List Word) → p w ≡ true
+    → count_by p (w ∷ words) ≡ 1 + count_by p words
 count-passes p w words t = count-cons p w words ∙ ap (λ b. cond b 1 0 + count_by p words) t
 
-count-fails : (p : Word → Bool) (w : Word) (words : List Word) → p w ≡ false → count_by p (w ∷ words) ≡ 0 + count_by p words
+count-fails : (p : Word → Bool) (w : Word) (words : List Word) → p w ≡ false
+    → count_by p (w ∷ words) ≡ 0 + count_by p words
 count-fails p w words f = count-cons p w words ∙ ap (λ b. cond b 1 0 + count_by p words) f
 
 -- none passes

@@ -1,7 +1,8 @@
--- Rows of pictures. A row has a fault by the first of: another number of symbols, a symbol that is none, not exactly one O
--- and one X, and a mark in a column where a row before it has one (`picture-count` to `picture-permutation`). Without a
--- fault its symbols are those of a row with its marks in two columns (`picture-read`), and such a row has no fault
--- (`picture-right`). The columns of the rows so far are different (`IsPartOfPicture`), so that those of all rows make a grid.
+-- Rows of pictures. A row has a fault by the first of: another number of symbols, a symbol that is none, not exactly one
+-- O and one X, and a mark in a column where a row before it has one (`picture-count` to `picture-permutation`). Without
+-- a fault its symbols are those of a row with its marks in two columns (`picture-read`), and such a row has no fault
+-- (`picture-right`). The columns of the rows so far are different (`IsPartOfPicture`), so that those of all rows make a
+-- grid.
 use Rattle.std.proofs.Common.{◌≡◌, ◌≢◌, ◌⊎◌, ℕ, zero, suc, ◌<◌, ◌≤◌, Bool, true, false, ◌||◌, not, cond, List, [], ◌∷◌, length, replicate, get_or, slice_index, Some, refl, ap, subst, ◌∙◌, sym, arith, inl, inr, true≢false, None}
 use Rattle.std.specs.List.{list_any, Contains, All}
 use Rattle.std.proofs.lemmas.Bool.{cases_Bool, cases_eq, eq-eqb, ne_eqb, or_parts, or_right, not-false}
@@ -220,7 +221,8 @@ pub picture-right : (n : ℕ) (o x : List ℕ) (words : List Word) (c d : ℕ) �
 picture-right n o x words c d h fits e filled =
     let long : length (symbols words) ≡ n = ap length e ∙ length-row_symbols n c d in
     let only_o = subst (λ r. IsOnly (is_word o_word) (row_words r) c) (sym e) (IsOnly-o n c d fits.o_within) in
-    let only_x = subst (λ r. IsOnly (is_word x_word) (row_words r) d) (sym e) (IsOnly-x n c d fits.x_within fits.apart) in
+    let only_x = subst (λ r. IsOnly (is_word x_word) (row_words r) d) (sym e)
+    (IsOnly-x n c d fits.x_within fits.apart) in
     let long_words = length-row_words (symbols words) ∙ long in
     row-right n o x words filled long
     (ap (λ r. list_any (is_bad (choice_of symbol_words)) (row_words r)) e ∙ row_symbols-good n c d)

@@ -85,7 +85,8 @@ leads_on-no_fault head words h filled none =
       | inl grid ↦ (o_line r.0, (r.0, r.1.0, inl (grid, refl)))
       | inr drawn ↦ (picture r.0 [] [], (r.0, r.1.0, inr (drawn, refl)))
     ]
-leads_on-no_fault (o_line n) words h filled none = let r = o_line-read n words h none in (x_line n r.0, (r.0, r.1.0, r.1.1, refl))
+leads_on-no_fault (o_line n) words h filled none =
+    let r = o_line-read n words h none in (x_line n r.0, (r.0, r.1.0, r.1.1, refl))
 leads_on-no_fault (x_line n o) words h filled none =
     let r = x_line-read n o words h.0 h.1 none in
     (body (record { grid = record { o = o; x = r.0 }; commands = [] }), (r.0, r.1.0, r.1.1, r.1.2, refl))

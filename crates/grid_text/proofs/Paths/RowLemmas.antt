@@ -1,6 +1,6 @@
 -- The O and X lines. Such a line has a fault by the first of: another first word, another number of words, a word that
--- is no row, a row that stands twice, and, on the X line, a square with both marks (`row-word` to `row-square`); without
--- a fault its words are those of a bijection (`row-read`).
+-- is no row, a row that stands twice, and, on the X line, a square with both marks (`row-word` to `row-square`);
+-- without a fault its words are those of a bijection (`row-read`).
 use Rattle.std.proofs.Common.{◌≡◌, ◌≢◌, ℕ, zero, suc, ◌+◌, ◌-◌, ◌<◌, ◌^◌, Bool, true, false, ◌||◌, cond, List, [], ◌∷◌, ◌++◌, length, map, replicate, take, set, Bor, get_or, slice_index, None, Some, refl, ap, subst, ◌∙◌, sym, arith, inl, inr, true≢false}
 use Rattle.std.specs.List.{list_any, zip, Contains, All}
 use Rattle.std.specs.Fmt.{decimal}
@@ -306,7 +306,8 @@ module _ (p : Place) (letter : Word) (n : ℕ) (place : IsRowPlace letter n p) w
 
   -- the rows of the table, but for the squares
   row-right : IsSize n → (x : List ℕ) → IsBijection n x → has_same_square p (map decimal x) ≡ false
-      → is_not_commuting p (letter ∷ map decimal x) ≡ false → NoRowHolds p (row_form n) (letter ∷ map decimal x) (map decimal x)
+      → is_not_commuting p (letter ∷ map decimal x) ≡ false
+      → NoRowHolds p (row_form n) (letter ∷ map decimal x) (map decimal x)
   row-right small x bijection apart commuting =
       let most = small.greatest in
       let long : length (map decimal x) ≡ n = length-map x decimal ∙ bijection.long in

@@ -1,6 +1,6 @@
 -- The plain form is read back. Words that are written have no byte that ends a line or a word (`IsPlainWord`), so that
--- the lines and words of the text are those that were written (`lines-plain`); and each line is allowed where it stands,
--- from the head over the commands to `end` (`commands-path`).
+-- the lines and words of the text are those that were written (`lines-plain`); and each line is allowed where it
+-- stands, from the head over the commands to `end` (`commands-path`).
 use Rattle.std.proofs.Common.{◌≡◌, ℕ, ◌+◌, ◌<◌, ◌≤◌, true, cond, false, List, [], ◌∷◌, ◌++◌, length, map, codes, refl, ap, subst, ◌∙◌, sym, arith, inl, inr, append_assoc, length-append}
 use Rattle.std.specs.Prelude.{nat_le, ◌==◌, ◌||◌}
 use Rattle.std.specs.List.{filter, flat_map}
