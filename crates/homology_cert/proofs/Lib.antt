@@ -8,3 +8,4 @@ pub mod ExistenceLemmas
 pub mod CheckLemmas
 pub mod PassingLemmas
 pub mod CertifiedLemmas
+pub mod TextLemmas

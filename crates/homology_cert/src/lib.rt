@@ -10,12 +10,14 @@
 mod certificates;
 mod checks;
 mod degrees;
+mod printing;
 mod ranks;
 mod tables;
 mod verdicts;
 
 pub use certificates::Cert;
 pub use checks::check_cert;
+pub use printing::print_cert;
 pub use tables::rank_table;
 pub use verdicts::{CertTest, CertVerdict};
 
