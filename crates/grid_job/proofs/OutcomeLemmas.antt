@@ -1,18 +1,14 @@
 -- Each text has an outcome in each mode, and all outcomes of a text have one status.
-use Rattle.std.proofs.Common.{◌≡◌, ◌⊎◌, ℕ, ◌<◌, ◌≤◌, List, [], ◌∷◌, length, map, All, nat_lt, false, refl, subst, inl, inr, arith}
+use Rattle.std.proofs.Common.{◌≡◌, ◌⊎◌, ℕ, ◌<◌, ◌≤◌, List, length, map, nat_lt, false, refl, inl, inr, arith}
 use Rattle.std.proofs.lemmas.Bool.{cases_Bool, ltb-true}
-use Rattle.std.proofs.lemmas.List.Elements.{All-nil, All-cons, All-head, All-tail}
 use Rattle.grid_text.specs.Words.{lines_of, words_of}
 use Rattle.grid_text.specs.Document.{head, ended, IsDocument}
 use Rattle.grid_text.specs.Script.{GridScript, IsScript}
-use Rattle.grid_text.specs.declared.commands.Command.{Command}
-use Rattle.grid_text.specs.declared.commands.Command.TheVariants as command
 use Rattle.grid_text.specs.Limits.{max_text}
-use Rattle.grid_text.proofs.Paths.JudgementLemmas.{one_script, no_document}
+use Rattle.grid_text.proofs.Paths.JudgementLemmas.{no_document}
 use Rattle.grid_text.proofs.Paths.OutcomeLemmas.{every_text}
 use Rattle.grid_text.proofs.Paths.PlaceLemmas.{IsPlace-path}
 use Rattle.grid_job.specs.InForce.{at_start}
-use Rattle.grid_job.specs.Report.{IsBuiltCommand, IsBuilt}
 use Rattle.grid_job.specs.Outcome.{IsRefusal, IsReported, IsOutcome}
 use Rattle.grid_job.specs.declared.modes.Mode.{Mode}
 use Rattle.grid_job.specs.declared.modes.Mode.TheVariants.{Run}
@@ -25,8 +21,7 @@ use Rattle.grid_job.proofs.ReportLemmas.{exists_answers}
 -- a document with a report is not refused
 not_both : (text a b : List ℕ) → IsReported text a → IsRefusal text b → ⊥
 not_both text a b done (inl long) = let within = done.within in let above = long.long in omega (arith, within, above)
-not_both text a b done (inr (inl faulty)) = no_document text faulty.fault faulty.number done.script faulty.first done.document
-not_both text a b done (inr (inr other)) = other.not_built (subst IsBuilt (one_script text done.script other.script done.document other.document) done.built)
+not_both text a b done (inr faulty) = no_document text faulty.fault faulty.number done.script faulty.first done.document
 
 pub one_status : (mode : Mode) (text : List ℕ) (s t : Status) (a b : List ℕ) → IsOutcome mode text s a → IsOutcome mode text t b → s ≡ t
 one_status Run text Done Done a b x y = refl
@@ -50,19 +45,6 @@ one_status Run text Refused NoMemory a b x y = absurd y
 one_status Run text Refused No a b x y = absurd y
 
 -- ---- an outcome
-built_or_not : (c : Command) → IsBuiltCommand c ⊎ (IsBuiltCommand c → ⊥)
-built_or_not c = inl tt
-
-pub all_built_or_not : (cs : List Command) → All IsBuiltCommand cs ⊎ (All IsBuiltCommand cs → ⊥)
-all_built_or_not [] = inl (All-nil IsBuiltCommand)
-all_built_or_not (c ∷ cs) = elim (built_or_not c) [
-  | inr is_not ↦ inr (λ all. is_not (All-head IsBuiltCommand c cs all))
-  | inl is ↦ elim (all_built_or_not cs) [
-    | inr are_not ↦ inr (λ all. are_not (All-tail IsBuiltCommand c cs all))
-    | inl are ↦ inl (All-cons IsBuiltCommand c cs is are)
-  ]
-]
-
 abbrev pub SomeOutcome : Mode → List ℕ → Type 0
 SomeOutcome mode text = (status : Status) × (answer : List ℕ) × IsOutcome mode text status answer
 
@@ -76,18 +58,14 @@ within_or_long text = elim (cases_Bool (nat_lt max_text (length text))) [
     not_long h = grind arith
 
 outcome_of_script : (text : List ℕ) (s : GridScript) → length text ≤ max_text → IsDocument text s → IsScript s → SomeOutcome Run text
-outcome_of_script text s within document is_script = elim (all_built_or_not s.commands) [
-  | inl built ↦
-      let report = exists_answers (at_start s.grid) s.commands is_script.grid (HasStates-nothing s.grid) built is_script.allowed in
-      (Done, report.0, record { within = within; script = s; document = document; built = built; report = report.1 })
-  | inr not_built ↦ (Refused, _, inr (inr (record { within = within; script = s; document = document; not_built = not_built; told = refl })))
-]
+outcome_of_script text s within document is_script =
+    let report = exists_answers (at_start s.grid) s.commands is_script.grid (HasStates-nothing s.grid) is_script.allowed in (Done, report.0, record { within = within; script = s; document = document; report = report.1 })
 
 pub some_outcome : (mode : Mode) (text : List ℕ) → SomeOutcome mode text
 some_outcome Run text = elim (within_or_long text) [
   | inr long ↦ (Refused, _, inl (record { long = long; told = refl }))
   | inl within ↦ elim (every_text text) [
     | inl document ↦ outcome_of_script text document.0 within document.1 (IsPlace-path head (ended document.0) (map words_of (lines_of text)) tt document.1)
-    | inr faulty ↦ (Refused, _, inr (inl (record { within = within; fault = faulty.0; number = faulty.1; first = faulty.2; told = refl })))
+    | inr faulty ↦ (Refused, _, inr (record { within = within; fault = faulty.0; number = faulty.1; first = faulty.2; told = refl }))
   ]
 ]

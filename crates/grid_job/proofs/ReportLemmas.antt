@@ -1,11 +1,10 @@
 -- A report written answer by answer.
--- Each script that is built has a report: a front line and a border line are given, each grid has a table, and a hat or
+-- Each script has a report: a front line and a border line are given, each grid has a table, and a hat or
 -- none, and each chain has a verdict. So what was written after the first k commands can be completed to a report at any
 -- place.
-use Rattle.std.proofs.Common.{◌≡◌, ℕ, zero, suc, ◌+◌, ◌<◌, ◌≤◌, List, [], ◌∷◌, ◌++◌, length, get_or, take, drop, All, Option, refl, sym, ap, subst, ◌∙◌, append_assoc, append-nil, drop-cons}
+use Rattle.std.proofs.Common.{◌≡◌, ℕ, zero, suc, ◌+◌, ◌<◌, ◌≤◌, List, [], ◌∷◌, ◌++◌, length, get_or, take, drop, Option, refl, sym, ap, subst, ◌∙◌, append_assoc, append-nil, drop-cons}
 use Rattle.std.specs.Io.KnownBytes.{Appends}
 use Rattle.std.proofs.lemmas.List.{take-append-drop, take_more, take_all}
-use Rattle.std.proofs.lemmas.List.Elements.{All-tail}
 use Rattle.torus_geom.specs.Marks.{Marks, size, IsGrid}
 use Rattle.grid_text.specs.Commands.{IsAllowed, grid_after}
 use Rattle.grid_text.specs.Script.{AreAllowed}
@@ -15,13 +14,13 @@ use Rattle.grid_text.proofs.Lines.ScriptLemmas.{IsGridOf-grid_after}
 use Rattle.grid_ports.specs.Bytes.{AppendsPrefix}
 use Rattle.grid_ports.proofs.BytesLemmas.{Appends-none, Appends-append}
 use Rattle.grid_job.specs.InForce.{InForce, after, after_all}
-use Rattle.grid_job.specs.Report.{IsBuiltCommand, IsAnswer, AreAnswers}
+use Rattle.grid_job.specs.Report.{IsAnswer, AreAnswers}
 use Rattle.legendrian_class.specs.States.{HasStates}
 use Rattle.grid_job.proofs.ChainLemmas.{HasStates-after}
 use Rattle.grid_job.proofs.ClassLemmas.{exists_class_text, exists_bounds_text}
 use Rattle.grid_job.proofs.HatLemmas.{exists_table, exists_hat_text}
 
--- ---- each command that is built has an answer
+-- ---- each command has an answer
 exists_answer : (p : InForce) (c : Command) → IsGrid p.grid → HasStates p.grid p.chain → (text : List ℕ) × IsAnswer p c text
 exists_answer p command.Front grid states = (_, refl)
 exists_answer p command.Ranks grid states = exists_table p.grid grid
@@ -37,12 +36,12 @@ exists_answer p (command.Commute axis c corner) grid states = ([], refl)
 grid-after : (g : Marks) (c : Command) → IsGrid g → IsAllowed g c → IsGrid (grid_after g c)
 grid-after g c grid allowed = (IsGridOf-grid_after (size g) g c (record { grid = grid; same_size = refl }) allowed).grid
 
-pub exists_answers : (p : InForce) (cs : List Command) → IsGrid p.grid → HasStates p.grid p.chain → All IsBuiltCommand cs → AreAllowed p.grid cs → (text : List ℕ) × AreAnswers p cs text
-exists_answers p [] grid states built allowed = ([], refl)
-exists_answers p (c ∷ cs) grid states built allowed =
+pub exists_answers : (p : InForce) (cs : List Command) → IsGrid p.grid → HasStates p.grid p.chain → AreAllowed p.grid cs → (text : List ℕ) × AreAnswers p cs text
+exists_answers p [] grid states allowed = ([], refl)
+exists_answers p (c ∷ cs) grid states allowed =
     let first = exists_answer p c grid states in
     let later = exists_answers (after p c) cs (grid-after p.grid c grid allowed.0)
-    (HasStates-after p c grid states allowed.0) (All-tail IsBuiltCommand c cs built) allowed.1 in
+    (HasStates-after p c grid states allowed.0) allowed.1 in
     (first.0 ++ later.0, (first.0, later.0, first.1, later.1, refl))
 
 -- ---- answers in order
@@ -73,7 +72,6 @@ after_all-append p (c ∷ cs) ds = after_all-append (after p c) cs ds
 record StandsAt (p : InForce) (cs : List Command) : Type 0 where
   pub grid : IsGrid p.grid
   pub states : HasStates p.grid p.chain
-  pub built : All IsBuiltCommand cs
   pub allowed : AreAllowed p.grid cs
 
 StandsAt-drop : (k : ℕ) (p : InForce) (cs : List Command) → StandsAt p cs → StandsAt (after_all p (take k cs)) (drop k cs)
@@ -81,7 +79,7 @@ StandsAt-drop zero p cs h = h
 StandsAt-drop (suc k) p [] h = h
 StandsAt-drop (suc k) p (c ∷ cs) h =
     StandsAt-drop k (after p c) cs
-    (record { grid = grid-after p.grid c h.grid h.allowed.0; states = HasStates-after p c h.grid h.states h.allowed.0; built = All-tail IsBuiltCommand c cs h.built; allowed = h.allowed.1 })
+    (record { grid = grid-after p.grid c h.grid h.allowed.0; states = HasStates-after p c h.grid h.states h.allowed.0; allowed = h.allowed.1 })
 
 -- ---- the writer's place
 -- answers to the first k commands were written, and this is in force after them
@@ -96,10 +94,10 @@ IsPast-none p now cs a e = record { in_force = e; whole = []; answers = refl; ap
 
 module _ (p : InForce) (cs : List Command) (k : ℕ) where
   -- the command that stands next may stand there
-  pub IsAllowed-next : (now : InForce) (d : Command) (a b : Option (List ℕ)) → IsGrid p.grid → HasStates p.grid p.chain → All IsBuiltCommand cs → AreAllowed p.grid cs → k < length cs
+  pub IsAllowed-next : (now : InForce) (d : Command) (a b : Option (List ℕ)) → IsGrid p.grid → HasStates p.grid p.chain → AreAllowed p.grid cs → k < length cs
       → IsPast p cs k now a b → IsAllowed now.grid (get_or cs k d)
-  IsAllowed-next now d a b grid states built allowed within past =
-      let here = StandsAt-drop k p cs (record { grid = grid; states = states; built = built; allowed = allowed }) in
+  IsAllowed-next now d a b grid states allowed within past =
+      let here = StandsAt-drop k p cs (record { grid = grid; states = states; allowed = allowed }) in
       let first = subst (AreAllowed (after_all p (take k cs)).grid) (drop-cons cs k d within) here.allowed in
       subst (λ q. IsAllowed q.grid (get_or cs k d)) (sym past.in_force) first.0
 
@@ -120,11 +118,11 @@ module _ (p : InForce) (cs : List Command) (k : ℕ) where
   IsPast-all now a b past_all past = (past.whole, subst (λ ds. AreAnswers p ds past.whole) (take_all k cs past_all) past.answers, past.appended)
 
   -- anywhere, it is a prefix of a report
-  pub IsPast-prefix : (now : InForce) (a b : Option (List ℕ)) → IsGrid p.grid → HasStates p.grid p.chain → All IsBuiltCommand cs → AreAllowed p.grid cs → IsPast p cs k now a b
+  pub IsPast-prefix : (now : InForce) (a b : Option (List ℕ)) → IsGrid p.grid → HasStates p.grid p.chain → AreAllowed p.grid cs → IsPast p cs k now a b
       → (text : List ℕ) × AreAnswers p cs text × AppendsPrefix a b text
-  IsPast-prefix now a b grid states built allowed past =
-      let here = StandsAt-drop k p cs (record { grid = grid; states = states; built = built; allowed = allowed }) in
-      let rest = exists_answers (after_all p (take k cs)) (drop k cs) here.grid here.states here.built here.allowed in
+  IsPast-prefix now a b grid states allowed past =
+      let here = StandsAt-drop k p cs (record { grid = grid; states = states; allowed = allowed }) in
+      let rest = exists_answers (after_all p (take k cs)) (drop k cs) here.grid here.states here.allowed in
       let all = AreAnswers-append p (take k cs) (drop k cs) past.whole rest.0 past.answers rest.1 in (
         past.whole ++ rest.0,
         subst (λ ds. AreAnswers p ds (past.whole ++ rest.0)) (take-append-drop k cs) all,
@@ -132,12 +130,12 @@ module _ (p : InForce) (cs : List Command) (k : ℕ) where
       )
 
   -- so it is where a prefix of an answer to the next command was written too
-  pub IsPast-prefix_of_next : (now : InForce) (d : Command) (text : List ℕ) (a b c : Option (List ℕ)) → IsGrid p.grid → HasStates p.grid p.chain → All IsBuiltCommand cs → AreAllowed p.grid cs → k < length cs
+  pub IsPast-prefix_of_next : (now : InForce) (d : Command) (text : List ℕ) (a b c : Option (List ℕ)) → IsGrid p.grid → HasStates p.grid p.chain → AreAllowed p.grid cs → k < length cs
       → IsAnswer now (get_or cs k d) text → IsPast p cs k now a b → AppendsPrefix b c text → (report : List ℕ) × AreAnswers p cs report × AppendsPrefix a c report
-  IsPast-prefix_of_next now d text a b c grid states built allowed within answer past part =
-      let here = StandsAt-drop (k + 1) p cs (record { grid = grid; states = states; built = built; allowed = allowed }) in
+  IsPast-prefix_of_next now d text a b c grid states allowed within answer past part =
+      let here = StandsAt-drop (k + 1) p cs (record { grid = grid; states = states; allowed = allowed }) in
       let at_next = after_all p (take k cs) in
-      let rest = exists_answers (after_all p (take (k + 1) cs)) (drop (k + 1) cs) here.grid here.states here.built here.allowed in
+      let rest = exists_answers (after_all p (take (k + 1) cs)) (drop (k + 1) cs) here.grid here.states here.allowed in
       let up_to = AreAnswers-append p (take k cs) (get_or cs k d ∷ []) past.whole text past.answers
       (AreAnswers-single at_next (get_or cs k d) text (subst (λ q. IsAnswer q (get_or cs k d) text) past.in_force answer)) in
       let first = subst (λ ds. AreAnswers p ds (past.whole ++ text)) (sym (take_more cs k d within)) up_to in

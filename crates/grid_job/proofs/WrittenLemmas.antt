@@ -12,14 +12,14 @@ use Rattle.grid_text.specs.Limits.{max_text}
 use Rattle.grid_text.specs.Script.{GridScript}
 use Rattle.grid_text.specs.declared.faults.TextFault.{TextFault}
 use Rattle.report_text.specs.Lines.{refused_line}
-use Rattle.grid_job.specs.Report.{IsBuilt, IsReport}
+use Rattle.grid_job.specs.Report.{IsReport}
 use Rattle.grid_job.specs.Outcome.{IsForm, IsOutcome, IsEnd, HasEnded, HasBegun}
 use Rattle.grid_job.specs.Inner.Written.{HasWritten, Tells}
 use Rattle.grid_job.specs.declared.modes.Mode.{Mode}
 use Rattle.grid_job.specs.declared.modes.Mode.TheVariants.{Run}
 use Rattle.grid_job.specs.declared.statuses.Status.{Status}
 use Rattle.grid_job.specs.declared.statuses.Status.TheVariants.{Done, Usage, Refused, ReadFault, WriteFault, NoMemory, No}
-use Rattle.grid_job.proofs.OutcomeLemmas.{all_built_or_not, one_status, some_outcome}
+use Rattle.grid_job.proofs.OutcomeLemmas.{one_status, some_outcome}
 
 -- what is an outcome of one kind is one of another
 pub HasWritten-weaker : (O P : Status → List ℕ → Type 0) (result : Status) (f g : ℕ) (a b : Option (List ℕ)) → ((s : Status) (t : List ℕ) → O s t → P s t)
@@ -125,19 +125,11 @@ not_others text result f g a b h = (λ e. not_usage (subst Ended e h.results), �
 -- ---- the text is judged
 -- a document, whose script was answered
 pub HasWritten-script : (text : List ℕ) (s : GridScript) (result : Status) (f g : ℕ) (a b : Option (List ℕ)) → length text ≤ max_text → IsDocument text s
-    → (IsBuilt s → HasWritten (λ status answer. (status ≡ Done) × IsReport s answer) result f g a b)
-    → ((IsBuilt s → ⊥) → HasWritten (λ status answer. (status ≡ Refused) × (answer ≡ refused_line (codes "NotBuilt") 0)) result f g a b)
-    → HasWritten (IsOutcome Run text) result f g a b
-HasWritten-script text s result f g a b within document built not_built = elim (all_built_or_not s.commands) [
-  | inl is ↦
-      HasWritten-weaker (λ status answer. (status ≡ Done) × IsReport s answer) (IsOutcome Run text) result f g a b
-      (λ status answer told. subst (λ r. IsOutcome Run text r answer) (sym told.0) (record { within = within; script = s; document = document; built = is; report = told.1 }))
-      (built is)
-  | inr is_not ↦
-      HasWritten-weaker (λ status answer. (status ≡ Refused) × (answer ≡ refused_line (codes "NotBuilt") 0)) (IsOutcome Run text) result f g a b
-      (λ status answer told. subst (λ r. IsOutcome Run text r answer) (sym told.0) (inr (inr (record { within = within; script = s; document = document; not_built = is_not; told = told.1 }))))
-      (not_built is_not)
-]
+    → HasWritten (λ status answer. (status ≡ Done) × IsReport s answer) result f g a b → HasWritten (IsOutcome Run text) result f g a b
+HasWritten-script text s result f g a b within document h =
+    HasWritten-weaker (λ status answer. (status ≡ Done) × IsReport s answer) (IsOutcome Run text) result f g a b
+    (λ status answer told. subst (λ r. IsOutcome Run text r answer) (sym told.0) (record { within = within; script = s; document = document; report = told.1 }))
+    h
 
 -- a text with a fault, whose word is told otherwise
 pub HasWritten-fault : (text word : List ℕ) (fault : TextFault) (line : ℕ) (result : Status) (f g : ℕ) (a b : Option (List ℕ)) → length text ≤ max_text → IsFirstFault text fault line → word ≡ fault_word fault
@@ -146,7 +138,7 @@ pub HasWritten-fault : (text word : List ℕ) (fault : TextFault) (line : ℕ) (
 HasWritten-fault text word fault line result f g a b within first same h =
     HasWritten-weaker (λ status answer. (status ≡ Refused) × (answer ≡ refused_line word line)) (IsOutcome Run text) result f g a b
     (λ status answer told. subst (λ r. IsOutcome Run text r answer) (sym told.0)
-    (inr (inl (record { within = within; fault = fault; number = line; first = first; told = told.1 ∙ ap (λ w. refused_line w line) same }))))
+    (inr (record { within = within; fault = fault; number = line; first = first; told = told.1 ∙ ap (λ w. refused_line w line) same })))
     h
 
 -- a text that is too long

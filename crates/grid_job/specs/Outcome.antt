@@ -22,7 +22,7 @@ use Rattle.grid_text.specs.Script.{GridScript}
 use Rattle.grid_text.specs.declared.faults.TextFault.{TextFault}
 use Rattle.grid_text.specs.Limits.{max_text}
 use Rattle.report_text.specs.Lines.{refused_line}
-use Rattle.grid_job.specs.Report.{IsBuilt, IsReport}
+use Rattle.grid_job.specs.Report.{IsReport}
 use Rattle.grid_job.specs.declared.modes.Mode.{Mode}
 use Rattle.grid_job.specs.declared.modes.Mode.TheVariants.{Run}
 use Rattle.grid_job.specs.declared.statuses.Status.{Status}
@@ -48,23 +48,14 @@ pub record IsFaulty (text answer : List ℕ) : Type 0 where
   pub first : IsFirstFault text fault number
   pub told : answer ≡ refused_line (fault_word fault) number
 
--- the text is a document with a command that has no answer yet
-pub record IsNotBuilt (text answer : List ℕ) : Type 0 where
-  pub within : length text ≤ max_text
-  pub script : GridScript
-  pub document : IsDocument text script
-  pub not_built : IsBuilt script → ⊥
-  pub told : answer ≡ refused_line (codes "NotBuilt") 0
-
 abbrev pub IsRefusal : List ℕ → List ℕ → Type 0
-IsRefusal text answer = IsTooLong text answer ⊎ IsFaulty text answer ⊎ IsNotBuilt text answer
+IsRefusal text answer = IsTooLong text answer ⊎ IsFaulty text answer
 
 -- the text is a document, and the answer a report of its script
 pub record IsReported (text answer : List ℕ) : Type 0 where
   pub within : length text ≤ max_text
   pub script : GridScript
   pub document : IsDocument text script
-  pub built : IsBuilt script
   pub report : IsReport script answer
 
 abbrev pub IsOutcome : Mode → List ℕ → Status → List ℕ → Type 0

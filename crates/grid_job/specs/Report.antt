@@ -1,12 +1,10 @@
 -- Reports: the bytes that a run writes for a script. The table of a grid is given by what holds of it, so
 -- a text is a report by what holds of it too.
---     IsBuiltCommand c         the command has an answer today
---     IsBuilt s                each command of the script has
 --     IsAnswer p c text        the text may be the answer to the command c where p is in force
 --     AreAnswers p cs text     the text is the concatenation, in order, of one answer to each command, where p is
 --                              in force before the first
 --     IsReport s text          the same for the grid and the commands of a script, and the empty chain
-use Rattle.std.specs.Prelude.{◌≡◌, List, ℕ, [], ◌∷◌, ◌++◌, map, codes, All}
+use Rattle.std.specs.Prelude.{◌≡◌, List, ℕ, [], ◌∷◌, ◌++◌, map, codes}
 use Rattle.hat_division.specs.declared.tables.TableRow.{TableRow}
 use Rattle.homology_cert.specs.Tables.{homology_row}
 use Rattle.report_text.specs.Lines.{front_line, set_line, table_lines}
@@ -21,13 +19,6 @@ use Rattle.grid_text.specs.declared.commands.Command.TheVariants as command
 use Rattle.grid_job.specs.InForce.{InForce, at_start, after}
 use Rattle.grid_job.specs.Hat.{IsHatText}
 use Rattle.grid_job.specs.VerdictTexts.{IsClassText, IsBoundsText}
-
--- each command of the language has
-abbrev pub IsBuiltCommand : Command → Type 0
-IsBuiltCommand c = Unit {0}
-
-abbrev pub IsBuilt : GridScript → Type 0
-IsBuilt s = All IsBuiltCommand s.commands
 
 -- the lines of rows that are the table of the ranks of the homology of the grid
 pub record IsTableText (g : Marks) (text : List ℕ) : Type 0 where

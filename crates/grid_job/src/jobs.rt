@@ -6,12 +6,12 @@ ghost use Rattle.grid_text.specs.Limits.{max_text};
 ghost use Rattle.grid_text.specs.Faults.{IsFirstFault};
 ghost use Rattle.grid_text.specs.Script.{GridScript};
 ghost use Rattle.report_text.specs.Lines.{refused_line as refused_line_of};
-ghost use Rattle.grid_job.specs.Report.{IsBuilt, IsReport};
+ghost use Rattle.grid_job.specs.Report.{IsReport};
 ghost use Rattle.grid_job.specs.Outcome.{IsForm, IsOutcome, IsEnd, HasEnded, HasBegun};
 ghost use Rattle.grid_job.specs.Inner.Written.{HasWritten, Tells};
 
 use crate::modes::{Mode, mode_of};
-use crate::reports::{ReportEnd, are_built, write_report};
+use crate::reports::{ReportEnd, write_report};
 use crate::statuses::Status;
 use grid_ports::{ReadEnd, Sink, Source, read_all, write_all};
 use grid_text::{MAX_TEXT, Script, TextEnd, TextFault, fault_word, judge};
@@ -21,10 +21,10 @@ use std::alloc::Global;
 /// Does what the words ask for: `run` alone reads a document from `src` and writes a report of it to `out`.
 ///
 /// The words are those after the program's name. All is read before anything is written. A text that is
-/// no document is refused by one line, which tells its first fault and the line that has it; so is a
-/// document with a command that is not built yet. A chain that the document names is followed across the commutations of the grid. The ranks that a report tells are those of the homology
-/// of the fully blocked grid complex over F2 (Ozsváth, Stipsicz and Szabó, "Grid Homology for Knots and
-/// Links", chapter 4).
+/// no document is refused by one line, which tells its first fault and the line that has it. A chain that
+/// the document names is followed through the turns and the commutations of the grid. The ranks that a
+/// report tells are those of the homology of the fully blocked grid complex over F2 (Ozsváth, Stipsicz and
+/// Szabó, "Grid Homology for Knots and Links", chapter 4).
 ///
 /// What is said of bytes holds for a source and a sink that tell theirs.
 pub fn gridhom<S: Source, K: Sink>(
@@ -156,18 +156,12 @@ fn answer_text<K: Sink>(alloc: Global, text: &[u8], out: &mut K) -> Status
     }
 }
 
-// Writes a report of a script, or the refusal of one that is not built.
+// Writes a report of a script.
 fn answer_script<K: Sink>(alloc: Global, script: &Script, out: &mut K) -> Status
-    ensures built { IsBuilt script.now → HasWritten
+    ensures { HasWritten
         (λ status answer. (status ≡ Status.Done) × IsReport script.now answer) result
         (K.faults out.old) (K.faults out.new) (K.written out.old) (K.written out.new) }
-    ensures not_built { (¬ IsBuilt script.now) → HasWritten
-        (λ status answer. (status ≡ Status.Refused) × (answer ≡ refused_line_of (codes "NotBuilt") 0)) result
-        (K.faults out.old) (K.faults out.new) (K.written out.old) (K.written out.new) }
 {
-    if !are_built(script.commands()) {
-        return refuse(alloc, "NotBuilt", 0, out);
-    }
     match write_report(alloc, script.grid(), script.commands(), out) {
         Ok(()) => Status::Done,
         Err(ReportEnd::WriteFault) => Status::WriteFault,

@@ -9,7 +9,7 @@ ghost use Rattle.torus_geom.specs.Marks.{size};
 ghost use Rattle.grid_text.specs.Commands.{IsAllowed};
 ghost use Rattle.grid_text.specs.Script.{AreAllowed};
 ghost use Rattle.grid_job.specs.InForce.{at_start};
-ghost use Rattle.grid_job.specs.Report.{IsBuiltCommand, IsAnswer, AreAnswers, IsTableText};
+ghost use Rattle.grid_job.specs.Report.{IsAnswer, AreAnswers, IsTableText};
 
 use crate::classes::{bounds_lines, class_lines};
 use crate::hats::hat_text;
@@ -54,26 +54,6 @@ impl From<NoMemory> for ReportEnd {
     }
 }
 
-/// Whether all commands are built.
-pub fn are_built(commands: &[Command]) -> bool
-    ensures { IsTrue result ↔ All IsBuiltCommand commands.now }
-{
-    for command in commands {
-        if !is_built(command) {
-            return false;
-        }
-    }
-    true
-}
-
-// Whether a text for the command can be made.
-fn is_built(command: &Command) -> bool
-    ensures { IsTrue result ↔ IsBuiltCommand command.now }
-{
-    let _ = command;
-    true
-}
-
 /// Writes a report of the commands on the grid. Where it ends early, a prefix of a report is written.
 pub fn write_report<K: Sink>(
     alloc: Global,
@@ -81,7 +61,6 @@ pub fn write_report<K: Sink>(
     commands: &[Command],
     out: &mut K,
 ) -> Result<(), ReportEnd>
-    requires built { All IsBuiltCommand commands.now }
     requires allowed { AreAllowed g.now commands.now }
     ensures report { OnOk result ((text : List ℕ) × AreAnswers (at_start g.now) commands.now text
         × Appends (K.written out.old) (K.written out.new) text) }
@@ -104,8 +83,7 @@ pub fn write_report<K: Sink>(
 
 // An answer to a command.
 fn answer_to(alloc: Global, p: &Follower, command: &Command) -> Result<Vec<u8>, NoMemory>
-    requires built { IsBuiltCommand command.now }
-    requires allowed { IsAllowed p.now.grid command.now }
+    requires { IsAllowed p.now.grid command.now }
     ensures { IfOk result (λ text. IsAnswer p.now command.now text.items) }
 {
     let g = p.grid();

@@ -17,7 +17,7 @@ const MIDDLE: &str = "grid 4\nO 0 2 1 3\nX 1 3 2 0\n";
 
 /// Documents, each in two parts, and their reports, each in three: the one in the middle has evidence, which may
 /// be any of those.
-const REPORTS: [(&str, &str, &str, &[&str], &str); 6] = [
+const REPORTS: [(&str, &str, &str, &[&str], &str); 7] = [
     (
         UNKNOT,
         "front\nclass +\nend\n",
@@ -46,6 +46,13 @@ const REPORTS: [(&str, &str, &str, &[&str], &str); 6] = [
     ),
     (
         UNKNOT,
+        "chain 01\nturn left\nshow\nclass +\nend\n",
+        "chain 10\nclass + 10 at 0 0 alive\n",
+        &["cocycle 10\n"],
+        "",
+    ),
+    (
+        UNKNOT,
         "chain\nbounds\nend\n",
         "bounds null\n",
         &["bound\n"],
@@ -70,6 +77,16 @@ const REPORTS: [(&str, &str, &str, &[&str], &str); 6] = [
         ],
         "bounds alive\ncocycle 021\n",
     ),
+];
+
+/// The grid of the last one with columns 0 and 1 exchanged.
+const EXCHANGED: &str = "grid 4\nO 2 0 1 3\nX 3 1 2 0\n";
+
+/// Lines of one report, and the grid and the chain of which the next line is a bound, if it is one.
+const FOLLOWED: [(&str, &str, &str); 3] = [
+    ("class + 1203 at -2 -1 null", MIDDLE, "chain 1203"),
+    ("chain 2103", EXCHANGED, ""),
+    ("class + 1023 at -2 -1 null", EXCHANGED, "chain 1023"),
 ];
 
 /// All states of a grid of size three, and some chains of several degrees of a grid of size four, and what they are.
@@ -229,6 +246,25 @@ fn evidence_is_what_it_is_said_to_be(rt: HostRuntime) -> Result<(), Fail> {
             assert!(rt;
                 is_evidence(alloc, grid, chain, verdict, line)?,
                 "the evidence on {chain:?}"
+            );
+        }
+    }
+    Ok(())
+}
+
+#[test]
+fn a_class_is_followed(rt: HostRuntime) -> Result<(), Fail> {
+    let alloc = rt.alloc();
+    let commands = "chain 1203\nclass +\ncols 1 under\nshow\nclass +\nend\n";
+    let text = report(alloc, &[MIDDLE, commands])?;
+    let mut lines = text.as_str().lines();
+    for (line, grid, chain) in FOLLOWED {
+        assert_eq!(rt; lines.next().ok_or("a line")?, line);
+        if !chain.is_empty() {
+            let bound = lines.next().ok_or("a bound")?;
+            assert!(rt;
+                is_evidence(alloc, grid, chain, "bounds null", bound)?,
+                "{bound:?}"
             );
         }
     }

@@ -6,7 +6,7 @@ use Rattle.grid_job.proofs.jobs.answer_text.Goals as goal
 
 pub returns-in-Ok : goal.returns-in-Ok
 returns-in-Ok g c =
-    HasWritten-script c.args.text.now _ _ _ _ _ _ c.requires.within c.in-Ok.ensures.document c.answer_script.ensures.built c.answer_script.ensures.not_built
+    HasWritten-script c.args.text.now _ _ _ _ _ _ c.requires.within c.in-Ok.ensures.document c.answer_script.ensures
 
 pub returns-in-Err-Refused : goal.returns-in-Err-Refused
 returns-in-Err-Refused g c =

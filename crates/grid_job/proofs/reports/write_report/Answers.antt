@@ -5,17 +5,17 @@ use Rattle.grid_job.proofs.ChainLemmas.{HasStates-nothing}
 use Rattle.grid_job.proofs.ReportLemmas.{IsAnswer-same, IsAllowed-next, IsPast-next, IsPast-prefix, IsPast-prefix_of_next}
 use Rattle.grid_job.proofs.reports.write_report.Goals as goal
 
-pub answer_to-requires-clause-allowed : goal.answer_to-requires-clause-allowed
-answer_to-requires-clause-allowed g c =
+pub answer_to-requires : goal.answer_to-requires
+answer_to-requires g c =
     let command = c.command-item in
     subst (IsAllowed c.loop-command.in_force.grid) (sym command.is)
     (IsAllowed-next (at_start c.args.g.now) c.args.commands.now c.loop-command.command-index c.loop-command.in_force command.result _ _
-    c.size.ensures.grid (HasStates-nothing c.args.g.now) c.requires.built c.requires.allowed c.loop-command-test.true c.loop-command.invariant.0)
+    c.size.ensures.grid (HasStates-nothing c.args.g.now) c.requires.allowed c.loop-command-test.true c.loop-command.invariant.0)
 
 pub returns-in_err-text-clause-part : goal.returns-in_err-text-clause-part
 returns-in_err-text-clause-part g c =
     IsPast-prefix (at_start c.args.g.now) c.args.commands.now c.loop-command.command-index c.loop-command.in_force _ _
-    c.size.ensures.grid (HasStates-nothing c.args.g.now) c.requires.built c.requires.allowed c.loop-command.invariant.0
+    c.size.ensures.grid (HasStates-nothing c.args.g.now) c.requires.allowed c.loop-command.invariant.0
 
 pub returns-in_err-write_all-clause-part : goal.returns-in_err-write_all-clause-part
 returns-in_err-write_all-clause-part g c =
@@ -23,7 +23,7 @@ returns-in_err-write_all-clause-part g c =
     let now = c.loop-command.in_force in
     let answer = IsAnswer-same now now command.result _ c.in_ok-text.text.items c.deref.result.now refl command.is (sym c.deref.ensures.value) c.in_ok-text.ensures in
     IsPast-prefix_of_next (at_start c.args.g.now) c.args.commands.now c.loop-command.command-index now command.result c.deref.result.now _ _ _
-    c.size.ensures.grid (HasStates-nothing c.args.g.now) c.requires.built c.requires.allowed c.loop-command-test.true answer c.loop-command.invariant.0 c.write_all.ensures.prefix
+    c.size.ensures.grid (HasStates-nothing c.args.g.now) c.requires.allowed c.loop-command-test.true answer c.loop-command.invariant.0 c.write_all.ensures.prefix
 
 pub loop-command-preserved : goal.loop-command-preserved
 loop-command-preserved g c =
@@ -38,7 +38,7 @@ loop-command-preserved g c =
 pub returns-clause-part : goal.returns-clause-part
 returns-clause-part g c =
     IsPast-prefix (at_start c.args.g.now) c.args.commands.now c.loop-command.command-index c.loop-command.in_force _ _
-    c.size.ensures.grid (HasStates-nothing c.args.g.now) c.requires.built c.requires.allowed c.loop-command.invariant.0
+    c.size.ensures.grid (HasStates-nothing c.args.g.now) c.requires.allowed c.loop-command.invariant.0
 
 pub returns-in_err-follow-clause-part : goal.returns-in_err-follow-clause-part
 returns-in_err-follow-clause-part g c =
@@ -46,11 +46,11 @@ returns-in_err-follow-clause-part g c =
     let now = c.loop-command.in_force in
     let answer = IsAnswer-same now now command.result _ c.in_ok-text.text.items c.deref.result.now refl command.is (sym c.deref.ensures.value) c.in_ok-text.ensures in
     IsPast-prefix_of_next (at_start c.args.g.now) c.args.commands.now c.loop-command.command-index now command.result c.deref.result.now _ _ _
-    c.size.ensures.grid (HasStates-nothing c.args.g.now) c.requires.built c.requires.allowed c.loop-command-test.true answer c.loop-command.invariant.0 c.write_all.ensures.prefix
+    c.size.ensures.grid (HasStates-nothing c.args.g.now) c.requires.allowed c.loop-command-test.true answer c.loop-command.invariant.0 c.write_all.ensures.prefix
 
 pub follow-requires : goal.follow-requires
 follow-requires g c =
     let command = c.command-item in
     subst (IsAllowed c.loop-command.in_force.grid) (sym command.is)
     (IsAllowed-next (at_start c.args.g.now) c.args.commands.now c.loop-command.command-index c.loop-command.in_force command.result _ _
-    c.size.ensures.grid (HasStates-nothing c.args.g.now) c.requires.built c.requires.allowed c.loop-command-test.true c.loop-command.invariant.0)
+    c.size.ensures.grid (HasStates-nothing c.args.g.now) c.requires.allowed c.loop-command-test.true c.loop-command.invariant.0)
