@@ -1,4 +1,5 @@
 pub mod HatLemmas
+pub mod GeneratorLemmas
 pub mod ReportLemmas
 pub mod OutcomeLemmas
 pub mod ModeLemmas

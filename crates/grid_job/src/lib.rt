@@ -9,6 +9,7 @@
 #![tactic(auto)]
 
 mod classes;
+mod generator;
 mod hats;
 mod in_force;
 mod jobs;
@@ -16,6 +17,7 @@ mod modes;
 mod reports;
 mod statuses;
 
+pub use generator::make_script;
 pub use jobs::gridhom;
 pub use modes::Mode;
 pub use statuses::Status;
