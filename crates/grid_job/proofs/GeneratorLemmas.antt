@@ -1,10 +1,11 @@
 -- Made grids.
 use Rattle.std.proofs.Common.{◌≡◌, ◌≢◌, ℕ, zero, suc, ◌+◌, ◌-◌, ◌^◌, ◌<◌, ◌≤◌, List, [], ◌∷◌, length, slice_index, take, refl, ap, sym, subst, ◌∙◌, arith}
 use Rattle.std.specs.List.{swap}
-use Rattle.state_rank.specs.Bijection.{IsSize, IsBijection, ascending, column_of}
+use Rattle.state_rank.specs.Bijection.{IsSize, IsBijection, tabulate, ascending, column_of}
 use Rattle.state_rank.specs.States.{IsState, transpose}
-use Rattle.state_rank.proofs.BijectionLemmas.{one_to_one, column_of-one_to_one}
+use Rattle.state_rank.proofs.BijectionLemmas.{one_to_one, column_of-one_to_one, column_of-is}
 use Rattle.state_rank.proofs.OrderLemmas.{length-tabulate, get_or-tabulate}
+use Rattle.state_rank.proofs.SwapLemmas.{IsBijection-swap}
 use Rattle.std.proofs.lemmas.List.{get_or-take, length-take-le}
 use Rattle.front_data.proofs.FilledRows.{IsFilled}
 use Rattle.torus_geom.specs.Marks.{Marks, IsGrid}
@@ -27,19 +28,20 @@ pub record IsShuffling (n first i number : ℕ) (state : List ℕ) : Type 0 wher
 length-ascending : (n : ℕ) → length (ascending n) ≡ n
 length-ascending n = length-tabulate n (λ (c : ℕ). c)
 
-pub IsState-ascending : (n : ℕ) → IsSize n → IsState (ascending n)
-IsState-ascending n size =
-    let long = length-ascending n in
+pub IsBijection-ascending : (n : ℕ) → IsBijection n (ascending n)
+IsBijection-ascending n =
     let at : (c : ℕ) → c < n → slice_index (ascending n) c ≡ c = λ c l. get_or-tabulate n (λ (c : ℕ). c) c 0 l in
-    let bijection : IsBijection n (ascending n) = record {
-      long = long;
+    record {
+      long = length-ascending n;
       small = λ c l. omega (arith, at c l);
       apart = λ b c lb lc p e. p (sym (at b lb) ∙ e ∙ at c lc);
-    } in
-    record {
-      size = subst IsSize (sym long) size;
-      bijection = subst (λ m. IsBijection m (ascending n)) (sym long) bijection;
     }
+
+pub IsState-ascending : (n : ℕ) → IsSize n → IsState (ascending n)
+IsState-ascending n size = record {
+  size = subst IsSize (sym (length-ascending n)) size;
+  bijection = subst (λ m. IsBijection m (ascending n)) (sym (length-ascending n)) (IsBijection-ascending n);
+}
 
 -- the first n of the numbers below nine
 pub take-ascending : (n : ℕ) → n ≤ 9 → take n (0 ∷ 1 ∷ 2 ∷ 3 ∷ 4 ∷ 5 ∷ 6 ∷ 7 ∷ 8 ∷ []) ≡ ascending n
@@ -169,16 +171,23 @@ module _ (cs rs places o x : List ℕ) (n : ℕ) (size : IsSize n) (in_cs : IsBi
   }
 
 -- the inverse of a bijection is one
-IsBijection-transpose : (cs : List ℕ) → IsBijection (length cs) cs → IsBijection (length cs) (transpose cs)
-IsBijection-transpose cs h =
-    let n = length cs in
+pub IsBijection-inverse : (n : ℕ) (cs : List ℕ) → IsBijection n cs → IsBijection n (tabulate n (column_of n (slice_index cs)))
+IsBijection-inverse n cs h =
     let one = column_of-one_to_one n (slice_index cs) (one_to_one n cs h) in
-    let at : (c : ℕ) → c < n → slice_index (transpose cs) c ≡ column_of n (slice_index cs) c = λ c l. get_or-tabulate n (column_of n (slice_index cs)) c 0 l in
+    let at : (c : ℕ) → c < n → slice_index (tabulate n (column_of n (slice_index cs))) c ≡ column_of n (slice_index cs) c = λ c l. get_or-tabulate n (column_of n (slice_index cs)) c 0 l in
     record {
       long = length-tabulate n (column_of n (slice_index cs));
       small = λ c l. let below = one.small c l in omega (arith, at c l, below);
       apart = λ b c lb lc p e. one.apart b c lb lc p (sym (at b lb) ∙ e ∙ at c lc);
     }
+
+pub inverse-place : (n : ℕ) (cs : List ℕ) → IsBijection n cs → (c : ℕ) → c < n → slice_index (tabulate n (column_of n (slice_index cs))) (slice_index cs c) ≡ c
+inverse-place n cs h c l =
+    get_or-tabulate n (column_of n (slice_index cs)) (slice_index cs c) 0 (h.small c l)
+    ∙ column_of-is n (slice_index cs) (one_to_one n cs h) c (slice_index cs c) l refl
+
+IsBijection-transpose : (cs : List ℕ) → IsBijection (length cs) cs → IsBijection (length cs) (transpose cs)
+IsBijection-transpose cs h = IsBijection-inverse (length cs) cs h
 
 -- the marks of all columns
 pub put_marks : (cs rs places o x : List ℕ) (n k p q : ℕ) → IsState cs → IsState rs → n ≡ length cs → length rs ≡ length cs → places ≡ transpose cs
@@ -214,3 +223,36 @@ pub four_commands : (g : Marks) (s p q r t : GridScript) → s ≡ record { grid
     → t ≡ record { grid = g; commands = made_commands }
 four_commands g s p q r t none first second third fourth =
     fourth ∙ ap (λ u. with_command u (Class Minus)) (third ∙ ap (λ u. with_command u (Class Plus)) (second ∙ ap (λ u. with_command u Hat) (first ∙ ap (λ u. with_command u Front) none)))
+
+-- ---- each size and seed has a script
+IsBijection-exchanged : (n i s : ℕ) (xs : List ℕ) → i < n → IsBijection n xs → IsBijection n (exchanged i s xs)
+IsBijection-exchanged n zero s xs l h = h
+IsBijection-exchanged n (suc i) s xs l h =
+    let other = draw (next_number s) (suc (suc i)) in
+    let below : other < suc (suc i) = omega arith in
+    IsBijection-exchanged n i (next_number s) (swap xs (suc i) other) (omega (arith, l)) (IsBijection-swap n xs (suc i) other l (omega (arith, below, l)) h)
+
+IsBijection-shuffled : (n s : ℕ) → IsSize n → IsBijection n (shuffled n s)
+IsBijection-shuffled n s size = let least = size.least in IsBijection-exchanged n (n - 1) s (ascending n) (omega (arith, least)) (IsBijection-ascending n)
+
+IsFilled-tabulate : (f : ℕ → ℕ) (n : ℕ) → n ≤ 9 → IsFilled 9 f n (tabulate 9 f)
+IsFilled-tabulate f n few = record { room = length-tabulate 9 f; filled = λ k l. get_or-tabulate 9 f k 0 (omega (arith, few, l)) }
+
+pub exists_script : (n seed : ℕ) → IsSize n → (s : GridScript) × IsMadeScript n seed s × IsGrid s.grid
+exists_script n seed size =
+    let cs = shuffled n seed in
+    let rs = shuffled n (number_after (n - 1) seed) in
+    let in_cs = IsBijection-shuffled n seed size in
+    let in_rs = IsBijection-shuffled n (number_after (n - 1) seed) size in
+    let places = tabulate n (column_of n (slice_index cs)) in
+    let in_places = IsBijection-inverse n cs in_cs in
+    let back = inverse-place n cs in_cs in
+    let fo : ℕ → ℕ = λ c. slice_index rs (one_down n (slice_index places c)) in
+    let fx : ℕ → ℕ = λ c. slice_index rs (slice_index places c) in
+    let in_o = IsFilled-tabulate fo n size.greatest in
+    let in_x = IsFilled-tabulate fx n size.greatest in
+    let grid : Marks = record { o = take n (tabulate 9 fo); x = take n (tabulate 9 fx) } in (
+      record { grid = grid; commands = made_commands },
+      record { grid = IsGridThrough-put cs rs places (tabulate 9 fo) (tabulate 9 fx) n size in_cs in_rs in_places back in_o in_x; commands = refl },
+      IsGrid-put cs rs places (tabulate 9 fo) (tabulate 9 fx) n size in_cs in_rs in_places back in_o in_x,
+    )

@@ -3,6 +3,8 @@ pub mod GeneratorLemmas
 pub mod ReportLemmas
 pub mod OutcomeLemmas
 pub mod ModeLemmas
+pub mod OptionLemmas
 pub mod WrittenLemmas
 pub mod ChainLemmas
 pub mod ClassLemmas
+pub mod MadeLemmas
