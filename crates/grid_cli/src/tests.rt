@@ -9,7 +9,12 @@ fn other_words_are_told_the_usage(rt: HostRuntime) -> Result<(), Fail> {
     // The word, the exit status, what is written, and what the sink for errors is told.
     for (word, status, report, usage) in [
         ("run", 0, "front tb -1 rot 0 components 1\n", ""),
-        ("walk", 1, "", "usage: gridhom run\n"),
+        (
+            "walk",
+            1,
+            "",
+            "usage: gridhom run | make --size N --seed K\n",
+        ),
     ] {
         let mut words = Vec::new(alloc);
         words.push(String::from_str(alloc, word)?)?;

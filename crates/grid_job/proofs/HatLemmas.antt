@@ -37,7 +37,7 @@ unfolding table_row
 table_rows [] = refl
 table_rows (row ∷ rows) = ap (λ rs. row ∷ rs) (table_rows rows)
 
-exists_rows : (g : Marks) → IsGrid g → (rows : List TableRow) × IsHomologyTable g (map homology_row rows)
+pub exists_rows : (g : Marks) → IsGrid g → (rows : List TableRow) × IsHomologyTable g (map homology_row rows)
 exists_rows g grid =
     let found = exists_homology_table g grid in
     (map table_row found.0, subst (IsHomologyTable g) (sym (homology_rows found.0)) found.1)

@@ -1,7 +1,10 @@
 pub mod HatLemmas
+pub mod GeneratorLemmas
 pub mod ReportLemmas
 pub mod OutcomeLemmas
 pub mod ModeLemmas
+pub mod OptionLemmas
 pub mod WrittenLemmas
 pub mod ChainLemmas
 pub mod ClassLemmas
+pub mod MadeLemmas

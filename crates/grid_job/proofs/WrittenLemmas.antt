@@ -13,13 +13,14 @@ use Rattle.grid_text.specs.Script.{GridScript}
 use Rattle.grid_text.specs.declared.faults.TextFault.{TextFault}
 use Rattle.report_text.specs.Lines.{refused_line}
 use Rattle.grid_job.specs.Report.{IsReport}
-use Rattle.grid_job.specs.Outcome.{IsForm, IsOutcome, IsEnd, HasEnded, HasBegun}
+use Rattle.grid_job.specs.Outcome.{IsForm, IsOutcome, IsEnd, HasEnded, HasBegun, left_of}
+use Rattle.grid_job.specs.Made.{IsMade}
 use Rattle.grid_job.specs.Inner.Written.{HasWritten, Tells}
 use Rattle.grid_job.specs.declared.modes.Mode.{Mode}
-use Rattle.grid_job.specs.declared.modes.Mode.TheVariants.{Run}
+use Rattle.grid_job.specs.declared.modes.Mode.TheVariants.{Run, Make}
 use Rattle.grid_job.specs.declared.statuses.Status.{Status}
 use Rattle.grid_job.specs.declared.statuses.Status.TheVariants.{Done, Usage, Refused, ReadFault, WriteFault, NoMemory, No}
-use Rattle.grid_job.proofs.OutcomeLemmas.{one_status, some_outcome}
+use Rattle.grid_job.proofs.OutcomeLemmas.{one_status, some_report, one_form}
 
 -- what is an outcome of one kind is one of another
 pub HasWritten-weaker : (O P : Status → List ℕ → Type 0) (result : Status) (f g : ℕ) (a b : Option (List ℕ)) → ((s : Status) (t : List ℕ) → O s t → P s t)
@@ -77,38 +78,62 @@ read_past_the_limit (Some text) (Some rest) taken = ap Some taken.1
 count-up : (n : ℕ) → n < 2 ^ 64 - 1 → count_up n ≡ n + 1
 count-up n below = grind arith
 
--- the words of a run
-pub form_of_run : (words : List (List ℕ)) (mode : Mode) → IsForm words mode → IsForm words Run
-form_of_run words Run form = form
+-- the mode that the words ask for
+pub form_of : (words : List (List ℕ)) (mode other : Mode) → other ≡ mode → IsForm words other → IsForm words mode
+form_of words mode other same form = subst (IsForm words) same form
 
 -- where the source tells the text, a call that ended has ended so
-pub HasEnded-written : (words : List (List ℕ)) (result : Status) (left left' : Option (List ℕ)) (f g : ℕ) (a b : Option (List ℕ)) → IsForm words Run → IsEnd result
-    → IfSome left (λ text. left' ≡ Some (drop (max_text + 1) text)) → HasWritten (Tells left (IsOutcome Run)) result f g a b
+pub HasEnded-written : (words : List (List ℕ)) (mode : Mode) (result : Status) (left left' : Option (List ℕ)) (f g : ℕ) (a b : Option (List ℕ)) → IsForm words mode → IsEnd result
+    → IfSome left (λ text. left' ≡ Some (left_of mode text)) → HasWritten (Tells left (IsOutcome mode)) result f g a b
     → IfSome left (λ text. HasEnded words text result left' a b)
-HasEnded-written words result None left' f g a b form is_end read h = tt
-HasEnded-written words result (Some text) left' f g a b form is_end read h =
+HasEnded-written words mode result None left' f g a b form is_end read h = tt
+HasEnded-written words mode result (Some text) left' f g a b form is_end read h =
     let w = h.whole is_end in
-    record { mode = Run; form = form; answer = w.0; outcome = w.1; read = read; written = w.2 }
+    record { mode = mode; form = form; answer = w.0; outcome = w.1; read = read; written = w.2 }
 
-pub HasBegun-written : (words : List (List ℕ)) (result : Status) (left : Option (List ℕ)) (f g : ℕ) (a b : Option (List ℕ)) → IsForm words Run
-    → HasWritten (Tells left (IsOutcome Run)) result f g a b → IfSome left (λ text. HasBegun words text a b)
-HasBegun-written words result None f g a b form h = tt
-HasBegun-written words result (Some text) f g a b form h =
-    record { mode = Run; form = form; status = h.part.0; answer = h.part.1; outcome = h.part.2; written = h.part.3 }
+pub HasBegun-written : (words : List (List ℕ)) (mode : Mode) (result : Status) (left : Option (List ℕ)) (f g : ℕ) (a b : Option (List ℕ)) → IsForm words mode
+    → HasWritten (Tells left (IsOutcome mode)) result f g a b → IfSome left (λ text. HasBegun words text a b)
+HasBegun-written words mode result None f g a b form h = tt
+HasBegun-written words mode result (Some text) f g a b form h =
+    record { mode = mode; form = form; status = h.part.0; answer = h.part.1; outcome = h.part.2; written = h.part.3 }
 
 -- where no write failed, the answer is the status of the outcomes, memory aside
-pub status_of_outcomes : (result : Status) (left : Option (List ℕ)) (f g : ℕ) (a b : Option (List ℕ)) → f < 2 ^ 64 - 1 → g ≡ f
-    → HasWritten (Tells left (IsOutcome Run)) result f g a b
-    → IfSome left (λ text. (status : Status) (answer : List ℕ) → IsOutcome Run text status answer → (result ≡ status) ⊎ (result ≡ NoMemory))
-status_of_outcomes result None f g a b below kept h = tt
-status_of_outcomes result (Some text) f g a b below kept h = λ status answer outcome. elim h.results [
-  | inl is_end ↦ let w = h.whole is_end in inl (one_status Run text result status w.0 answer w.1 outcome)
+pub status_of_outcomes : (mode : Mode) (result : Status) (left : Option (List ℕ)) (f g : ℕ) (a b : Option (List ℕ)) → f < 2 ^ 64 - 1 → g ≡ f
+    → HasWritten (Tells left (IsOutcome mode)) result f g a b
+    → IfSome left (λ text. (status : Status) (answer : List ℕ) → IsOutcome mode text status answer → (result ≡ status) ⊎ (result ≡ NoMemory))
+status_of_outcomes mode result None f g a b below kept h = tt
+status_of_outcomes mode result (Some text) f g a b below kept h = λ status answer outcome. elim h.results [
+  | inl is_end ↦ let w = h.whole is_end in inl (one_status mode text result status w.0 answer w.1 outcome)
   | inr (inl fault) ↦ absurd (rose (h.fault fault))
   | inr (inr memory) ↦ inr memory
 ]
   where
     rose : g ≡ count_up f → ⊥
     rose e = let up = count-up f below in omega (arith, up, e, kept)
+
+-- the same for the mode that the words ask for
+pub status_of_mode : (words : List (List ℕ)) (mode other : Mode) (result : Status) (left : Option (List ℕ)) (f g : ℕ) (a b : Option (List ℕ)) → IsForm words mode → IsForm words other → f < 2 ^ 64 - 1 → g ≡ f
+    → HasWritten (Tells left (IsOutcome other)) result f g a b
+    → IfSome left (λ text. (status : Status) (answer : List ℕ) → IsOutcome mode text status answer → (result ≡ status) ⊎ (result ≡ NoMemory))
+status_of_mode words mode other result left f g a b form its_form below kept h =
+    subst (λ m. IfSome left (λ text. (status : Status) (answer : List ℕ) → IsOutcome m text status answer → (result ≡ status) ⊎ (result ≡ NoMemory)))
+    (one_form words other mode its_form form) (status_of_outcomes other result left f g a b below kept h)
+
+-- ---- a made script
+-- its outcomes are the same for each text
+pub HasWritten-made : (n seed : ℕ) (left : Option (List ℕ)) (result : Status) (f g : ℕ) (a b : Option (List ℕ)) → HasWritten (λ status answer. (status ≡ Done) × IsMade n seed answer) result f g a b
+    → HasWritten (Tells left (IsOutcome (Make n seed))) result f g a b
+HasWritten-made n seed left result f g a b h =
+    HasWritten-weaker (λ status answer. (status ≡ Done) × IsMade n seed answer) (Tells left (IsOutcome (Make n seed))) result f g a b (each left) h
+  where
+    each : (o : Option (List ℕ)) (status : Status) (answer : List ℕ) → (status ≡ Done) × IsMade n seed answer → Tells o (IsOutcome (Make n seed)) status answer
+    each None status answer told = tt
+    each (Some text) status answer told = subst (λ r. IsOutcome (Make n seed) text r answer) (sym told.0) told.1
+
+-- the text stays where it is
+pub left_alone : (n seed : ℕ) (left left' : Option (List ℕ)) → left' ≡ left → IfSome left (λ text. left' ≡ Some (left_of (Make n seed) text))
+left_alone n seed None left' same = tt
+left_alone n seed (Some text) left' same = same
 
 -- a run of a text does not end so
 pub not_others : (text : List ℕ) (result : Status) (f g : ℕ) (a b : Option (List ℕ)) → HasWritten (IsOutcome Run text) result f g a b → (result ≢ Usage) × (result ≢ No)
@@ -163,7 +188,7 @@ HasWritten-read left left' bytes told result f g a b taken at_end same h =
 pub HasWritten-unread : (left : Option (List ℕ)) (f : ℕ) (a : Option (List ℕ)) → HasWritten (Tells left (IsOutcome Run)) NoMemory f f a a
 HasWritten-unread None f a = HasWritten-nothing (Tells None (IsOutcome Run)) f a Done [] tt
 HasWritten-unread (Some text) f a =
-    let outcome = some_outcome Run text in
+    let outcome = some_report text in
     HasWritten-nothing (Tells (Some text) (IsOutcome Run)) f a outcome.0 outcome.1 outcome.2
 
 -- a read that failed is told by ReadFault alone
@@ -194,13 +219,13 @@ read_fault_or_not WriteFault b e = inr (λ same. cc)
 read_fault_or_not NoMemory b e = inr (λ same. cc)
 read_fault_or_not No b e = inr (λ same. cc)
 
--- where no call failed, in any mode
-pub status_of_any : (mode : Mode) (result : Status) (left : Option (List ℕ)) (f g h k : ℕ) (a b : Option (List ℕ)) → f < 2 ^ 64 - 1 → h < 2 ^ 64 - 1 → g ≡ f → k ≡ h
+-- where no call failed in a run, the answer is the status of the outcomes of the mode
+pub status_of_run : (words : List (List ℕ)) (mode : Mode) (result : Status) (left : Option (List ℕ)) (f g h k : ℕ) (a b : Option (List ℕ)) → IsForm words mode → IsForm words Run → f < 2 ^ 64 - 1 → h < 2 ^ 64 - 1 → g ≡ f → k ≡ h
     → (result ≡ ReadFault → g ≡ count_up f) → (result ≢ ReadFault → HasWritten (Tells left (IsOutcome Run)) result h k a b)
     → IfSome left (λ text. (status : Status) (answer : List ℕ) → IsOutcome mode text status answer → (result ≡ status) ⊎ (result ≡ NoMemory))
-status_of_any Run result left f g h k a b below_f below_h source sink fault written = elim (read_fault_or_not result _ refl) [
+status_of_run words mode result left f g h k a b form its_form below_f below_h source sink fault written = elim (read_fault_or_not result _ refl) [
   | inl e ↦ absurd (rose (fault e))
-  | inr other ↦ status_of_outcomes result left h k a b below_h sink (written other)
+  | inr other ↦ status_of_mode words mode Run result left h k a b form its_form below_h sink (written other)
 ]
   where
     rose : g ≡ count_up f → ⊥

@@ -1,7 +1,10 @@
 pub mod InForce
 pub mod Hat
 pub mod VerdictTexts
+pub mod Generator
+pub mod Made
 pub mod Report
 pub mod Status
+pub mod Words
 pub mod Outcome
 pub mod Inner

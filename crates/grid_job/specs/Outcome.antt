@@ -1,15 +1,16 @@
 -- What a call of the program may come to. Each mode of the program has its outcomes for a text: the statuses with
 -- which a call may end, and the bytes that it then has written. The clauses of the top call speak of outcomes alone.
 --     IsForm words mode             the words after the program's name ask for this mode
---     limit mode                    the most bytes of a text that is judged in this mode
+--     left_of mode text             what is left of a text that a call went to the end of: a run reads one byte past the most
+--                                   that is judged, and `make` reads nothing
 --     IsRefusal text answer         the text is refused, and the answer is the line that says so
 --     IsOutcome mode text status answer
 --                                   a call in this mode, on this text, may end with this status and have written
 --                                   this answer
 --     IsEnd status                  the call went to its end
 --     HasEnded words text status left before after
---                                   all of the text was read, up to one byte past the limit, and the whole answer of
---                                   an outcome with this status was written
+--                                   the text was read as the mode asks, and the whole answer of an outcome with this
+--                                   status was written
 --     HasBegun words text before after
 --                                   what was written is a prefix of the answer of an outcome
 use Rattle.std.specs.Prelude.{◌≡◌, ℕ, ◌+◌, ◌<◌, ◌≤◌, ◌⊎◌, List, [], ◌∷◌, length, drop, codes, Option, Some}
@@ -22,18 +23,22 @@ use Rattle.grid_text.specs.Script.{GridScript}
 use Rattle.grid_text.specs.declared.faults.TextFault.{TextFault}
 use Rattle.grid_text.specs.Limits.{max_text}
 use Rattle.report_text.specs.Lines.{refused_line}
+use Rattle.grid_job.specs.Made.{IsMade}
 use Rattle.grid_job.specs.Report.{IsReport}
+use Rattle.grid_job.specs.Words.{IsMake}
 use Rattle.grid_job.specs.declared.modes.Mode.{Mode}
-use Rattle.grid_job.specs.declared.modes.Mode.TheVariants.{Run}
+use Rattle.grid_job.specs.declared.modes.Mode.TheVariants.{Run, Make}
 use Rattle.grid_job.specs.declared.statuses.Status.{Status}
 use Rattle.grid_job.specs.declared.statuses.Status.TheVariants.{Done, Usage, Refused, ReadFault, WriteFault, NoMemory, No}
 
--- `run` alone asks for a run
+-- `run` alone asks for a run, and `make` with its two options for a grid of this size and seed
 abbrev pub IsForm : List (List ℕ) → Mode → Type 0
 IsForm words Run = words ≡ codes "run" ∷ []
+IsForm words (Make size seed) = IsMake words size seed
 
-abbrev pub limit : Mode → ℕ
-limit Run = max_text
+abbrev pub left_of : Mode → List ℕ → List ℕ
+left_of Run text = drop (max_text + 1) text
+left_of (Make size seed) text = text
 
 -- the text is longer than what is judged
 pub record IsTooLong (text answer : List ℕ) : Type 0 where
@@ -66,6 +71,13 @@ IsOutcome Run text ReadFault answer = ⊥
 IsOutcome Run text WriteFault answer = ⊥
 IsOutcome Run text NoMemory answer = ⊥
 IsOutcome Run text No answer = ⊥
+IsOutcome (Make size seed) text Done answer = IsMade size seed answer
+IsOutcome (Make size seed) text Refused answer = ⊥
+IsOutcome (Make size seed) text Usage answer = ⊥
+IsOutcome (Make size seed) text ReadFault answer = ⊥
+IsOutcome (Make size seed) text WriteFault answer = ⊥
+IsOutcome (Make size seed) text NoMemory answer = ⊥
+IsOutcome (Make size seed) text No answer = ⊥
 
 abbrev pub IsEnd : Status → Type 0
 IsEnd Done = Unit {0}
@@ -81,7 +93,7 @@ pub record HasEnded (words : List (List ℕ)) (text : List ℕ) (status : Status
   pub form : IsForm words mode
   pub answer : List ℕ
   pub outcome : IsOutcome mode text status answer
-  pub read : left ≡ Some (drop (limit mode + 1) text)
+  pub read : left ≡ Some (left_of mode text)
   pub written : Appends before after answer
 
 pub record HasBegun (words : List (List ℕ)) (text : List ℕ) (before after : Option (List ℕ)) : Type 0 where

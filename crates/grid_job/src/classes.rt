@@ -62,8 +62,8 @@ pub(crate) fn bounds_lines(alloc: Global, g: &Grid, z: &Chain) -> Result<Vec<u8>
     }
 }
 
-// The state x+ or x-.
-fn class_state(g: &Grid, sign: Sign) -> State
+/// The state x+ or x-.
+pub(crate) fn class_state(g: &Grid, sign: Sign) -> State
     ensures { result ≡ class_state_of g.now sign }
 {
     match sign {

@@ -6,10 +6,14 @@ ghost use Rattle.grid_text.specs.Limits.{max_text};
 ghost use Rattle.grid_text.specs.Faults.{IsFirstFault};
 ghost use Rattle.grid_text.specs.Script.{GridScript};
 ghost use Rattle.report_text.specs.Lines.{refused_line as refused_line_of};
+ghost use Rattle.state_rank.specs.Bijection.{IsSize};
+ghost use Rattle.grid_job.specs.Made.{IsMade};
 ghost use Rattle.grid_job.specs.Report.{IsReport};
+ghost use Rattle.grid_job.specs.Words.{IsMake};
 ghost use Rattle.grid_job.specs.Outcome.{IsForm, IsOutcome, IsEnd, HasEnded, HasBegun};
 ghost use Rattle.grid_job.specs.Inner.Written.{HasWritten, Tells};
 
+use crate::made::made_text;
 use crate::modes::{Mode, mode_of};
 use crate::reports::{ReportEnd, write_report};
 use crate::statuses::Status;
@@ -18,13 +22,15 @@ use grid_text::{MAX_TEXT, Script, TextEnd, TextFault, fault_word, judge};
 use report_text::refused_line;
 use std::alloc::Global;
 
-/// Does what the words ask for: `run` alone reads a document from `src` and writes a report of it to `out`.
+/// Does what the words ask for: `run` alone reads a document from `src` and writes a report of it to `out`;
+/// `make --size N --seed K` reads nothing, and writes the script of this size and seed with a summary of its grid.
 ///
-/// The words are those after the program's name. All is read before anything is written. A text that is
-/// no document is refused by one line, which tells its first fault and the line that has it. A chain that
-/// the document names is followed through the turns and the commutations of the grid. The ranks that a
-/// report tells are those of the homology of the fully blocked grid complex over F2 (Ozsváth, Stipsicz and
-/// Szabó, "Grid Homology for Knots and Links", chapter 4).
+/// The words are those after the program's name. The options of `make` stand in either order, each in one word
+/// with `=` or in two. All is read before anything is written. A text that is no document is refused by one
+/// line, which tells its first fault and the line that has it. A chain that the document names is followed
+/// through the turns and the commutations of the grid. The ranks that a report tells are those of the homology
+/// of the fully blocked grid complex over F2 (Ozsváth, Stipsicz and Szabó, "Grid Homology for Knots and
+/// Links", chapter 4).
 ///
 /// What is said of bytes holds for a source and a sink that tell theirs.
 pub fn gridhom<S: Source, K: Sink>(
@@ -69,8 +75,12 @@ pub fn gridhom<S: Source, K: Sink>(
     ensures no_write_fault { result ≢ Status.WriteFault → K.faults out.new ≡ K.faults out.old }
     ensures not_no { result ≢ Status.No }
 
-    // Every text has an outcome in each mode, and all of them have one status.
-    ensures some_outcome { (mode : Mode) (text : List ℕ)
+    // A call of `make` reads nothing, whatever its end.
+    ensures make_reads_nothing { (size seed : ℕ) → IsMake (map string_bytes words.now) size seed
+        → src.new ≡ src.old }
+
+    // Every text has an outcome in each mode that words ask for, and all of them have one status.
+    ensures some_outcome { (asked : List (List ℕ)) (mode : Mode) (text : List ℕ) → IsForm asked mode
         → (status : Status) × (answer : List ℕ) × IsOutcome mode text status answer }
     ensures one_status { (mode : Mode) (text : List ℕ) (s t : Status) (a b : List ℕ)
         → IsOutcome mode text s a → IsOutcome mode text t b → s ≡ t }
@@ -116,10 +126,32 @@ fn answer_words<S: Source, K: Sink>(
         → K.faults out.new ≡ K.faults out.old + 1 }
     ensures no_write_fault { result ≢ Status.WriteFault → K.faults out.new ≡ K.faults out.old }
     ensures not_no { result ≢ Status.No }
+    ensures make_reads_nothing { (size seed : ℕ) → IsMake (map string_bytes words.now) size seed
+        → src.new ≡ src.old }
 {
     match mode_of(words) {
         Some(Mode::Run) => run(alloc, src, out),
+        Some(Mode::Make { size, seed }) => make(alloc, size, seed, out),
         None => Status::Usage,
+    }
+}
+
+// Writes the script of this size and seed, and the summary of its grid.
+fn make<K: Sink>(alloc: Global, n: u8, seed: u32, out: &mut K) -> Status
+    requires size { IsSize n }
+    requires seed { seed < 2 ^ 31 }
+    ensures written { HasWritten (λ status answer. (status ≡ Status.Done) × IsMade n seed answer)
+        result (K.faults out.old) (K.faults out.new) (K.written out.old) (K.written out.new) }
+    ensures not_usage { result ≢ Status.Usage }
+    ensures not_no { result ≢ Status.No }
+    ensures not_read_fault { result ≢ Status.ReadFault }
+{
+    let Ok(text) = made_text(alloc, n, seed) else {
+        return Status::NoMemory;
+    };
+    match write_all(out, &text) {
+        Ok(()) => Status::Done,
+        Err(_) => Status::WriteFault,
     }
 }
 

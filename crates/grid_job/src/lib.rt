@@ -9,16 +9,21 @@
 #![tactic(auto)]
 
 mod classes;
+mod generator;
 mod hats;
 mod in_force;
 mod jobs;
+mod made;
 mod modes;
 mod reports;
 mod statuses;
+mod words;
 
+pub use generator::make_script;
 pub use jobs::gridhom;
 pub use modes::Mode;
 pub use statuses::Status;
+pub use words::Flag;
 
 #[cfg(test)]
 mod tests;

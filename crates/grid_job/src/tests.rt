@@ -9,9 +9,13 @@ const UNKNOT: &str = "grid 2\nO 1 0\nX 0 1\nfront\nend\n";
 /// The table and the hat of an unknot.
 const HAT: &str = "grid 2\nO 1 0\nX 0 1\nranks\nhat\nend\n";
 
+/// What `make` writes for size five and seed one.
+const MADE: &str = "grid 5\nO 4 2 0 3 1\nX 0 4 3 1 2\nfront\nhat\nclass +\nclass -\nend\n\
+     # tb -3 rot 0 rank 16 plus null minus null\n";
+
 /// Calls: the words, what the source has, the read and the write that fail (counted from 1, each moves
 /// one byte), the exit status, and what is written.
-const ROWS: [(&str, &str, (u64, u64), u8, &str); 24] = [
+const ROWS: [(&str, &str, (u64, u64), u8, &str); 33] = [
     ("run", UNKNOT, (0, 0), 0, "front tb -1 rot 0 components 1\n"),
     (
         "run",
@@ -117,6 +121,15 @@ const ROWS: [(&str, &str, (u64, u64), u8, &str); 24] = [
     ("run", HAT, (3, 0), 3, ""),
     ("run", UNKNOT, (0, 2), 4, "f"),
     ("run", UNKNOT, (3, 0), 3, ""),
+    ("make --seed 1 --size 5", UNKNOT, (0, 0), 0, MADE),
+    ("make --seed=1 --size=5", UNKNOT, (0, 0), 0, MADE),
+    ("make --size=5 --seed 1", UNKNOT, (0, 2), 4, "g"),
+    ("make --size 5", UNKNOT, (0, 0), 1, ""),
+    ("make --size 05 --seed 1", UNKNOT, (0, 0), 1, ""),
+    ("make --size 5 --seed 1 --", UNKNOT, (0, 0), 1, ""),
+    ("make --size 5 --size 5", UNKNOT, (0, 0), 1, ""),
+    ("make --help --size 5", UNKNOT, (0, 0), 1, ""),
+    ("make --size 5 --seed 2147483648", UNKNOT, (0, 0), 1, ""),
     ("run now", UNKNOT, (0, 0), 1, ""),
     ("", UNKNOT, (0, 0), 1, ""),
     ("cert", UNKNOT, (0, 0), 1, ""),

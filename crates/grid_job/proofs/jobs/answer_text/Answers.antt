@@ -1,6 +1,6 @@
 use Rattle.grid_job.specs.Outcome.{IsOutcome}
 use Rattle.grid_job.specs.declared.modes.Mode.TheVariants.{Run}
-use Rattle.grid_job.proofs.OutcomeLemmas.{some_outcome}
+use Rattle.grid_job.proofs.OutcomeLemmas.{some_report}
 use Rattle.grid_job.proofs.WrittenLemmas.{HasWritten-script, HasWritten-fault, HasWritten-nothing}
 use Rattle.grid_job.proofs.jobs.answer_text.Goals as goal
 
@@ -15,5 +15,5 @@ returns-in-Err-Refused g c =
 
 pub returns-in-Err-NoMemory : goal.returns-in-Err-NoMemory
 returns-in-Err-NoMemory g c =
-    let outcome = some_outcome Run c.args.text.now in
+    let outcome = some_report c.args.text.now in
     HasWritten-nothing (IsOutcome Run c.args.text.now) _ _ outcome.0 outcome.1 outcome.2

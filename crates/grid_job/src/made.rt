@@ -1,0 +1,93 @@
+//! What `make` writes.
+ghost use Rattle.std.specs.Prelude.{◌≡◌, ◌++◌, ◌^◌, ◌<◌, IfOk, OnOk};
+ghost use Rattle.state_rank.specs.Bijection.{IsSize};
+ghost use Rattle.grid_job.specs.Made.{HasClassVerdict, verdict_word as verdict_word_of, summary_line as summary_line_of, IsSummary, IsMade};
+
+use crate::classes::class_state;
+use crate::make_script;
+use f2_chain::CodeSet;
+use front_data::{FrontNumbers, front};
+use grid_ports::NoMemory;
+use grid_text::{Sign, print};
+use homology_cert::rank_table;
+use itoa::{Buffer, Integer};
+use legendrian_class::{ClassVerdict, verdict};
+use std::alloc::Global;
+use torus_geom::Grid;
+
+/// The plain form of the script of this size and seed, and a line that sums up its grid.
+pub(crate) fn made_text(alloc: Global, n: u8, seed: u32) -> Result<Vec<u8>, NoMemory>
+    requires size { IsSize n }
+    requires seed { seed < 2 ^ 31 }
+    ensures { IfOk result (λ text. IsMade n seed text.items) }
+{
+    let script = make_script(alloc, n, seed)?;
+    let mut text = print(alloc, &script)?;
+    let summary = summary(alloc, script.grid())?;
+    text.extend_from_slice(&summary)?;
+    Ok(text)
+}
+
+// The line that sums up a grid.
+fn summary(alloc: Global, g: &Grid) -> Result<Vec<u8>, NoMemory>
+    ensures { IfOk result (λ text. IsSummary g.now text.items) }
+{
+    let table = rank_table(alloc, g)?;
+    let plus = is_alive(alloc, g, Sign::Plus)?;
+    let minus = is_alive(alloc, g, Sign::Minus)?;
+    summary_line(alloc, &front(g), table.total(), plus, minus)
+}
+
+// Whether the class of x+ or x- is alive, and not null.
+fn is_alive(alloc: Global, g: &Grid, sign: Sign) -> Result<bool, NoMemory>
+    ensures { IfOk result (λ alive. HasClassVerdict g.now sign alive) }
+{
+    let _ = g.size();
+    let x = class_state(g, sign);
+    let z = CodeSet::single(alloc, x.rank())?;
+    match verdict(alloc, g, &z)? {
+        ClassVerdict::NotCycle { state: _ } => unreachable!(),
+        ClassVerdict::Null { bound: _ } => Ok(false),
+        ClassVerdict::Alive { cocycle: _ } => Ok(true),
+    }
+}
+
+// The line of these numbers and verdicts.
+fn summary_line(
+    alloc: Global,
+    f: &FrontNumbers,
+    total: u128,
+    plus: bool,
+    minus: bool,
+) -> Result<Vec<u8>, NoMemory>
+    ensures { IfOk result (λ line.
+        line.items ≡ summary_line_of f.now.tb f.now.rot total plus minus) }
+{
+    let mut line = Vec::from_slice(alloc, b"# tb ")?;
+    push_number(&mut line, f.tb)?;
+    line.extend_from_slice(b" rot ")?;
+    push_number(&mut line, f.rot)?;
+    line.extend_from_slice(b" rank ")?;
+    push_number(&mut line, total)?;
+    line.extend_from_slice(b" plus ")?;
+    line.extend_from_slice(verdict_word(plus).as_bytes())?;
+    line.extend_from_slice(b" minus ")?;
+    line.extend_from_slice(verdict_word(minus).as_bytes())?;
+    line.push(b'\n')?;
+    Ok(line)
+}
+
+fn verdict_word(alive: bool) -> &'static str
+    ensures { result.now ≡ verdict_word_of alive }
+{
+    if alive { "alive" } else { "null" }
+}
+
+// Appends the decimal digits of a number.
+fn push_number<I: Integer>(line: &mut Vec<u8>, number: I) -> Result<(), NoMemory>
+    ensures { OnOk result (line.new.items ≡ line.old.items ++ I.text number) }
+{
+    let mut buffer = Buffer::new();
+    line.extend_from_slice(buffer.format(number).as_bytes())?;
+    Ok(())
+}
