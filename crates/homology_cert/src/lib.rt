@@ -1,10 +1,13 @@
-//! The table of the ranks of grid homology.
+//! The table of the ranks of grid homology, and certificates of it.
 //!
 //! Read `rank_table` first. Its contract says that the answer is the table: all bidegrees with a rank
 //! above 0, each with its rank, in the order of a table; that each bidegree has a rank, and no two; and
 //! that a grid has one table.
 //! Stands on `sparse_complex` and `cancel`: a slice at each Alexander degree is built and its arrows
 //! are cancelled, and the cells that are left are counted, in a map from bidegrees to ranks.
+//!
+//! `check_cert` checks a certificate of a table by borders, pairings and counts alone; its contract says
+//! that one that passes tells the table of its grid. `print_cert` gives its text.
 #![tactic(auto)]
 
 mod certificates;
