@@ -42,8 +42,8 @@ pub fn gridhom<S: Source, K: Sink>(
     requires source_count { S.faults src.old < 2 ^ 64 - 1 }
     requires sink_count { K.faults out.old < 2 ^ 64 - 1 }
 
-    // A call that went to its end has read all of the text, and written the answer of one of its outcomes:
-    // of a document a report, of any other text the line that refuses it.
+    // A call that went to its end has written the answer of one of its outcomes: a run has read all of the text, and
+    // written a report of a document, and of any other text the line that refuses it.
     ensures ended { IsEnd result → IfSome (S.left src.old) (λ text. HasEnded
         (map string_bytes words.now) text result
         (S.left src.new) (K.written out.old) (K.written out.new)) }
