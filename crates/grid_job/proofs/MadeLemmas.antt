@@ -1,5 +1,5 @@
 -- What `make` writes.
-use Rattle.std.proofs.Common.{◌≡◌, ℕ, ◌+◌, ◌-◌, ◌^◌, ◌<◌, ◌≤◌, ℤ, zero, suc, Bool, true, false, List, [], ◌∷◌, ◌++◌, map, length, slice_index, take, refl, sym, ap, subst, ◌∙◌, arith}
+use Rattle.std.proofs.Common.{◌≡◌, ℕ, ℤ, Bool, true, false, List, ◌++◌, map, refl, ap, subst, ◌∙◌}
 use Rattle.std.specs.List.{sum_by}
 use Rattle.f2_algebra.specs.Chain.{Chain}
 use Rattle.state_rank.specs.Bijection.{IsSize}

@@ -2,7 +2,6 @@
 use Rattle.std.proofs.Common.{◌++◌, ◌∷◌, [], codes, ap, ◌∙◌, rules}
 use Rattle.std.specs.Fmt.{decimal, signed_decimal}
 use Rattle.report_text.proofs.Pieces.{printed}
-use Rattle.grid_job.specs.Made.{verdict_word}
 use Rattle.grid_job.proofs.made.summary_line.Goals as goal
 
 pub returns : goal.returns

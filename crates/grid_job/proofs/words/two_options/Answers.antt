@@ -1,5 +1,5 @@
 -- The options of the words after the first.
-use Rattle.std.proofs.Common.{map, string_bytes, Global, length, sym, ap, subst, ◌∙◌, arith}
+use Rattle.std.proofs.Common.{map, string_bytes, Global}
 use Rattle.grid_job.proofs.OptionLemmas.{second_option}
 use Rattle.grid_job.proofs.words.two_options.Goals as goal
 
