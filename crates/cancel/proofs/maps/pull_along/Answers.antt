@@ -1,5 +1,5 @@
 -- From the last entry to the first.
-use Rattle.std.proofs.Common.{◌-◌, ◌∙◌, sym, ap, refl, arith}
+use Rattle.std.proofs.Common.{◌∙◌, sym, ap, refl, arith}
 use Rattle.f2_algebra.specs.Chain.{single, ◌⊕◌}
 use Rattle.f2_algebra.specs.Cancel.{pull}
 use Rattle.f2_algebra.proofs.Chains.Sums.{nothing-add}

@@ -1,4 +1,4 @@
-use Rattle.std.proofs.Common.{List, sym, ap, ap₂, subst, ◌∙◌, ◌≡◌, ◌++◌, codes, All, append_assoc}
+use Rattle.std.proofs.Common.{List, sym, ap, ap₂, subst, ◌∙◌, ◌++◌, All}
 use Rattle.std.specs.List.{flat_map}
 use Rattle.torus_geom.specs.Marks.{Marks, size}
 use Rattle.homology_cert.specs.Certificates.{Cell, HasPairStates}
