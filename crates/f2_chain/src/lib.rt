@@ -4,6 +4,8 @@
 //! times. Contracts see both as chains (`f2_algebra`, specs/Chain.antt), and each answer is an equation
 //! of chains: two sets with the same codes are equal in every clause. A `CodeSet` keeps its codes in
 //! ascending order, a `Builder` keeps a hashed set.
+//!
+//! Example: for z with the codes 3 and 7 and w with the codes 7 and 9, `z.add(&w)?` has the codes 3 and 9.
 #![tactic(auto)]
 
 mod builders;

@@ -5,6 +5,9 @@
 //! is found in one sweep of its columns. For many states of one grid make its `DegreeTables` once: they
 //! give the same degrees faster. Nothing here asks for memory.
 //! Stands on `torus_geom`, where the definitions are, and `state_rank`.
+//!
+//! Example: in the grid with its O in rows 2 1 0 and its X in rows 1 0 2, `degree(&g, &x)` of the state 1 0 2
+//! has the Maslov degree -2 and the Alexander degree -1.
 #![tactic(auto)]
 
 mod degrees;

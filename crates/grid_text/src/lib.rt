@@ -4,6 +4,9 @@
 //! line has the first fault. `print` writes the plain form of a script, which `judge` reads back. A text is
 //! a list of bytes; its lines and words are in specs/Words.antt, documents in specs/Document.antt, the rows
 //! of a picture in specs/Picture.antt, faults in specs/Faults.antt.
+//!
+//! Example: `judge` of the four lines `grid 2`, `O 1 0`, `X 0 1` and `end` is the script of this grid with no
+//! commands, and of the one line `grid 1` it is the refusal with the fault `BadNumber` at line 1.
 #![tactic(auto)]
 
 mod bodies;

@@ -6,6 +6,9 @@
 //! its states.
 //! Stands on `sparse_complex` and `cancel`: at each Alexander degree of the chain one slice is built and
 //! its arrows are cancelled, and the part of the chain at this degree is pushed along the log.
+//!
+//! Example: in the grid with its O in rows 2 1 0 and its X in rows 1 0 2, `verdict(alloc, &g, &z)?` of the chain
+//! of the state 1 0 2 (code 2) is `Null`, with a bound such as the chain of the state 0 1 2 (code 0).
 #![tactic(auto)]
 
 mod followers;

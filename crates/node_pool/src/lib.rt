@@ -6,6 +6,9 @@
 //! chunk is behind one raw pointer, which only four functions touch: `Block::of` (a chunk is added),
 //! `as_ref` (a node is read), `as_mut` (a node is written) and `into_box` (a chunk is freed). Stands on
 //! `grid_ports`.
+//!
+//! Example: after `pool.reserve(1)?` the call `pool.take(node)` needs no memory, and `pool.get` of the id that
+//! it answers is the node.
 #![tactic(auto)]
 
 mod blocks;

@@ -4,6 +4,10 @@
 //! Read `image` first, and specs/Pentagon.antt, which has a picture. `pentagon_targets` is the image of one
 //! state and asks for no memory. Contracts see a chain as a set of states by their ranks. Stands on
 //! `rectangles`, `grid_moves`, `f2_chain` and what these stand on.
+//!
+//! Example: in the grid with its O in rows 0 1 2 3 and its X in rows 2 0 3 1, columns 1 and 2 commute, and
+//! `image(alloc, &g, Axis::Cols, 2, Corner::Over, &z)?` of the chain of the state 2 3 1 0 is the chain of the
+//! state 2 3 0 1.
 #![tactic(auto)]
 
 mod exchanges;

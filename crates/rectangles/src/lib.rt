@@ -4,6 +4,9 @@
 //! border is empty (proofs/BorderLemmas.antt). `targets` lists the states of the border of one state,
 //! in order, and asks for no memory. Contracts see a chain as a set of states by their ranks. Stands on
 //! `torus_geom`, `state_rank` and `f2_chain`.
+//!
+//! Example: in the grid with its O in rows 2 1 0 and its X in rows 1 0 2, `border(alloc, &g, &z)?` of the chain
+//! of the state 0 1 2 (code 0) is the chain of the state 1 0 2 (code 2).
 #![tactic(auto)]
 
 mod borders;

@@ -3,6 +3,9 @@
 //! Read `front_line` first. The contract of each function says that the answer is exactly the bytes of
 //! the lines that specs/ defines, for the values that are handed in.
 //! Stands on `front_data`, `gradings`, `grid_text`, `hat_division` and `f2_chain`, whose values it prints.
+//!
+//! Example: `front_line` of tb 1, rot 0 and 1 component is the line `front tb 1 rot 0 components 1` with its
+//! line feed.
 #![tactic(auto)]
 
 mod lines;

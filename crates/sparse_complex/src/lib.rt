@@ -7,6 +7,9 @@
 //! has a key, its place in the order by Maslov degree and then by code; an arrow is a node of a pool that
 //! stands in two doubly linked lists, that of its source and that of its target. Stands on `rectangles`,
 //! `gradings` and `node_pool`.
+//!
+//! Example: of the grid with its O in rows 2 1 0 and its X in rows 1 0 2, `AlexSlice::build(alloc, &g, -1)?`
+//! has the codes 0, 2, 3 and 4, and an arrow to 2 from each of the others.
 #![tactic(auto)]
 
 mod builds;

@@ -6,6 +6,9 @@
 //!
 //! The definitions of specs/ are those on which the whole project stands: marks, components, ranges,
 //! rectangles, the border, degrees, fronts and the grid complex.
+//!
+//! Example: `Grid::of(&[0, 1, 2, 3, 4], &[2, 3, 4, 0, 1])` is a grid with one component, a trefoil, and
+//! `Grid::of(&[0, 1], &[0, 1])` is the error `SameSquare`.
 #![tactic(auto)]
 
 mod grids;
