@@ -26,6 +26,8 @@ pub use statuses::Status;
 pub use words::Flag;
 
 #[cfg(test)]
+mod failing_tests;
+#[cfg(test)]
 mod tests;
 #[cfg(test)]
 mod verdict_tests;
