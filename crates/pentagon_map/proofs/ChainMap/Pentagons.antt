@@ -368,25 +368,25 @@ module _ (n r s w : ℕ) (O X : ℕ → ℕ) where
           let cd : Bool = differ c d in
           let t : Bool = T (exchanged g c d) in
           let t' : Bool = T (exchanged k a b) in
-          let E1 : Bool = is_clear_of n f a b (f a) (f b) in
-          let E2 : Bool = is_clear_of n g c d (f c) (f d) in
-          let G1 : Bool = is_clear_of n f c d (f c) (f d) in
-          let G2 : Bool = is_clear_of n k a b (f a) (f b) in
-          let K : Bool = penta a b (f a) (f b) in
-          let K2 : Bool = penta c d (f c) (f d) in
-          let M : Bool = unmarked n O X a b (f a) (f b) in
-          let M2 : Bool = unmarked n O X c d (f c) (f d) in
-          (λ i. ((ab && (E1 && K)) && ((cd && (is_clear_of n g c d (gc i) (gd i) && unmarked n O' X' c d (gc i) (gd i))) && t))
-          ⊻ ((ab && (E1 && M)) && ((cd && (is_clear_of n g c d (gc i) (gd i) && penta c d (gc i) (gd i))) && t)))
+          let clear_ab : Bool = is_clear_of n f a b (f a) (f b) in
+          let clear_cd_after : Bool = is_clear_of n g c d (f c) (f d) in
+          let clear_cd : Bool = is_clear_of n f c d (f c) (f d) in
+          let clear_ab_after : Bool = is_clear_of n k a b (f a) (f b) in
+          let penta_ab : Bool = penta a b (f a) (f b) in
+          let penta_cd : Bool = penta c d (f c) (f d) in
+          let unmarked_ab : Bool = unmarked n O X a b (f a) (f b) in
+          let unmarked_cd : Bool = unmarked n O X c d (f c) (f d) in
+          (λ i. ((ab && (clear_ab && penta_ab)) && ((cd && (is_clear_of n g c d (gc i) (gd i) && unmarked n O' X' c d (gc i) (gd i))) && t))
+          ⊻ ((ab && (clear_ab && unmarked_ab)) && ((cd && (is_clear_of n g c d (gc i) (gd i) && penta c d (gc i) (gd i))) && t)))
           ∙ same 9 (λ p q x y t k m l j. ((p && (x && k)) && ((q && (y && m)) && t)) ⊻ ((p && (x && l)) && ((q && (y && j)) && t)))
           (λ p q x y t k m l j. (x && y) && (((p && q) && t) && ((k && m) ⊻ (l && j)))) refl
-          ab cd E1 E2 t K (unmarked n O' X' c d (f c) (f d)) M K2
+          ab cd clear_ab clear_cd_after t penta_ab (unmarked n O' X' c d (f c) (f d)) unmarked_ab penta_cd
           ∙ (λ i. empty_apart n f a b c d la lb lc ld o (AreFourApart-rows n f one a b c d la lb lc ld o) i
-          && (((ab && cd) && ap T (exchanged_apart f a b c d o.ac o.ad o.bc o.bd) i) && (near a b c d (f a) (f b) (f c) (f d) lc ld o i ⊻ (M && K2))))
+          && (((ab && cd) && ap T (exchanged_apart f a b c d o.ac o.ad o.bc o.bd) i) && (near a b c d (f a) (f b) (f c) (f d) lc ld o i ⊻ (unmarked_ab && penta_cd))))
           ∙ same 8 (λ p q z t k m l j. z && (((p && q) && t) && ((k && m) ⊻ (l && j)))) (λ p q z t k m l j. z && (((p && q) && t) && ((j && l) ⊻ (m && k)))) refl
-          ab cd (G1 && G2) t' K M2 M K2
-          ∙ ap (λ z. (G1 && G2) && (((ab && cd) && t') && (z ⊻ (M2 && K)))) (sym (near c d a b (f c) (f d) (f a) (f b) la lb back))
+          ab cd (clear_cd && clear_ab_after) t' penta_ab unmarked_cd unmarked_ab penta_cd
+          ∙ ap (λ z. (clear_cd && clear_ab_after) && (((ab && cd) && t') && (z ⊻ (unmarked_cd && penta_ab)))) (sym (near c d a b (f c) (f d) (f a) (f b) la lb back))
           ∙ same 9 (λ p q x y t k m l j. (x && y) && (((p && q) && t) && ((k && m) ⊻ (l && j)))) (λ p q x y t k m l j. ((q && (x && k)) && ((p && (y && m)) && t)) ⊻ ((q && (x && l)) && ((p && (y && j)) && t))) refl
-          ab cd G1 G2 t' K2 (unmarked n O' X' a b (f a) (f b)) M2 K
-          ∙ sym (λ i. ((cd && (G1 && K2)) && ((ab && (is_clear_of n k a b (ka i) (kb i) && unmarked n O' X' a b (ka i) (kb i))) && t'))
-          ⊻ ((cd && (G1 && M2)) && ((ab && (is_clear_of n k a b (ka i) (kb i) && penta a b (ka i) (kb i))) && t')))
+          ab cd clear_cd clear_ab_after t' penta_cd (unmarked n O' X' a b (f a) (f b)) unmarked_cd penta_ab
+          ∙ sym (λ i. ((cd && (clear_cd && penta_cd)) && ((ab && (is_clear_of n k a b (ka i) (kb i) && unmarked n O' X' a b (ka i) (kb i))) && t'))
+          ⊻ ((cd && (clear_cd && unmarked_cd)) && ((ab && (is_clear_of n k a b (ka i) (kb i) && penta a b (ka i) (kb i))) && t')))

@@ -188,31 +188,31 @@ module _ (n r s e w : ℕ) (O X : ℕ → ℕ) (d : AreSides n r s) (thin : IsTh
         let g : ℕ → ℕ = exchanged f a b in
         let ga : g a ≡ f b = exchanged-first f a b in
         let gb : g b ≡ f a = exchanged-second f a b p in
-        let E1 : Bool = is_clear_of n f a b (f a) (f b) in
-        let E2 : Bool = is_clear_of n g b a (g b) (g a) in
-        let K : Bool = penta n r s w O X a b (f a) (f b) in
-        let M : Bool = unmarked n O X a b (f a) (f b) in
+        let clear_ab : Bool = is_clear_of n f a b (f a) (f b) in
+        let clear_ba : Bool = is_clear_of n g b a (g b) (g a) in
+        let penta_ab : Bool = penta n r s w O X a b (f a) (f b) in
+        let unmarked_ab : Bool = unmarked n O X a b (f a) (f b) in
         let t : Bool = T (exchanged g b a) in
-        (λ i. ((differ a b && (E1 && K)) && ((differ b a && (E2 && unmarked n (O' n r s w O X) (X' n r s w O X) b a (gb i) (ga i))) && t))
-        ⊻ ((differ a b && (E1 && M)) && ((differ b a && (E2 && penta n r s w O X b a (gb i) (ga i))) && t)))
+        (λ i. ((differ a b && (clear_ab && penta_ab)) && ((differ b a && (clear_ba && unmarked n (O' n r s w O X) (X' n r s w O X) b a (gb i) (ga i))) && t))
+        ⊻ ((differ a b && (clear_ab && unmarked_ab)) && ((differ b a && (clear_ba && penta n r s w O X b a (gb i) (ga i))) && t)))
         ∙ same 9 (λ p q x y t k m l j. ((p && (x && k)) && ((q && (y && m)) && t)) ⊻ ((p && (x && l)) && ((q && (y && j)) && t)))
         (λ p q x y t k m l j. ((x && y) && ((p && q) && t)) && ((k && m) ⊻ (l && j))) refl
-        (differ a b) (differ b a) E1 E2 t K (unmarked n (O' n r s w O X) (X' n r s w O X) b a (f a) (f b)) M (penta n r s w O X b a (f a) (f b))
-        ∙ ap (λ z. ((E1 && E2) && ((differ a b && differ b a) && t)) && z) (around_none a b (f a) (f b) (one.small a la) p (one.apart a b la lb p))
-        ∙ and-false ((E1 && E2) && ((differ a b && differ b a) && t))
+        (differ a b) (differ b a) clear_ab clear_ba t penta_ab (unmarked n (O' n r s w O X) (X' n r s w O X) b a (f a) (f b)) unmarked_ab (penta n r s w O X b a (f a) (f b))
+        ∙ ap (λ z. ((clear_ab && clear_ba) && ((differ a b && differ b a) && t)) && z) (around_none a b (f a) (f b) (one.small a la) p (one.apart a b la lb p))
+        ∙ and-false ((clear_ab && clear_ba) && ((differ a b && differ b a) && t))
 
     along_twice : (a b : ℕ) → a ≢ b → steps a b a b ≡ ((is_clear_of n f a b (f a) (f b) && is_clear_of n (exchanged f a b) a b (f b) (f a)) && (T f && up_twice a b (f a) (f b)))
     along_twice a b p =
         let g : ℕ → ℕ = exchanged f a b in
         let ga : g a ≡ f b = exchanged-first f a b in
         let gb : g b ≡ f a = exchanged-second f a b p in
-        let E1 : Bool = is_clear_of n f a b (f a) (f b) in
-        let K : Bool = penta n r s w O X a b (f a) (f b) in
-        let M : Bool = unmarked n O X a b (f a) (f b) in
-        (λ i. ((differ-true a b p i && (E1 && K)) && ((differ-true a b p i && (is_clear_of n g a b (ga i) (gb i) && unmarked n (O' n r s w O X) (X' n r s w O X) a b (ga i) (gb i))) && T (exchanged-exchanged f a b i)))
-        ⊻ ((differ-true a b p i && (E1 && M)) && ((differ-true a b p i && (is_clear_of n g a b (ga i) (gb i) && penta n r s w O X a b (ga i) (gb i))) && T (exchanged-exchanged f a b i))))
+        let clear_ab : Bool = is_clear_of n f a b (f a) (f b) in
+        let penta_ab : Bool = penta n r s w O X a b (f a) (f b) in
+        let unmarked_ab : Bool = unmarked n O X a b (f a) (f b) in
+        (λ i. ((differ-true a b p i && (clear_ab && penta_ab)) && ((differ-true a b p i && (is_clear_of n g a b (ga i) (gb i) && unmarked n (O' n r s w O X) (X' n r s w O X) a b (ga i) (gb i))) && T (exchanged-exchanged f a b i)))
+        ⊻ ((differ-true a b p i && (clear_ab && unmarked_ab)) && ((differ-true a b p i && (is_clear_of n g a b (ga i) (gb i) && penta n r s w O X a b (ga i) (gb i))) && T (exchanged-exchanged f a b i))))
         ∙ same 7 (λ x y t k m l j. ((x && k) && ((y && m) && t)) ⊻ ((x && l) && ((y && j) && t))) (λ x y t k m l j. (x && y) && (t && ((k && m) ⊻ (l && j)))) refl
-        E1 (is_clear_of n g a b (f b) (f a)) (T f) K (unmarked n (O' n r s w O X) (X' n r s w O X) a b (f b) (f a)) M (penta n r s w O X a b (f b) (f a))
+        clear_ab (is_clear_of n g a b (f b) (f a)) (T f) penta_ab (unmarked n (O' n r s w O X) (X' n r s w O X) a b (f b) (f a)) unmarked_ab (penta n r s w O X a b (f b) (f a))
 
     -- what each of the two thin annuli gives
     abbrev rest_of : Bool
