@@ -1,5 +1,6 @@
 -- A check of the definitions on a complex whose ranks are known, that of the states of a grid of size 3 for the unknot:
--- cell 1 of degree (0,0); cells 0, 3 and 4 of degree (-1,-1), each with one arrow, to cell 2 of degree (-2,-1); and cell 5 of degree (-2,-2).
+-- cell 1 of degree (0,0); cells 0, 3 and 4 of degree (-1,-1), each with one arrow, to cell 2 of degree (-2,-1); and
+-- cell 5 of degree (-2,-2).
 -- The rank at (-1,-1) is 2.
 use Rattle.std.proofs.Common.{◌≡◌, ◌||◌, eqb, slice_index, ◌⊎◌, inl, inr, subst, ℕ, zero, suc, ◌+◌, ◌<◌, ℤ, pos, negsuc, Bool, true, false, List, [], ◌∷◌, length, Option, Some, None, refl, sym, ap, ◌∙◌, arith}
 use Rattle.std.proofs.lemmas.Bool.{false≢true, eqb-true}
@@ -86,10 +87,12 @@ of_middle xs h s i = code_in (λ (t : ℕ). degree_of t ≡ Some middle) xs h s 
 in_cells : (s : ℕ) → degree_of s ≡ Some middle → any s (0 ∷ 3 ∷ 4 ∷ []) ≡ true
 in_cells zero e = refl
 in_cells (suc zero) e = let h : pos 0 ≡ negsuc 0 = ap (λ p. p.0) (same_some _ middle e) in cc
-in_cells (suc (suc zero)) e = let h : negsuc 1 ≡ negsuc 0 = ap (λ p. p.0) (same_some _ middle e) in absurd (omega (arith, ints))
+in_cells (suc (suc zero)) e = let h : negsuc 1 ≡ negsuc 0 = ap (λ p. p.0) (same_some _ middle e) in
+    absurd (omega (arith, ints))
 in_cells (suc (suc (suc zero))) e = refl
 in_cells (suc (suc (suc (suc zero)))) e = refl
-in_cells (suc (suc (suc (suc (suc zero))))) e = let h : negsuc 1 ≡ negsuc 0 = ap (λ p. p.0) (same_some _ middle e) in absurd (omega (arith, ints))
+in_cells (suc (suc (suc (suc (suc zero))))) e = let h : negsuc 1 ≡ negsuc 0 = ap (λ p. p.0) (same_some _ middle e) in
+    absurd (omega (arith, ints))
 in_cells (suc (suc (suc (suc (suc (suc n)))))) e = cc
 
 all : IsAllCells example middle cells
@@ -113,10 +116,12 @@ twice : single 2 ⊕ (single 2 ⊕ nothing) ≡ nothing
 twice = ap (λ c. single 2 ⊕ c) (add-nothing (single 2)) ∙ add_self (single 2)
 
 cycle_one : IsCycle example middle (of_codes (0 ∷ 3 ∷ []))
-cycle_one = (of_middle (0 ∷ 3 ∷ []) (refl, (refl, tt)), sum_over-list (0 ∷ 3 ∷ []) (refl, (refl, tt)) targets_of ∙ twice)
+cycle_one =
+    (of_middle (0 ∷ 3 ∷ []) (refl, (refl, tt)), sum_over-list (0 ∷ 3 ∷ []) (refl, (refl, tt)) targets_of ∙ twice)
 
 cycle_two : IsCycle example middle (of_codes (0 ∷ 4 ∷ []))
-cycle_two = (of_middle (0 ∷ 4 ∷ []) (refl, (refl, tt)), sum_over-list (0 ∷ 4 ∷ []) (refl, (refl, tt)) targets_of ∙ twice)
+cycle_two =
+    (of_middle (0 ∷ 4 ∷ []) (refl, (refl, tt)), sum_over-list (0 ∷ 4 ∷ []) (refl, (refl, tt)) targets_of ∙ twice)
 
 pairs_one : (z : Chain) (t : ℕ) → pairs_oddly z (of_codes (t ∷ [])) ≡ holds z t
 pairs_one z t = pairs_oddly-single t z
@@ -141,21 +146,33 @@ both_pairs = pair_one ∷ pair_two ∷ []
 cycle_pairs : AreCyclePairs example middle both_pairs
 cycle_pairs = record {
   cycles = all_from (λ (p : CyclePair). IsCycle example middle p.cycle) both_pairs (cycle_one, (cycle_two, tt));
-  cocycle_degrees = all_from (λ (p : CyclePair). AllOfDegree example middle p.cocycle) both_pairs (of_middle (3 ∷ []) (refl, tt), (of_middle (4 ∷ []) (refl, tt), tt));
-  cocycles = all_from (λ (p : CyclePair). (s : ℕ) → pairs_oddly (targets_of s) p.cocycle ≡ false) both_pairs (cocycle 3 refl, (cocycle 4 refl, tt));
+  cocycle_degrees =
+      all_from (λ (p : CyclePair). AllOfDegree example middle p.cocycle) both_pairs
+      (of_middle (3 ∷ []) (refl, tt), (of_middle (4 ∷ []) (refl, tt), tt));
+  cocycles =
+      all_from (λ (p : CyclePair). (s : ℕ) → pairs_oddly (targets_of s) p.cocycle ≡ false) both_pairs
+      (cocycle 3 refl, (cocycle 4 refl, tt));
   own = all_from (λ (p : CyclePair). pairs_oddly p.cycle p.cocycle ≡ true) both_pairs (pairing _ 3, (pairing _ 4, tt));
-  others = pairs_from (λ (p q : CyclePair). (pairs_oddly p.cycle q.cocycle ≡ false) × (pairs_oddly q.cycle p.cocycle ≡ false)) both_pairs (((pairing _ 4, pairing _ 3), tt), (tt, tt));
+  others = pairs_from (λ (p q : CyclePair). (pairs_oddly p.cycle q.cocycle ≡ false)
+      × (pairs_oddly q.cycle p.cocycle ≡ false)) both_pairs (((pairing _ 4, pairing _ 3), tt), (tt, tt));
 }
 
 step_pairs : AreStepPairs example middle (step_one ∷ [])
 step_pairs = record {
-  steps = all_from (λ (p : StepPair). AllOfDegree example middle p.step) (step_one ∷ []) (of_middle (0 ∷ []) (refl, tt), tt);
-  probe_degrees = all_from (λ (p : StepPair). (s : ℕ) → holds p.probe s ≡ true → (n : ℤ × ℤ) × (degree_of s ≡ Some n) × (up_m n ≡ middle)) (step_one ∷ [])
+  steps = all_from (λ (p : StepPair). AllOfDegree example middle p.step) (step_one ∷ [])
+      (of_middle (0 ∷ []) (refl, tt), tt);
+  probe_degrees =
+      all_from (λ (p : StepPair). (s : ℕ) → holds p.probe s ≡ true
+      → (n : ℤ × ℤ) × (degree_of s ≡ Some n) × (up_m n ≡ middle)) (step_one ∷ [])
       ((λ s i. ((negsuc 1, negsuc 0), ap degree_of (eqb-true s 2 (sym (holds-single 2 s) ∙ i)), refl)), tt);
-  own = all_from (λ (p : StepPair). pairs_oddly (border example p.step) p.probe ≡ true) (step_one ∷ []) (ap (λ z. pairs_oddly z (single 2)) (border-single example 0) ∙ pairing (2 ∷ []) 2, tt);
+  own = all_from (λ (p : StepPair). pairs_oddly (border example p.step) p.probe ≡ true) (step_one ∷ [])
+      (ap (λ z. pairs_oddly z (single 2)) (border-single example 0) ∙ pairing (2 ∷ []) 2, tt);
   later = pairs_from (λ (p q : StepPair). pairs_oddly (border example q.step) p.probe ≡ false) (step_one ∷ []) (tt, tt);
 }
 
 -- the rank is the one that is known
 pub rank_is_two : IsRank example middle 2
-rank_is_two = rank_of_certificate example laws middle cells all (pair_one ∷ pair_two ∷ []) (step_one ∷ []) [] cycle_pairs step_pairs (no_steps example (up_m middle)) (ap length (codes-of_codes (0 ∷ 3 ∷ 4 ∷ []) rising))
+rank_is_two =
+    rank_of_certificate example laws middle cells all (pair_one ∷ pair_two ∷ [])
+    (step_one ∷ []) [] cycle_pairs step_pairs (no_steps example (up_m middle))
+    (ap length (codes-of_codes (0 ∷ 3 ∷ 4 ∷ []) rising))

@@ -37,17 +37,21 @@ module _ (m : ℕ) (o x z : ℕ → ℕ) (oo : IsOneToOne (suc m) o) (ox : IsOne
   by_rows : pairs n up_x up_x ≡ pairs n (λ r. column_of n x (one_down n r)) (λ r. column_of n x (one_down n r))
   by_rows =
       pairs-column_of n up_x up_x up_x_one up_x_one
-      ∙ pairs_same n (column_of n up_x) (λ r. column_of n x (one_down n r)) (column_of n up_x) (λ r. column_of n x (one_down n r)) (column_of-one_up n x ox) (column_of-one_up n x ox)
+      ∙ pairs_same n (column_of n up_x) (λ r. column_of n x (one_down n r)) (column_of n up_x)
+      (λ r. column_of n x (one_down n r)) (column_of-one_up n x ox) (column_of-one_up n x ox)
 
   -- the pairs of points
-  pairs_of_points : pairs n z z +ℤ (pos (z 0) +ℤ pos (z 0)) +ℤ (pos top +ℤ pos top) +ℤ pos 2 ≡ pairs n x x +ℤ (pos n +ℤ pos n)
+  pairs_of_points : pairs n z z +ℤ (pos (z 0) +ℤ pos (z 0)) +ℤ (pos top +ℤ pos top) +ℤ pos 2
+      ≡ pairs n x x +ℤ (pos n +ℤ pos n)
   pairs_of_points =
       let turned = pairs-one_up m z z oz oz in
       let same_pairs = pairs_same n (λ c. z (one_up n c)) up_x (λ c. z (one_up n c)) up_x says says in
       let p = λ (r : ℕ). column_of n x (one_down n r) in
       let op = composed_one n (column_of n x) (one_down n) (column_of-one_to_one n x ox) (one_down_one n) in
       let also_turned = pairs-one_up m (λ r. column_of n x (one_down n r)) (λ r. column_of n x (one_down n r)) op op in
-      let also_same_pairs = pairs_same n (λ r. column_of n x (one_down n (one_up n r))) (column_of n x) (λ r. column_of n x (one_down n (one_up n r))) (column_of n x)
+      let also_same_pairs =
+      pairs_same n (λ r. column_of n x (one_down n (one_up n r))) (column_of n x)
+      (λ r. column_of n x (one_down n (one_up n r))) (column_of n x)
       (λ c l. ap (column_of n x) (one_down-one_up n c l)) (λ c l. ap (column_of n x) (one_down-one_up n c l)) in
       let also_by_rows = pairs-column_of n x x ox ox in
       let again_by_rows = by_rows in
@@ -55,13 +59,19 @@ module _ (m : ℕ) (o x z : ℕ → ℕ) (oo : IsOneToOne (suc m) o) (ox : IsOne
       omega (arith, ints)
 
   at_right : (r : ℕ) → r ≤ n → lower_left n o n r ≡ pos r
-  at_right r h = sum_below_same n _ (λ d. one_if (ltb (o d) r)) (λ d l. ap (λ t. one_if (t && ltb (o d) r)) (lt-ltb d n l)) ∙ count_below-rows n o oo r h
+  at_right r h =
+      sum_below_same n _ (λ d. one_if (ltb (o d) r)) (λ d l. ap (λ t. one_if (t && ltb (o d) r)) (lt-ltb d n l))
+      ∙ count_below-rows n o oo r h
 
   at_top : (c : ℕ) → c ≤ n → lower_left n o c n ≡ pos c
-  at_top c h = sum_below_same n _ (λ d. one_if (ltb d c)) (λ d l. ap (λ t. one_if (ltb d c && t)) (lt-ltb (o d) n (oo.small d l)) ∙ ap one_if (and-true (ltb d c))) ∙ count_below-ltb n c h
+  at_top c h =
+      sum_below_same n _ (λ d. one_if (ltb d c))
+      (λ d l. ap (λ t. one_if (ltb d c && t)) (lt-ltb (o d) n (oo.small d l)) ∙ ap one_if (and-true (ltb d c)))
+      ∙ count_below-ltb n c h
 
   at_left : (r : ℕ) → lower_left n o 0 r ≡ pos 0
-  at_left r = sum_below_vanishes n _ (λ d l. let e : ltb d 0 ≡ false = grind arith in ap (λ t. one_if (t && ltb (o d) r)) e)
+  at_left r =
+      sum_below_vanishes n _ (λ d l. let e : ltb d 0 ≡ false = grind arith in ap (λ t. one_if (t && ltb (o d) r)) e)
 
   at_bottom : (c : ℕ) → lower_left n o c 0 ≡ pos 0
   at_bottom c = sum_below_vanishes n _ (λ d l. let e : (ltb d c && ltb (o d) 0) ≡ false = grind arith in ap one_if e)
@@ -75,12 +85,15 @@ module _ (m : ℕ) (o x z : ℕ → ℕ) (oo : IsOneToOne (suc m) o) (ox : IsOne
 
   all_placed : pairs n o z ≡ sum_below n placed
   unfolding placed
-  all_placed = sym (sum_below_reindex n (one_up n) (one_up_one n) (λ d. lower_left n o d (z d))) ∙ sum_below_same n _ placed (λ c l. ap (lower_left n o (one_up n c)) (says c l))
+  all_placed = sym (sum_below_reindex n (one_up n) (one_up_one n) (λ d. lower_left n o d (z d)))
+      ∙ sum_below_same n _ placed (λ c l. ap (lower_left n o (one_up n c)) (says c l))
 
   all_named : sum_below n named ≡ pos n +ℤ pairs n x o
   unfolding named
   all_named =
-      sum_below_same n named (λ c. count_below n (λ d. not (ltb c d) && not (ltb (x c) (o d)))) (λ c l. sum_below_same n _ (λ d. one_if (not (ltb c d) && not (ltb (x c) (o d)))) (λ d k. λ i. one_if (weak c d i && weak (x c) (o d) i)))
+      sum_below_same n named (λ c. count_below n (λ d. not (ltb c d) && not (ltb (x c) (o d))))
+      (λ c l. sum_below_same n _ (λ d. one_if (not (ltb c d) && not (ltb (x c) (o d))))
+      (λ d k. λ i. one_if (weak c d i && weak (x c) (o d) i)))
       ∙ weak_pairs-pairs n o x oo ox
     where
       weak : (a b : ℕ) → ltb b (a + 1) ≡ not (ltb a b)
@@ -97,7 +110,8 @@ module _ (m : ℕ) (o x z : ℕ → ℕ) (oo : IsOneToOne (suc m) o) (ox : IsOne
 
   named_last : named m ≡ pos (x m + 1)
   unfolding named
-  named_last = let e : m + 1 ≡ n = omega arith in let s = ox.small m (omega arith) in ap (λ t. lower_left n o t (x m + 1)) e ∙ at_right (x m + 1) (omega arith)
+  named_last = let e : m + 1 ≡ n = omega arith in let s = ox.small m (omega arith) in
+      ap (λ t. lower_left n o t (x m + 1)) e ∙ at_right (x m + 1) (omega arith)
 
   placed_last : placed m ≡ pos 0
   unfolding placed
@@ -112,13 +126,15 @@ module _ (m : ℕ) (o x z : ℕ → ℕ) (oo : IsOneToOne (suc m) o) (ox : IsOne
 
   placed_top : placed top ≡ pos 0
   unfolding placed
-  placed_top = ap (λ t. lower_left n o (one_up n top) (one_up n t)) (row-column_of n x ox m (omega arith)) ∙ ap (lower_left n o (one_up n top)) (one_up-last m) ∙ at_bottom (one_up n top)
+  placed_top = ap (λ t. lower_left n o (one_up n top) (one_up n t)) (row-column_of n x ox m (omega arith))
+      ∙ ap (lower_left n o (one_up n top)) (one_up-last m) ∙ at_bottom (one_up n top)
 
   z_first : z 0 ≡ one_up n (x m)
   z_first = ap z (sym (one_up-last m)) ∙ says m (omega arith)
 
   -- the degree, by pairs of marks
-  pub maslov_by_pairs-plus : maslov_by_pairs n o z ≡ (pairs n x x +ℤ pairs n o o +ℤ pos 1) -ℤ (pairs n x o +ℤ pairs n x o) -ℤ pos n
+  pub maslov_by_pairs-plus : maslov_by_pairs n o z
+      ≡ (pairs n x x +ℤ pairs n o o +ℤ pos 1) -ℤ (pairs n x o +ℤ pairs n x o) -ℤ pos n
   maslov_by_pairs-plus = elim (cases_eq top m) [
     | inl e ↦
         let of_points = pairs_of_points in
@@ -129,10 +145,12 @@ module _ (m : ℕ) (o x z : ℕ → ℕ) (oo : IsOneToOne (suc m) o) (ox : IsOne
         let balance = balanced_sum n named placed (at_only m named) (λ c l. elim (cases_eq c m) [
           | inl j ↦
               let a : placed c ≡ pos 0 = ap placed j ∙ placed_last in
-              let b : at_only m named c ≡ named c = ap (λ t. cond t (named c) (pos 0)) (eq-eqb c m j) in omega (arith, ints)
+              let b : at_only m named c ≡ named c = ap (λ t. cond t (named c) (pos 0)) (eq-eqb c m j) in
+              omega (arith, ints)
           | inr q ↦
               let a = agree c l q (λ k. q (k ∙ e)) in
-              let b : at_only m named c ≡ pos 0 = ap (λ t. cond t (named c) (pos 0)) (ne_eqb c m q) in omega (arith, ints)
+              let b : at_only m named c ≡ pos 0 = ap (λ t. cond t (named c) (pos 0)) (ne_eqb c m q) in
+              omega (arith, ints)
         ]) in
         let single = sum_below-at_only n m named (omega arith) in
         let last_named = named_last in
@@ -153,7 +171,8 @@ module _ (m : ℕ) (o x z : ℕ → ℕ) (oo : IsOneToOne (suc m) o) (ox : IsOne
   ]
 
 -- the same for any size
-pub maslov_by_pairs-plus_state : (n : ℕ) (o x z : ℕ → ℕ) → IsOneToOne n o → IsOneToOne n x → IsOneToOne n z → ((c : ℕ) → c < n → z (one_up n c) ≡ one_up n (x c))
+pub maslov_by_pairs-plus_state : (n : ℕ) (o x z : ℕ → ℕ) → IsOneToOne n o → IsOneToOne n x → IsOneToOne n z
+    → ((c : ℕ) → c < n → z (one_up n c) ≡ one_up n (x c))
     → maslov_by_pairs n o z ≡ (pairs n x x +ℤ pairs n o o +ℤ pos 1) -ℤ (pairs n x o +ℤ pairs n x o) -ℤ pos n
 maslov_by_pairs-plus_state zero o x z oo ox oz says = refl
 maslov_by_pairs-plus_state (suc m) o x z oo ox oz says = maslov_by_pairs-plus m o x z oo ox oz says

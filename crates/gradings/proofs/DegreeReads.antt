@@ -23,13 +23,17 @@ abbrev pub IsWithin : ℕ → ℤ → Type 0
 IsWithin bound z = (neg_ℤ (pos bound) ≤ℤ z) × (z ≤ℤ pos bound)
 
 -- what was found, from what the calls ensure
-pub are_degrees : (g : Marks) (x o y z : List ℕ) (by_o by_x : ℤ) (bound l : ℕ) → IsGrid g → IsState x → length x ≡ size g → o ≡ g.o → y ≡ g.x → z ≡ x
-    → by_o ≡ maslov (length o) o z → by_x ≡ maslov (length y) y z → bound ≤ 400 → IsWithin bound by_o → IsWithin bound by_x → l ≡ components g → l < 256 → size g < 256
+pub are_degrees : (g : Marks) (x o y z : List ℕ) (by_o by_x : ℤ) (bound l : ℕ) → IsGrid g → IsState x
+    → length x ≡ size g → o ≡ g.o → y ≡ g.x → z ≡ x
+    → by_o ≡ maslov (length o) o z → by_x ≡ maslov (length y) y z → bound ≤ 400 → IsWithin bound by_o
+    → IsWithin bound by_x → l ≡ components g → l < 256 → size g < 256
     → AreDegrees g x by_o by_x
-are_degrees g x o y z by_o by_x bound l grid state one_size at_o at_x at_points o_is x_is low_bound within_o within_x at_l few_components few_columns =
+are_degrees g x o y z by_o by_x bound l grid state one_size at_o at_x at_points o_is x_is low_bound within_o within_x
+    at_l few_components few_columns =
     let bijection : IsBijection (size g) x = subst (λ n. IsBijection n x) one_size state.bijection in
     let o_degree : by_o ≡ maslov_o g x = o_is ∙ (λ i. maslov (length (at_o i)) (at_o i) (at_points i)) in
-    let x_degree : by_x ≡ maslov_x g x = x_is ∙ (λ i. maslov (length (at_x i)) (at_x i) (at_points i)) ∙ ap (λ n. maslov n g.x x) grid.x.long in
+    let x_degree : by_x ≡ maslov_x g x =
+    x_is ∙ (λ i. maslov (length (at_x i)) (at_x i) (at_points i)) ∙ ap (λ n. maslov n g.x x) grid.x.long in
     let whole = two-alexander g grid x bijection in
     let low_o = within_o.0 in
     let high_o = within_o.1 in

@@ -24,13 +24,19 @@ module _ (g : Marks) (grid : IsGrid g) where
     -- M_O - M_X - (n - l) is twice a whole number
     pub doubled_alexander_even : (half : ℤ) × (doubled_alexander g x ≡ half +ℤ half)
     doubled_alexander_even =
-        let parity = pairs_parity (size g) (slice_index g.o) (size g) 0 (omega arith) (column_after g) (slice_index g.x) (column_after_one g grid) x_one
-        (λ c l. sym (row-column_of (size g) (slice_index g.o) o_one (slice_index g.x c) (grid.x.small c l))) (is_first g) (is_first_picks g grid) (λ c l. absurd (omega arith)) in
+        let parity =
+        pairs_parity (size g) (slice_index g.o) (size g) 0 (omega arith) (column_after g) (slice_index g.x)
+        (column_after_one g grid) x_one
+        (λ c l. sym (row-column_of (size g) (slice_index g.o) o_one (slice_index g.x c) (grid.x.small c l)))
+        (is_first g) (is_first_picks g grid) (λ c l. absurd (omega arith)) in
         let even = parity.1 in
         let by_o = maslov-by_pairs (size g) g.o x grid.o state in
         let by_x = maslov-by_pairs (size g) g.x x grid.x state in
-        let cycles = components-count g in
-        (pos 0 -ℤ parity.0 -ℤ pairs (size g) (slice_index g.o) (slice_index x) +ℤ pairs (size g) (slice_index g.x) (slice_index x), omega (arith, ints))
+        let cycles = components-count g in (
+          pos 0 -ℤ parity.0 -ℤ pairs (size g) (slice_index g.o) (slice_index x)
+              +ℤ pairs (size g) (slice_index g.x) (slice_index x),
+          omega (arith, ints),
+        )
 
     -- the Alexander degree is whole
     pub two-alexander : pos 2 *ℤ alexander g x ≡ doubled_alexander g x

@@ -21,10 +21,12 @@ abbrev pub with_exchange : (ℕ → ℕ) → ℕ → ℕ → ℕ → ℕ
 with_exchange f a b c = f (exchanged a b c)
 
 -- it is a bijection
-pub with_exchange_one : (n : ℕ) (f : ℕ → ℕ) (a b : ℕ) → IsOneToOne n f → a < n → b < n → IsOneToOne n (with_exchange f a b)
+pub with_exchange_one : (n : ℕ) (f : ℕ → ℕ) (a b : ℕ) → IsOneToOne n f → a < n → b < n
+    → IsOneToOne n (with_exchange f a b)
 with_exchange_one n f a b one la lb = record {
   small = λ c l. one.small (exchanged a b c) (exchanged_below n a b c la lb l);
-  apart = λ c d lc ld p. one.apart (exchanged a b c) (exchanged a b d) (exchanged_below n a b c la lb lc) (exchanged_below n a b d la lb ld)
+  apart = λ c d lc ld p. one.apart (exchanged a b c) (exchanged a b d) (exchanged_below n a b c la lb lc)
+      (exchanged_below n a b d la lb ld)
       (λ e. p (sym (exchanged_back a b c) ∙ ap (exchanged a b) e ∙ exchanged_back a b d));
 }
 
@@ -48,7 +50,8 @@ exchange_parity n f a b one la lb p =
     (points_within n f a b (f a) (f b) -ℤ seam_term n a b (f a) (f b), omega (arith, ints))
 
 -- ---- c is taken out of its cycle, and is a cycle of its own; b is the number before it
-module _ (n : ℕ) (s : ℕ → ℕ) (one : IsOneToOne n s) (pick : ℕ → Bool) (picks : PicksOne n s pick) (b c : ℕ) (lb : b < n) (lc : c < n) (to_c : s b ≡ c) (off : b ≢ c) (new : pick c ≡ false) where
+module _ (n : ℕ) (s : ℕ → ℕ) (one : IsOneToOne n s) (pick : ℕ → Bool) (picks : PicksOne n s pick) (b c : ℕ) (lb : b < n)
+    (lc : c < n) (to_c : s b ≡ c) (off : b ≢ c) (new : pick c ≡ false) where
   abbrev t : ℕ → ℕ
   t = with_exchange s b c
 
@@ -85,7 +88,8 @@ module _ (n : ℕ) (s : ℕ → ℕ) (one : IsOneToOne n s) (pick : ℕ → Bool
       ]
 
   -- the old walk is the new one but for c
-  new_walk : (d k : ℕ) → d < n → d ≢ c → ((after s k d ≡ c) × Meets t d b) ⊎ ((after s k d ≢ c) × Meets t d (after s k d))
+  new_walk : (d k : ℕ) → d < n → d ≢ c
+      → ((after s k d ≡ c) × Meets t d b) ⊎ ((after s k d ≢ c) × Meets t d (after s k d))
   new_walk d zero l q = inr (q, (0, refl))
   new_walk d (suc k) l q = elim (new_walk d k l q) [
     | inl h ↦
@@ -96,7 +100,11 @@ module _ (n : ℕ) (s : ℕ → ℕ) (one : IsOneToOne n s) (pick : ℕ → Bool
         let m = h.1 in
         elim (cases_eq (after s k d) b) [
           | inl e ↦ inl (ap s e ∙ to_c, (m.0, m.1 ∙ e))
-          | inr r ↦ inr ((λ j. one.apart (after s k d) b (after_below n s one k d l) lb r (j ∙ sym to_c)), (suc m.0, ap t m.1 ∙ t_other (after s k d) r h.0))
+          | inr r ↦
+              inr (
+                (λ j. one.apart (after s k d) b (after_below n s one k d l) lb r (j ∙ sym to_c)),
+                (suc m.0, ap t m.1 ∙ t_other (after s k d) r h.0),
+              )
         ]
   ]
 
@@ -111,15 +119,19 @@ module _ (n : ℕ) (s : ℕ → ℕ) (one : IsOneToOne n s) (pick : ℕ → Bool
   -- they are one of each cycle of the new walk
   pub picks_more : PicksOne n (with_exchange s b c) pick_more
   picks_more = record {
-    apart = λ d e ld le fd fe p m. parted d e ld le (or_cases (eqb d c) (pick d) fd) (or_cases (eqb e c) (pick e) fe) p m;
+    apart = λ d e ld le fd fe p m. parted d e ld le (or_cases (eqb d c) (pick d) fd)
+        (or_cases (eqb e c) (pick e) fe) p m;
     met = λ d l. reached d l (cases_eq d c);
   }
     where
-      parted : (d e : ℕ) → d < n → e < n → (eqb d c ≡ true) ⊎ (pick d ≡ true) → (eqb e c ≡ true) ⊎ (pick e ≡ true) → d ≢ e → Meets t d e → ⊥
+      parted : (d e : ℕ) → d < n → e < n → (eqb d c ≡ true) ⊎ (pick d ≡ true) → (eqb e c ≡ true) ⊎ (pick e ≡ true)
+          → d ≢ e → Meets t d e → ⊥
       parted d e ld le (inl i) (inl j) p m = p (eqb-true d c i ∙ sym (eqb-true e c j))
-      parted d e ld le (inl i) (inr j) p m = p (eqb-true d c i ∙ sym (stays m.0) ∙ ap (after t m.0) (sym (eqb-true d c i)) ∙ m.1)
+      parted d e ld le (inl i) (inr j) p m =
+          p (eqb-true d c i ∙ sym (stays m.0) ∙ ap (after t m.0) (sym (eqb-true d c i)) ∙ m.1)
       parted d e ld le (inr i) (inl j) p m = (old_walk d m.0 ld (not_c d i)).1 (m.1 ∙ eqb-true e c j)
-      parted d e ld le (inr i) (inr j) p m = let w = (old_walk d m.0 ld (not_c d i)).0 in picks.apart d e ld le i j p (w.0, w.1 ∙ m.1)
+      parted d e ld le (inr i) (inr j) p m = let w = (old_walk d m.0 ld (not_c d i)).0 in
+          picks.apart d e ld le i j p (w.0, w.1 ∙ m.1)
 
       reached : (d : ℕ) → d < n → (d ≡ c) ⊎ (d ≢ c) → (e : ℕ) × (e < n) × (pick_more e ≡ true) × Meets t e d
       reached d l (inl i) = (c, lc, or_left (eqb c c) (pick c) (eq-eqb c c refl), (0, sym i))
@@ -134,20 +146,23 @@ module _ (n : ℕ) (s : ℕ → ℕ) (one : IsOneToOne n s) (pick : ℕ → Bool
   -- one more is picked
   pub count_below-pick_more : count_below n pick_more ≡ count_below n pick +ℤ pos 1
   count_below-pick_more =
-      balanced_sum n (λ d. one_if (pick_more d)) (λ d. one_if (pick d)) (at_only c (λ d. pos 1)) (λ d l. each d (cases_eq d c))
+      balanced_sum n (λ d. one_if (pick_more d)) (λ d. one_if (pick d)) (at_only c (λ d. pos 1))
+      (λ d l. each d (cases_eq d c))
       ∙ ap (λ z. count_below n pick +ℤ z) (sum_below-at_only n c (λ d. pos 1) lc)
     where
       each : (d : ℕ) → (d ≡ c) ⊎ (d ≢ c) → one_if (pick_more d) ≡ one_if (pick d) +ℤ at_only c (λ d. pos 1) d
       each d (inl e) =
           ap (λ u. one_if (u || pick d)) (eq-eqb d c e)
           ∙ sym (λ i. one_if ((ap pick e ∙ new) i) +ℤ cond (eq-eqb d c e i) (pos 1) (pos 0))
-      each d (inr p) = ap (λ u. one_if (u || pick d)) (ne_eqb d c p) ∙ add_none (one_if (pick d)) ∙ sym (ap (λ u. one_if (pick d) +ℤ cond u (pos 1) (pos 0)) (ne_eqb d c p))
+      each d (inr p) = ap (λ u. one_if (u || pick d)) (ne_eqb d c p) ∙ add_none (one_if (pick d))
+          ∙ sym (ap (λ u. one_if (pick d) +ℤ cond u (pos 1) (pos 0)) (ne_eqb d c p))
         where
           add_none : (z : ℤ) → z ≡ z +ℤ pos 0
           add_none z = omega (arith, ints)
 
 -- where a number that is not picked comes from
-before : (n : ℕ) (s : ℕ → ℕ) → IsOneToOne n s → (d c : ℕ) → d < n → d ≢ c → (k : ℕ) → after s k d ≡ c → (b : ℕ) × (b < n) × (s b ≡ c) × (b ≢ c)
+before : (n : ℕ) (s : ℕ → ℕ) → IsOneToOne n s → (d c : ℕ) → d < n → d ≢ c → (k : ℕ) → after s k d ≡ c
+    → (b : ℕ) × (b < n) × (s b ≡ c) × (b ≢ c)
 before n s one d c l p zero e = absurd (p e)
 before n s one d c l p (suc k) e = elim (cases_eq (after s k d) c) [
   | inl i ↦ before n s one d c l p k i
@@ -160,11 +175,14 @@ IsEven z = (k : ℤ) × (z ≡ k +ℤ k)
 
 module _ (n : ℕ) (O : ℕ → ℕ) where
   -- m numbers from i on are left to pick
-  pub pairs_parity : (m i : ℕ) → i + m ≡ n → (s f : ℕ → ℕ) → IsOneToOne n s → IsOneToOne n f → ((c : ℕ) → c < n → f c ≡ O (s c))
+  pub pairs_parity : (m i : ℕ) → i + m ≡ n → (s f : ℕ → ℕ) → IsOneToOne n s → IsOneToOne n f
+      → ((c : ℕ) → c < n → f c ≡ O (s c))
       → (pick : ℕ → Bool) → PicksOne n s pick → ((c : ℕ) → c < i → pick c ≡ true)
       → IsEven (pairs n f f -ℤ pairs n O O +ℤ (pos n -ℤ count_below n pick))
   pairs_parity zero i h s f os of says pick picks have =
-      let all : count_below n pick ≡ pos n = sum_below_same n (λ c. one_if (pick c)) (λ c. pos 1) (λ c l. ap one_if (have c (omega arith))) ∙ count_below-all n in
+      let all : count_below n pick ≡ pos n =
+      sum_below_same n (λ c. one_if (pick c)) (λ c. pos 1) (λ c l. ap one_if (have c (omega arith)))
+      ∙ count_below-all n in
       let fixed : (c : ℕ) → c < n → f c ≡ O c = λ c l. says c l ∙ ap O (at_rest c l) in
       let same_pairs : pairs n f f ≡ pairs n O O = pairs_same n f O f O fixed fixed in
       (pos 0, omega (arith, ints))
@@ -172,7 +190,10 @@ module _ (n : ℕ) (O : ℕ → ℕ) where
       at_rest : (c : ℕ) → c < n → s c ≡ c
       at_rest c l = elim (cases_eq (s c) c) [
         | inl e ↦ e
-        | inr p ↦ absurd (let small = os.small c l in picks.apart c (s c) l small (have c (omega arith)) (have (s c) (omega arith)) (λ v. p (sym v)) (1, refl))
+        | inr p ↦
+            absurd (let small = os.small c l in
+            picks.apart c (s c) l small (have c (omega arith)) (have (s c) (omega arith)) (λ v. p (sym v))
+            (1, refl))
       ]
   pairs_parity (suc m) i h s f os of says pick picks have = elim (cases_Bool (pick i)) [
     | inl k ↦ pairs_parity m (i + 1) (omega arith) s f os of says pick picks (λ c l. elim (cases_eq c i) [
@@ -189,8 +210,11 @@ module _ (n : ℕ) (O : ℕ → ℕ) where
         let next = picks_more n s os pick picks b i prior.1 li prior.2 prior.3 new in
         let one_more = count_below-pick_more n s os pick picks b i prior.1 li prior.2 prior.3 new in
         let turned = exchange_parity n f b i of prior.1 li prior.3 in
-        let rest = pairs_parity m (i + 1) (omega arith) (with_exchange s b i) (with_exchange f b i) (with_exchange_one n s b i os prior.1 li) (with_exchange_one n f b i of prior.1 li)
-        (λ c l. says (exchanged b i c) (exchanged_below n b i c prior.1 li l)) (λ d. eqb d i || pick d) next (λ c l. elim (cases_eq c i) [
+        let rest =
+        pairs_parity m (i + 1) (omega arith) (with_exchange s b i) (with_exchange f b i)
+        (with_exchange_one n s b i os prior.1 li) (with_exchange_one n f b i of prior.1 li)
+        (λ c l. says (exchanged b i c) (exchanged_below n b i c prior.1 li l)) (λ d. eqb d i || pick d) next
+        (λ c l. elim (cases_eq c i) [
           | inl e ↦ or_left (eqb c i) (pick c) (eq-eqb c i e)
           | inr q ↦ or_right (eqb c i) (pick c) (have c (omega arith))
         ]) in

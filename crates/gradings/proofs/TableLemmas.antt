@@ -32,13 +32,15 @@ pub record IsFilled {A : Type 0} (long : ℕ) (xs : List A) (i : ℕ) (d : A) (P
   pub each : (k : ℕ) → k < i → P k (slice_index_or xs k d)
 
 -- one more entry is written
-pub IsFilled-more : {A : Type 0} (long : ℕ) (xs : List A) (i : ℕ) (d : A) (P : ℕ → A → Type 0) (v : A) → i < long → IsFilled long xs i d P → P i v → IsFilled long (set xs i v) (i + 1) d P
+pub IsFilled-more : {A : Type 0} (long : ℕ) (xs : List A) (i : ℕ) (d : A) (P : ℕ → A → Type 0) (v : A) → i < long
+    → IsFilled long xs i d P → P i v → IsFilled long (set xs i v) (i + 1) d P
 IsFilled-more long xs i d P v inside filled new =
     let whole = filled.whole in
     record {
       whole = length-set xs i v ∙ whole;
       each = below_more _ _
-          (λ k l. let apart : k ≢ i = omega arith in subst (P k) (sym (get_or-set_other xs i k v d apart)) (filled.each k l))
+          (λ k l. let apart : k ≢ i = omega arith in
+          subst (P k) (sym (get_or-set_other xs i k v d apart)) (filled.each k l))
           (subst (P i) (sym (get_or-set_same xs i v d (omega arith))) new);
     }
 
@@ -51,13 +53,16 @@ pub record IsPairCount (rows : List ℕ) (d : ℕ) (count : ℤ) : Type 0 where
   pub high : count ≤ℤ pos (MAX_SIZE * d)
 
 -- the pairs of one column more
-pub IsPairCount-more : (rows : List ℕ) (d row : ℕ) (count term next : ℤ) → d < length rows → row ≡ slice_index rows d → IsPairCount rows d count
-    → term ≡ count_below (length (take d rows)) (λ c. ltb (slice_index (take d rows) c) row) → pos 0 ≤ℤ term → term ≤ℤ pos MAX_SIZE → next ≡ count +ℤ term → IsPairCount rows (d + 1) next
+pub IsPairCount-more : (rows : List ℕ) (d row : ℕ) (count term next : ℤ) → d < length rows → row ≡ slice_index rows d
+    → IsPairCount rows d count
+    → term ≡ count_below (length (take d rows)) (λ c. ltb (slice_index (take d rows) c) row) → pos 0 ≤ℤ term
+    → term ≤ℤ pos MAX_SIZE → next ≡ count +ℤ term → IsPairCount rows (d + 1) next
 IsPairCount-more rows d row count term next inside at h e low high is =
     let value = h.value in
     let old_low = h.low in
     let old_high = h.high in
-    let found : term ≡ left_below (length rows) rows d (slice_index rows d) = e ∙ count_below-take rows d row (omega arith) ∙ ap (left_below (length rows) rows d) at in
+    let found : term ≡ left_below (length rows) rows d (slice_index rows d) =
+    e ∙ count_below-take rows d row (omega arith) ∙ ap (left_below (length rows) rows d) at in
     record {
       value = rw add-one (omega (arith, ints));
       low = omega (arith, ints);
@@ -70,7 +75,8 @@ pub record IsEntrySum (table : List (List ℕ)) (rows : List ℕ) (c sum : ℕ) 
   pub high : sum ≤ 256 * c
 
 -- the entry of one column more
-pub IsEntrySum-more : (table : List (List ℕ)) (rows : List ℕ) (c sum term : ℕ) → IsEntrySum table rows c sum → term ≡ entry table c (slice_index rows c) → term < 256 → IsEntrySum table rows (c + 1) (sum + term)
+pub IsEntrySum-more : (table : List (List ℕ)) (rows : List ℕ) (c sum term : ℕ) → IsEntrySum table rows c sum
+    → term ≡ entry table c (slice_index rows c) → term < 256 → IsEntrySum table rows (c + 1) (sum + term)
 IsEntrySum-more table rows c sum term h e small =
     let value = h.value in
     let high = h.high in
@@ -85,7 +91,8 @@ IsEntrySum-more table rows c sum term h e small =
 abbrev pub IsUpTo : ℕ → ℤ → Type 0
 IsUpTo bound z = (pos 0 ≤ℤ z) × (z ≤ℤ pos bound)
 
-sum_below_up_to : (n bound : ℕ) (f : ℕ → ℤ) → ((t : ℕ) → t < n → IsUpTo bound (f t)) → IsUpTo (bound * n) (sum_below n f)
+sum_below_up_to : (n bound : ℕ) (f : ℕ → ℤ) → ((t : ℕ) → t < n → IsUpTo bound (f t))
+    → IsUpTo (bound * n) (sum_below n f)
 sum_below_up_to zero bound f h = (omega (arith, ints), omega (arith, ints))
 sum_below_up_to (suc n) bound f h =
     let rest = sum_below_up_to n bound f (λ t l. h t (omega arith)) in
@@ -134,13 +141,17 @@ module _ (g : Marks) (grid : IsGrid g) where
       omega (arith, ints)
 
   -- what the marks give to the Alexander degree is even
-  pub marks_even : (half : ℤ) × (pairs_of (size g) g.o -ℤ pairs_of (size g) g.x -ℤ (pos (size g) -ℤ pos (components g)) ≡ half +ℤ half)
+  pub marks_even : (half : ℤ)
+      × (pairs_of (size g) g.o -ℤ pairs_of (size g) g.x -ℤ (pos (size g) -ℤ pos (components g)) ≡ half +ℤ half)
   marks_even =
       let even = doubled_alexander_even g grid g.o grid.o in
       let sum = even.1 in
       let by_o = maslov-by_pairs (size g) g.o g.o grid.o grid.o in
-      let by_x = maslov-by_pairs (size g) g.x g.o grid.x grid.o in
-      (even.0 -ℤ pairs (size g) (slice_index g.x) (slice_index g.o) +ℤ pairs (size g) (slice_index g.o) (slice_index g.o), omega (arith, ints))
+      let by_x = maslov-by_pairs (size g) g.x g.o grid.x grid.o in (
+        even.0 -ℤ pairs (size g) (slice_index g.x) (slice_index g.o)
+            +ℤ pairs (size g) (slice_index g.o) (slice_index g.o),
+        omega (arith, ints),
+      )
 
   -- so is the number that is kept of it
   pub half_of_marks-is : half_of_marks g ≡ marks_even.0
@@ -210,22 +221,28 @@ module _ (t : Inside) (tables : IsTables t) (x : List ℕ) (state : IsBijection 
   n = size t.grid
 
   -- the Maslov degree by its table
-  pub maslov-by_table : pos sum ≡ sum_below n (λ c. pos (entry t.o_below c (slice_index x c))) → t.maslov_of_marks +ℤ pairs_of n x -ℤ pos 2 *ℤ pos sum ≡ maslov_o t.grid x
+  pub maslov-by_table : pos sum ≡ sum_below n (λ c. pos (entry t.o_below c (slice_index x c)))
+      → t.maslov_of_marks +ℤ pairs_of n x -ℤ pos 2 *ℤ pos sum ≡ maslov_o t.grid x
   maslov-by_table is =
       let fits = tables.grid.is_size.greatest in
       let law = maslov-by_points n t.grid.o x tables.grid.o state in
       let constant = tables.maslov_of_marks in
-      let entries = sum_below_same n (λ c. pos (entry t.o_below c (slice_index x c))) (λ c. lower_left n (slice_index t.grid.o) c (slice_index x c))
+      let entries =
+      sum_below_same n (λ c. pos (entry t.o_below c (slice_index x c)))
+      (λ c. lower_left n (slice_index t.grid.o) c (slice_index x c))
       (λ c l. let inside = state.small c l in tables.o_below c (slice_index x c) l (omega arith)) in
       omega (arith, ints)
 
   -- the Alexander degree by its table
-  pub alexander-by_table : pos sum ≡ sum_below n (λ c. pos (entry t.weights c (slice_index x c))) → t.alexander_of_marks +ℤ pos sum ≡ alexander t.grid x
+  pub alexander-by_table : pos sum ≡ sum_below n (λ c. pos (entry t.weights c (slice_index x c)))
+      → t.alexander_of_marks +ℤ pos sum ≡ alexander t.grid x
   alexander-by_table is =
       let fits = tables.grid.is_size.greatest in
       let law = alexander-linear t.grid tables.grid x state in
       let constant = tables.alexander_of_marks in
-      let entries = balanced_sum n (λ c. pos (entry t.weights c (slice_index x c))) (λ c. pos MAX_SIZE) (λ c. alexander_weight t.grid c (slice_index x c))
+      let entries =
+      balanced_sum n (λ c. pos (entry t.weights c (slice_index x c))) (λ c. pos MAX_SIZE)
+      (λ c. alexander_weight t.grid c (slice_index x c))
       (λ c l. let inside = state.small c l in tables.weights c (slice_index x c) l (omega arith)) in
       let sizes = sum_below-sizes n in
       omega (arith, ints)
@@ -237,28 +254,34 @@ pub record IsFound (degree found : ℤ) : Type 0 where
   pub value : found ≡ degree
   pub small : IsSmallDegree degree
 
-module _ (t : Inside) (tables : IsTables t) (g : Marks) (view : t.grid ≡ g) (x rows : List ℕ) (state : IsState x) (one_size : length x ≡ size g) (points : rows ≡ x) (sum : ℕ) where
+module _ (t : Inside) (tables : IsTables t) (g : Marks) (view : t.grid ≡ g) (x rows : List ℕ) (state : IsState x)
+    (one_size : length x ≡ size g) (points : rows ≡ x) (sum : ℕ) where
   abbrev bijection : IsBijection (size t.grid) x
   bijection = subst (λ n. IsBijection n x) (one_size ∙ ap size (sym view)) state.bijection
 
-  abbrev sums : (table : List (List ℕ)) → sum_below (length rows) (λ c. pos (entry table c (slice_index rows c))) ≡ sum_below (size t.grid) (λ c. pos (entry table c (slice_index x c)))
+  abbrev sums : (table : List (List ℕ))
+      → sum_below (length rows) (λ c. pos (entry table c (slice_index rows c)))
+      ≡ sum_below (size t.grid) (λ c. pos (entry table c (slice_index x c)))
   sums table =
       ap (λ xs. sum_below (length xs) (λ c. pos (entry table c (slice_index xs c)))) points
       ∙ ap (λ n. sum_below n (λ c. pos (entry table c (slice_index x c)))) (one_size ∙ ap size (sym view))
 
   -- the Maslov degree is found
-  pub maslov_found : pos sum ≡ sum_below (length rows) (λ c. pos (entry t.o_below c (slice_index rows c))) → (count : ℤ) → count ≡ pairs_of (length rows) rows
+  pub maslov_found : pos sum ≡ sum_below (length rows) (λ c. pos (entry t.o_below c (slice_index rows c))) → (count : ℤ)
+      → count ≡ pairs_of (length rows) rows
       → IsFound (maslov_o g x) (t.maslov_of_marks +ℤ count -ℤ pos 2 *ℤ pos sum)
   maslov_found is count counted = record {
     value =
-        ap (λ z. t.maslov_of_marks +ℤ z -ℤ pos 2 *ℤ pos sum) (counted ∙ ap (λ xs. pairs_of (length xs) xs) points ∙ ap (λ n. pairs_of n x) (one_size ∙ ap size (sym view)))
+        ap (λ z. t.maslov_of_marks +ℤ z -ℤ pos 2 *ℤ pos sum)
+        (counted ∙ ap (λ xs. pairs_of (length xs) xs) points ∙ ap (λ n. pairs_of n x) (one_size ∙ ap size (sym view)))
         ∙ maslov-by_table t tables x bijection sum (is ∙ sums t.o_below)
         ∙ ap (λ h. maslov_o h x) view;
     small = subst (λ h. IsSmallDegree (maslov_o h x)) view (maslov_small t.grid tables.grid x bijection);
   }
 
   -- the Alexander degree is found
-  pub alexander_found : pos sum ≡ sum_below (length rows) (λ c. pos (entry t.weights c (slice_index rows c))) → IsFound (alexander g x) (t.alexander_of_marks +ℤ pos sum)
+  pub alexander_found : pos sum ≡ sum_below (length rows) (λ c. pos (entry t.weights c (slice_index rows c)))
+      → IsFound (alexander g x) (t.alexander_of_marks +ℤ pos sum)
   alexander_found is = record {
     value = alexander-by_table t tables x bijection sum (is ∙ sums t.weights) ∙ ap (λ h. alexander h x) view;
     small = subst (λ h. IsSmallDegree (alexander h x)) view (alexander_small t.grid tables.grid x bijection);

@@ -44,7 +44,8 @@ module _ (p r : ℕ → ℕ) (there : (c : ℕ) → p (r c) ≡ c) (back : (c : 
 
   -- the weight of a test
   pub weight-renamed : (f : ℕ → Bool) (z : Chain) → weight f (of_codes (map p (codes z))) ≡ weight (λ c. f (p c)) z
-  weight-renamed f z = ap (weight f) (renamed-sum z) ∙ weight-sum_over f z (λ c. single (p c)) ∙ weight-same _ _ z (λ c _. weight-single f (p c))
+  weight-renamed f z = ap (weight f) (renamed-sum z) ∙ weight-sum_over f z (λ c. single (p c))
+      ∙ weight-same _ _ z (λ c _. weight-single f (p c))
 
 -- ---- maps of states
 -- b undoes f, and f undoes b, on the states of size n
@@ -82,7 +83,8 @@ moved-undone n f b is c = elim (cases_lt c (factorial n)) [
   | inl l ↦
       let x = unrank n c in
       let sx = IsBijection-unrank n c l in
-      ap (moved n b) (moved-below n f c l) ∙ moved-rank n b (f x) (is.kept x sx) ∙ ap rank (is.undone x sx) ∙ rank-unrank n c l
+      ap (moved n b) (moved-below n f c l) ∙ moved-rank n b (f x) (is.kept x sx) ∙ ap rank (is.undone x sx)
+      ∙ rank-unrank n c l
   | inr l ↦ ap (moved n b) (moved-past n f c l) ∙ moved-past n b c l
 ]
 
@@ -99,8 +101,10 @@ module _ (n : ℕ) (f b : List ℕ → List ℕ) (is : AreInverse n f b) where
   holds-carried z c = holds-renamed (moved n f) (moved n b) redone undone z c
 
   -- it holds f x where the chain holds x
-  pub holds-carried_state : (z : Chain) (x : List ℕ) → IsBijection n x → holds (carried n f z) (rank (f x)) ≡ holds z (rank x)
-  holds-carried_state z x sx = holds-carried z (rank (f x)) ∙ ap (holds z) (moved-rank n b (f x) (is.kept x sx) ∙ ap rank (is.undone x sx))
+  pub holds-carried_state : (z : Chain) (x : List ℕ) → IsBijection n x
+      → holds (carried n f z) (rank (f x)) ≡ holds z (rank x)
+  holds-carried_state z x sx =
+      holds-carried z (rank (f x)) ∙ ap (holds z) (moved-rank n b (f x) (is.kept x sx) ∙ ap rank (is.undone x sx))
 
   -- the weight of a test
   pub weight-carried : (p : ℕ → Bool) (z : Chain) → weight p (carried n f z) ≡ weight (λ c. p (moved n f c)) z
@@ -119,7 +123,8 @@ module _ (n : ℕ) (f b : List ℕ → List ℕ) (is : AreInverse n f b) where
 -- carried there and back
 pub carried-carried : (n : ℕ) (f b : List ℕ → List ℕ) → AreInverse n f b → (z : Chain) → carried n b (carried n f z) ≡ z
 carried-carried n f b is z = same_chain _ _ (λ q.
-    holds-carried n b f (AreInverse-back n f b is) (carried n f z) q ∙ holds-carried n f b is z (moved n f q) ∙ ap (holds z) (moved-undone n f b is q))
+    holds-carried n b f (AreInverse-back n f b is) (carried n f z) q ∙ holds-carried n f b is z (moved n f q)
+    ∙ ap (holds z) (moved-undone n f b is q))
 
 -- ---- sums over the states of a chain
 -- F gives a chain of states of size n of each state, and none of the empty list
@@ -127,9 +132,12 @@ pub record IsOfStates (n : ℕ) (F : List ℕ → Chain) : Type 0 where
   pub of_nil : F [] ≡ nothing
   pub below : (x : List ℕ) (c : ℕ) → IsBijection n x → holds (F x) c ≡ true → c < factorial n
 
-module _ (n : ℕ) (f b : List ℕ → List ℕ) (is : AreInverse n f b) (F G : List ℕ → Chain) (sF : IsOfStates n F) (sG : IsOfStates n G)
-    (steps : (x y : List ℕ) → IsBijection n x → IsBijection n y → holds (G (f x)) (rank (f y)) ≡ holds (F x) (rank y)) where
-  past : (H : List ℕ → Chain) → IsOfStates n H → (x : List ℕ) → IsBijection n x → (t : ℕ) → factorial n ≤ t → holds (H x) t ≡ false
+module _ (n : ℕ) (f b : List ℕ → List ℕ) (is : AreInverse n f b) (F G : List ℕ → Chain) (sF : IsOfStates n F)
+    (sG : IsOfStates n G)
+    (steps : (x y : List ℕ) → IsBijection n x → IsBijection n y
+    → holds (G (f x)) (rank (f y)) ≡ holds (F x) (rank y)) where
+  past : (H : List ℕ → Chain) → IsOfStates n H → (x : List ℕ) → IsBijection n x → (t : ℕ) → factorial n ≤ t
+      → holds (H x) t ≡ false
   past H sH x sx t l = false_from_ne_true _ (λ h. let k = sH.below x t sx h in absurd (omega arith))
 
   nil : (H : List ℕ → Chain) → IsOfStates n H → (k : ℕ) → factorial n ≤ k → (t : ℕ) → holds (H (unrank n k)) t ≡ false
@@ -144,18 +152,26 @@ module _ (n : ℕ) (f b : List ℕ → List ℕ) (is : AreInverse n f b) (F G : 
         ap (λ m. holds (G (unrank n m)) (moved n f t)) (moved-below n f k l)
         ∙ ap (λ y. holds (G y) (moved n f t)) (unrank-rank n (f x) (is.kept x sx))
         ∙ elim (cases_lt t (factorial n)) [
-          | inl m ↦ ap (holds (G (f x))) (moved-below n f t m) ∙ steps x (unrank n t) sx (IsBijection-unrank n t m) ∙ ap (holds (F x)) (rank-unrank n t m)
-          | inr m ↦ ap (holds (G (f x))) (moved-past n f t m) ∙ past G sG (f x) (is.kept x sx) t m ∙ sym (past F sF x sx t m)
+          | inl m ↦
+              ap (holds (G (f x))) (moved-below n f t m) ∙ steps x (unrank n t) sx (IsBijection-unrank n t m)
+              ∙ ap (holds (F x)) (rank-unrank n t m)
+          | inr m ↦
+              ap (holds (G (f x))) (moved-past n f t m) ∙ past G sG (f x) (is.kept x sx) t m
+              ∙ sym (past F sF x sx t m)
         ]
-    | inr l ↦ ap (λ m. holds (G (unrank n m)) (moved n f t)) (moved-past n f k l) ∙ nil G sG k l (moved n f t) ∙ sym (nil F sF k l t)
+    | inr l ↦
+        ap (λ m. holds (G (unrank n m)) (moved n f t)) (moved-past n f k l) ∙ nil G sG k l (moved n f t)
+        ∙ sym (nil F sF k l t)
   ]
 
   -- the sum of G over the carried chain is the carried sum of F
-  pub sum_over-carried : (z : Chain) → sum_over (carried n f z) (λ code. G (unrank n code)) ≡ carried n f (sum_over z (λ code. F (unrank n code)))
+  pub sum_over-carried : (z : Chain)
+      → sum_over (carried n f z) (λ code. G (unrank n code)) ≡ carried n f (sum_over z (λ code. F (unrank n code)))
   sum_over-carried z = same_chain _ _ (λ q.
       holds-sum_over (carried n f z) (λ code. G (unrank n code)) q
       ∙ weight-carried n f b is (λ k. holds (G (unrank n k)) q) z
-      ∙ weight-same _ _ z (λ k _. ap (holds (G (unrank n (moved n f k)))) (sym (moved-undone n b f (AreInverse-back n f b is) q)) ∙ arrows k (moved n b q))
+      ∙ weight-same _ _ z (λ k _. ap (holds (G (unrank n (moved n f k))))
+      (sym (moved-undone n b f (AreInverse-back n f b is) q)) ∙ arrows k (moved n b q))
       ∙ sym (holds-sum_over z (λ code. F (unrank n code)) (moved n b q))
       ∙ sym (holds-carried n f b is (sum_over z (λ code. F (unrank n code))) q))
 
@@ -164,7 +180,8 @@ module _ (n : ℕ) (f b : List ℕ → List ℕ) (is : AreInverse n f b) (F G : 
   holds-carried_by x sx = same_chain _ _ (λ q.
       let l = rank-below n x sx in
       ap (λ y. holds (G (f y)) q) (sym (unrank-rank n x sx))
-      ∙ ap (λ y. holds (G y) q) (sym (unrank-rank n (f (unrank n (rank x))) (is.kept (unrank n (rank x)) (IsBijection-unrank n (rank x) l))))
+      ∙ ap (λ y. holds (G y) q) (sym (unrank-rank n (f (unrank n (rank x)))
+      (is.kept (unrank n (rank x)) (IsBijection-unrank n (rank x) l))))
       ∙ ap (λ m. holds (G (unrank n m)) q) (sym (moved-below n f (rank x) l))
       ∙ ap (holds (G (unrank n (moved n f (rank x))))) (sym (moved-undone n b f (AreInverse-back n f b is) q))
       ∙ arrows (rank x) (moved n b q)

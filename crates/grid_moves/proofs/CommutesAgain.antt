@@ -32,14 +32,18 @@ order_back : (a b : ℕ) → a ≢ b → leb a b ≡ not (leb b a)
 order_back a b p = grind arith
 
 -- p and q separate r and s where r and s separate p and q
-separate_alike : (p q r s : ℕ) → p ≢ r → p ≢ s → q ≢ r → q ≢ s → are_same (between p q r) (between p q s) ≡ are_same (between r s p) (between r s q)
+separate_alike : (p q r s : ℕ) → p ≢ r → p ≢ s → q ≢ r → q ≢ s
+    → are_same (between p q r) (between p q s) ≡ are_same (between r s p) (between r s q)
 separate_alike p q r s pr ps qr qs =
-    (λ i. are_same (order_back p r pr i ⊻ order_back q r qr i ⊻ ltb q p) (order_back p s ps i ⊻ order_back q s qs i ⊻ ltb q p))
-    ∙ same 6 (λ u v w x c d. are_same (not u ⊻ not v ⊻ c) (not w ⊻ not x ⊻ c)) (λ u v w x c d. are_same (u ⊻ w ⊻ d) (v ⊻ x ⊻ d)) refl (leb r p) (leb r q) (leb s p) (leb s q) (ltb q p) (ltb s r)
+    (λ i. are_same (order_back p r pr i ⊻ order_back q r qr i ⊻ ltb q p)
+    (order_back p s ps i ⊻ order_back q s qs i ⊻ ltb q p))
+    ∙ same 6 (λ u v w x c d. are_same (not u ⊻ not v ⊻ c) (not w ⊻ not x ⊻ c))
+    (λ u v w x c d. are_same (u ⊻ w ⊻ d) (v ⊻ x ⊻ d)) refl (leb r p) (leb r q) (leb s p) (leb s q) (ltb q p) (ltb s r)
 
 -- whether the rows p and q of one column, and r and s of the next, let them commute
 abbrev commute_by : ℕ → ℕ → ℕ → ℕ → ℕ → Bool
-commute_by n p q r s = (not (eqb r p || eqb r q) && not (eqb s p || eqb s q)) && are_same (in_range n p q r) (in_range n p q s)
+commute_by n p q r s =
+    (not (eqb r p || eqb r q) && not (eqb s p || eqb s q)) && are_same (in_range n p q r) (in_range n p q s)
 
 neither : (u v : Bool) → not (u || v) ≡ true → (u ≡ false) × (v ≡ false)
 neither true v h = absurd (true≢false (sym h))
@@ -49,7 +53,8 @@ neither false false h = (refl, refl)
 apart_of : (a b : ℕ) → eqb a b ≡ false → a ≢ b
 apart_of a b e i = true≢false (sym (eq-eqb a b i) ∙ e)
 
-commute_back : (n p q r s : ℕ) → p < n → q < n → r < n → s < n → p ≢ q → r ≢ s → commute_by n p q r s ≡ true → commute_by n r s p q ≡ true
+commute_back : (n p q r s : ℕ) → p < n → q < n → r < n → s < n → p ≢ q → r ≢ s → commute_by n p q r s ≡ true
+    → commute_by n r s p q ≡ true
 commute_back n p q r s lp lq lr ls pq rs h =
     let told = and_parts _ _ h in
     let rows = and_parts _ _ told.0 in
@@ -66,7 +71,8 @@ commute_back n p q r s lp lq lr ls pq rs h =
     ∙ sym (ap₂ are_same (range_is n p q r pq lp lq lr) (range_is n p q s pq lp lq ls))
     ∙ told.1)
 
-columns_again : (g : Marks) → IsGrid g → (c : ℕ) → c < size g → are_commuting_columns g c ≡ true → are_commuting_columns (swapped_columns g c) c ≡ true
+columns_again : (g : Marks) → IsGrid g → (c : ℕ) → c < size g → are_commuting_columns g c ≡ true
+    → are_commuting_columns (swapped_columns g c) c ≡ true
 columns_again g s c l h =
     let n : ℕ = size g in
     let b : ℕ = one_down n c in
@@ -77,14 +83,18 @@ columns_again g s c l h =
     let fb : b < length g.x = omega arith in
     let fc : c < length g.x = omega arith in
     ap (λ m. commute_by m (o (one_down m c)) (x (one_down m c)) (o c) (x c)) (length-swap g.o b c)
-    ∙ (λ i. commute_by n (slice_index-swap_first g.o b c lb l i) (slice_index-swap_first g.x b c fb fc i) (slice_index-swap_second g.o b c lb l i) (slice_index-swap_second g.x b c fb fc i))
-    ∙ commute_back n (slice_index g.o b) (slice_index g.x b) (slice_index g.o c) (slice_index g.x c) (s.o.small b lb) (s.x.small b lb) (s.o.small c l) (s.x.small c l) (s.apart b lb) (s.apart c l) h
+    ∙ (λ i. commute_by n (slice_index-swap_first g.o b c lb l i) (slice_index-swap_first g.x b c fb fc i)
+    (slice_index-swap_second g.o b c lb l i) (slice_index-swap_second g.x b c fb fc i))
+    ∙ commute_back n (slice_index g.o b) (slice_index g.x b) (slice_index g.o c) (slice_index g.x c) (s.o.small b lb)
+    (s.x.small b lb) (s.o.small c l) (s.x.small c l) (s.apart b lb) (s.apart c l) h
 
 -- The exchanged grid commutes at the same place.
-pub are_commuting-swapped : (axis : Axis) (g : Marks) → IsGrid g → (c : ℕ) → c < size g → are_commuting axis g c ≡ true → are_commuting axis (swapped axis g c) c ≡ true
+pub are_commuting-swapped : (axis : Axis) (g : Marks) → IsGrid g → (c : ℕ) → c < size g → are_commuting axis g c ≡ true
+    → are_commuting axis (swapped axis g c) c ≡ true
 are_commuting-swapped Cols g s c l h = columns_again g s c l h
 are_commuting-swapped Rows g s c l h =
     let t : Marks = transposed g in
     let st = IsGrid-transposed g s in
     let lt : c < size t = let e = size-transposed g in omega arith in
-    ap (λ u. are_commuting_columns u c) (transposed-transposed (swapped_columns t c) (IsGrid-swapped_columns t c st lt)) ∙ columns_again t st c lt h
+    ap (λ u. are_commuting_columns u c) (transposed-transposed (swapped_columns t c) (IsGrid-swapped_columns t c st lt))
+    ∙ columns_again t st c lt h

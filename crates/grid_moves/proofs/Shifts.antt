@@ -49,23 +49,37 @@ offset-one_up (suc m) a i la li = elim (cases_eq a m) [
       ]
 ]
 
-range-one_up : (n a b t : ℕ) → a < n → b < n → t < n → in_range n (one_up n a) (one_up n b) (one_up n t) ≡ in_range n a b t
+range-one_up : (n a b t : ℕ) → a < n → b < n → t < n
+    → in_range n (one_up n a) (one_up n b) (one_up n t) ≡ in_range n a b t
 range-one_up n a b t la lb lt = ap₂ ltb (offset-one_up n a t la lt) (offset-one_up n a b la lb)
 
 -- no move
 pub IsShift-none : (n : ℕ) → IsShift n (λ c. c)
-IsShift-none n = record { one = record { small = λ c l. l; apart = λ b c lb lc p. p }; range = λ a b t la lb lt. refl; before = λ c l. refl; after = λ c l. refl }
+IsShift-none n =
+    record {
+      one = record { small = λ c l. l; apart = λ b c lb lc p. p };
+      range = λ a b t la lb lt. refl;
+      before = λ c l. refl;
+      after = λ c l. refl;
+    }
 
 -- one up
 pub IsShift-one_up : (n : ℕ) → IsShift n (one_up n)
-IsShift-one_up n = record { one = one_up_one n; range = range-one_up n; before = λ c l. one_down-one_up n c l ∙ sym (one_up-one_down n c l); after = λ c l. refl }
+IsShift-one_up n =
+    record {
+      one = one_up_one n;
+      range = range-one_up n;
+      before = λ c l. one_down-one_up n c l ∙ sym (one_up-one_down n c l);
+      after = λ c l. refl;
+    }
 
 -- one down
 pub IsShift-one_down : (n : ℕ) → IsShift n (one_down n)
 IsShift-one_down n = record {
   one = one_down_one n;
   range = λ a b t la lb lt.
-      sym (range-one_up n (one_down n a) (one_down n b) (one_down n t) (one_down_below n a la) (one_down_below n b lb) (one_down_below n t lt))
+      sym (range-one_up n (one_down n a) (one_down n b) (one_down n t) (one_down_below n a la) (one_down_below n b lb)
+      (one_down_below n t lt))
       ∙ (λ i. in_range n (one_up-one_down n a la i) (one_up-one_down n b lb i) (one_up-one_down n t lt i));
   before = λ c l. refl;
   after = λ c l. one_up-one_down n c l ∙ sym (one_down-one_up n c l);
@@ -92,11 +106,15 @@ eqb-shift n f one a b la lb = elim (cases_eq a b) [
 ]
 
 -- the exchange of two numbers after a renaming
-pub exchanged-row : (n : ℕ) (f : ℕ → ℕ) → IsOneToOne n f → (a b c : ℕ) → a < n → b < n → c < n → exchanged (f a) (f b) (f c) ≡ f (exchanged a b c)
+pub exchanged-row : (n : ℕ) (f : ℕ → ℕ) → IsOneToOne n f → (a b c : ℕ) → a < n → b < n → c < n
+    → exchanged (f a) (f b) (f c) ≡ f (exchanged a b c)
 exchanged-row n f one a b c la lb lc = elim (cases_eq c a) [
   | inl e ↦ exchanged-first (f a) (f b) (f c) (ap f e) ∙ sym (ap f (exchanged-first a b c e))
   | inr p ↦ elim (cases_eq c b) [
-    | inl e ↦ exchanged-second (f a) (f b) (f c) (one.apart c a lc la p) (ap f e) ∙ sym (ap f (exchanged-second a b c p e))
-    | inr q ↦ exchanged-other (f a) (f b) (f c) (one.apart c a lc la p) (one.apart c b lc lb q) ∙ sym (ap f (exchanged-other a b c p q))
+    | inl e ↦
+        exchanged-second (f a) (f b) (f c) (one.apart c a lc la p) (ap f e) ∙ sym (ap f (exchanged-second a b c p e))
+    | inr q ↦
+        exchanged-other (f a) (f b) (f c) (one.apart c a lc la p) (one.apart c b lc lb q)
+        ∙ sym (ap f (exchanged-other a b c p q))
   ]
 ]

@@ -30,17 +30,25 @@ swap-swap n rows s a b la lb =
 columns-twice : (g : Marks) → IsGrid g → (c : ℕ) → c < size g → swapped_columns (swapped_columns g c) c ≡ g
 columns-twice g s c l =
     let k = one_down_below (size g) c l in
-    ap (λ m. record { o = swap (swap g.o (one_down (size g) c) c) (one_down m c) c; x = swap (swap g.x (one_down (size g) c) c) (one_down m c) c }) (length-swap g.o (one_down (size g) c) c)
-    ∙ (λ i. record { o = swap-swap (size g) g.o s.o (one_down (size g) c) c k l i; x = swap-swap (size g) g.x s.x (one_down (size g) c) c k l i })
+    ap (λ m. record {
+      o = swap (swap g.o (one_down (size g) c) c) (one_down m c) c;
+      x = swap (swap g.x (one_down (size g) c) c) (one_down m c) c;
+    }) (length-swap g.o (one_down (size g) c) c)
+    ∙ (λ i. record {
+      o = swap-swap (size g) g.o s.o (one_down (size g) c) c k l i;
+      x = swap-swap (size g) g.x s.x (one_down (size g) c) c k l i;
+    })
 
 -- An exchange undoes itself.
-pub swapped-swapped : (axis : Axis) (g : Marks) → IsGrid g → (c : ℕ) → c < size g → swapped axis (swapped axis g c) c ≡ g
+pub swapped-swapped : (axis : Axis) (g : Marks) → IsGrid g → (c : ℕ) → c < size g
+    → swapped axis (swapped axis g c) c ≡ g
 swapped-swapped Cols g s c l = columns-twice g s c l
 swapped-swapped Rows g s c l =
     let t : Marks = transposed g in
     let st = IsGrid-transposed g s in
     let lt : c < size t = let e = size-transposed g in omega arith in
-    ap (λ h. transposed (swapped_columns h c)) (transposed-transposed (swapped_columns t c) (IsGrid-swapped_columns t c st lt))
+    ap (λ h. transposed (swapped_columns h c))
+    (transposed-transposed (swapped_columns t c) (IsGrid-swapped_columns t c st lt))
     ∙ ap transposed (columns-twice t st c lt)
     ∙ transposed-transposed g s
 

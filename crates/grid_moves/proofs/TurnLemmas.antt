@@ -33,14 +33,17 @@ length-turned_rows side n rows = length-tabulate n (λ c. moved_row side n (slic
 
 pub slice_index-turned_rows : (side : Side) (n : ℕ) (rows : List ℕ) (c : ℕ) → c < n
     → slice_index (turned_rows side n rows) c ≡ moved_row side n (slice_index rows (source_column side n c))
-slice_index-turned_rows side n rows c l = slice_index-tabulate n (λ d. moved_row side n (slice_index rows (source_column side n d))) c l
+slice_index-turned_rows side n rows c l =
+    slice_index-tabulate n (λ d. moved_row side n (slice_index rows (source_column side n d))) c l
 
-pub IsBijection-turned_rows : (side : Side) (n : ℕ) (rows : List ℕ) → IsBijection n rows → IsBijection n (turned_rows side n rows)
+pub IsBijection-turned_rows : (side : Side) (n : ℕ) (rows : List ℕ) → IsBijection n rows
+    → IsBijection n (turned_rows side n rows)
 IsBijection-turned_rows side n rows b = record {
   long = length-turned_rows side n rows;
   small = λ c l. let e = at c l in let k = value c l in omega arith;
   apart = λ c d lc ld p e.
-      (moved_row-one_to_one side n).apart (slice_index rows (source_column side n c)) (slice_index rows (source_column side n d))
+      (moved_row-one_to_one side n).apart (slice_index rows (source_column side n c))
+      (slice_index rows (source_column side n d))
       (b.small _ (sources.small c lc)) (b.small _ (sources.small d ld))
       (b.apart _ _ (sources.small c lc) (sources.small d ld) (sources.apart c d lc ld p))
       (sym (at c lc) ∙ e ∙ at d ld);
@@ -49,7 +52,8 @@ IsBijection-turned_rows side n rows b = record {
     sources : IsOneToOne n (source_column side n)
     sources = source_column-one_to_one side n
 
-    at : (c : ℕ) → c < n → slice_index (turned_rows side n rows) c ≡ moved_row side n (slice_index rows (source_column side n c))
+    at : (c : ℕ) → c < n
+        → slice_index (turned_rows side n rows) c ≡ moved_row side n (slice_index rows (source_column side n c))
     at c l = slice_index-turned_rows side n rows c l
 
     value : (c : ℕ) → c < n → moved_row side n (slice_index rows (source_column side n c)) < n
@@ -70,7 +74,8 @@ IsGrid-turned side g grid = record {
     differ c l e =
         let sources = source_column-one_to_one side (size g) in
         let below = sources.small c l in
-        (moved_row-one_to_one side (size g)).apart _ _ (grid.o.small _ below) (grid.x.small _ below) (grid.apart _ below)
+        (moved_row-one_to_one side (size g)).apart _ _ (grid.o.small _ below) (grid.x.small _ below)
+        (grid.apart _ below)
         (sym (slice_index-turned_rows side (size g) g.o c l) ∙ e ∙ slice_index-turned_rows side (size g) g.x c l)
 
 -- the first k elements of an array are those of the turned rows
@@ -84,22 +89,29 @@ pub HasTurned-more : (side : Side) (n : ℕ) (rows into : List ℕ) (k v : ℕ) 
 HasTurned-more side n rows into k v h room e = record {
   long = length-set into k v ∙ h.long;
   each = λ c l. elim (cases_eq c k) [
-    | inl i ↦ ap (slice_index (set into k v)) i ∙ get_or-set_same into k v 0 (let m = h.long in omega arith) ∙ e ∙ ap (λ d. moved_row side n (slice_index rows (source_column side n d))) (sym i)
+    | inl i ↦
+        ap (slice_index (set into k v)) i ∙ get_or-set_same into k v 0 (let m = h.long in omega arith) ∙ e
+        ∙ ap (λ d. moved_row side n (slice_index rows (source_column side n d))) (sym i)
     | inr p ↦ get_or-set_other into k c v 0 p ∙ h.each c (omega arith)
   ];
 }
 
 -- all n of them make the list
-pub take-turned : (side : Side) (n : ℕ) (rows into : List ℕ) → n ≤ MAX_SIZE → HasTurned side n rows into n → take n into ≡ turned_rows side n rows
+pub take-turned : (side : Side) (n : ℕ) (rows into : List ℕ) → n ≤ MAX_SIZE → HasTurned side n rows into n
+    → take n into ≡ turned_rows side n rows
 take-turned side n rows into fits h =
-    same_list n (take n into) (turned_rows side n rows) (length-take-le n into (let m = h.long in omega arith)) (length-turned_rows side n rows)
+    same_list n (take n into) (turned_rows side n rows) (length-take-le n into (let m = h.long in omega arith))
+    (length-turned_rows side n rows)
     (λ c l. get_or-take n into c 0 l ∙ h.each c l ∙ sym (slice_index-turned_rows side n rows c l))
 
 -- where both arrays have all columns, they begin with the marks of the turned grid
 pub take-turned_marks : (side : Side) (g : Marks) (o x : List ℕ) (n k : ℕ) → IsGrid g → n ≡ size g → n ≤ k
     → HasTurned side n g.o o k → HasTurned side n g.x x k → record { o = take n o; x = take n x } ≡ turned side g
 take-turned_marks side g o x n k grid e far ho hx =
-    (λ i. record { o = take-turned side n g.o o small (first g.o o ho) i; x = take-turned side n g.x x small (first g.x x hx) i })
+    (λ i. record {
+      o = take-turned side n g.o o small (first g.o o ho) i;
+      x = take-turned side n g.x x small (first g.x x hx) i;
+    })
     ∙ ap (λ m. record { o = turned_rows side m g.o; x = turned_rows side m g.x }) e
   where
     small : n ≤ MAX_SIZE

@@ -44,17 +44,21 @@ source-target Up n c l = refl
 source-target Down n c l = refl
 
 -- a state after a turn, column by column
-pub turned_state-at : (side : Side) (n : ℕ) (x : List ℕ) → length x ≡ n → (c : ℕ) → c < n → slice_index (turned_state side x) c ≡ moved_row side n (slice_index x (source_column side n c))
+pub turned_state-at : (side : Side) (n : ℕ) (x : List ℕ) → length x ≡ n → (c : ℕ) → c < n
+    → slice_index (turned_state side x) c ≡ moved_row side n (slice_index x (source_column side n c))
 turned_state-at side n x e c l =
-    slice_index-turned_rows side (length x) x c (omega arith) ∙ ap (λ m. moved_row side m (slice_index x (source_column side m c))) e
+    slice_index-turned_rows side (length x) x c (omega arith)
+    ∙ ap (λ m. moved_row side m (slice_index x (source_column side m c))) e
 
-pub IsBijection-turned_state : (side : Side) (n : ℕ) (x : List ℕ) → IsBijection n x → IsBijection n (turned_state side x)
+pub IsBijection-turned_state : (side : Side) (n : ℕ) (x : List ℕ) → IsBijection n x
+    → IsBijection n (turned_state side x)
 IsBijection-turned_state side n x sx =
     let s = IsBijection-turned_rows side (length x) x (subst (λ m. IsBijection m x) (sym sx.long) sx) in
     let P : ℕ → Type 0 = λ m. IsBijection m (turned_rows side (length x) x) in
     subst P sx.long s
 
-pub turned_state-back : (side : Side) (n : ℕ) (x : List ℕ) → IsBijection n x → turned_state (opposite side) (turned_state side x) ≡ x
+pub turned_state-back : (side : Side) (n : ℕ) (x : List ℕ) → IsBijection n x
+    → turned_state (opposite side) (turned_state side x) ≡ x
 turned_state-back side n x sx =
     let sy = IsBijection-turned_state side n x sx in
     let sz = IsBijection-turned_state (opposite side) n (turned_state side x) sy in
@@ -62,7 +66,9 @@ turned_state-back side n x sx =
     let k = (source_column-one_to_one (opposite side) n).small c l in
     let back : source_column side n (source_column (opposite side) n c) ≡ c = source-source side n c l in
     turned_state-at (opposite side) n (turned_state side x) sy.long c l
-    ∙ ap (moved_row (opposite side) n) (turned_state-at side n x sx.long (source_column (opposite side) n c) k ∙ ap (λ d. moved_row side n (slice_index x d)) back)
+    ∙ ap (moved_row (opposite side) n)
+    (turned_state-at side n x sx.long (source_column (opposite side) n c) k
+    ∙ ap (λ d. moved_row side n (slice_index x d)) back)
     ∙ moved-moved side n (slice_index x c) (sx.small c l))
 
 -- A turn and the turn back.
@@ -71,7 +77,8 @@ turned_AreInverse side n = record {
   kept = IsBijection-turned_state side n;
   kept_back = IsBijection-turned_state (opposite side) n;
   undone = turned_state-back side n;
-  redone = λ x sx. ap (λ s. turned_state s (turned_state (opposite side) x)) (sym (opposite-opposite side)) ∙ turned_state-back (opposite side) n x sx;
+  redone = λ x sx. ap (λ s. turned_state s (turned_state (opposite side) x)) (sym (opposite-opposite side))
+      ∙ turned_state-back (opposite side) n x sx;
 }
 
 -- the targets are all columns, each once
@@ -90,11 +97,14 @@ IsState-turned_state side x s =
     let e = length-turned_state side x in
     record {
       size = let P : ℕ → Type 0 = IsSize in subst P (sym e) s.size;
-      bijection = let P : ℕ → Type 0 = λ n. IsBijection n (turned_state side x) in subst P (sym e) (IsBijection-turned_state side (length x) x s.bijection);
+      bijection = let P : ℕ → Type 0 = λ n. IsBijection n (turned_state side x) in
+          subst P (sym e) (IsBijection-turned_state side (length x) x s.bijection);
     }
 
 -- where an array has all circles, it begins with the turned state
-pub take-turned_state : (side : Side) (x rows : List ℕ) (n k : ℕ) → IsState x → n ≡ length x → n ≤ k → HasTurned side n x rows k → take n rows ≡ turned_state side x
+pub take-turned_state : (side : Side) (x rows : List ℕ) (n k : ℕ) → IsState x → n ≡ length x → n ≤ k
+    → HasTurned side n x rows k → take n rows ≡ turned_state side x
 take-turned_state side x rows n k s e far h =
-    take-turned side n x rows (let m = s.size.greatest in omega arith) (record { long = h.long; each = λ c l. h.each c (omega arith) })
+    take-turned side n x rows (let m = s.size.greatest in omega arith)
+    (record { long = h.long; each = λ c l. h.each c (omega arith) })
     ∙ ap (λ m. turned_rows side m x) e

@@ -21,7 +21,8 @@ use Rattle.hat_division.proofs.RankLemmas.{apart, apart_back, order_of, comes_be
 abbrev pub term : ℕ → List TableRow → ℤ → ℤ → ℕ → ℕ
 term k rows m a i = binomial k i * rank_at rows (m +ℤ pos i) (a +ℤ pos i)
 
-pub product_rank-sum : (k : ℕ) (rows : List TableRow) (m a : ℤ) → product_rank k rows m a ≡ sum_below (suc k) (term k rows m a)
+pub product_rank-sum : (k : ℕ) (rows : List TableRow) (m a : ℤ)
+    → product_rank k rows m a ≡ sum_below (suc k) (term k rows m a)
 unfolding product_rank
 product_rank-sum k rows m a = refl
 
@@ -31,13 +32,15 @@ plus_none z = omega (arith, ints)
 -- the first term is the rank itself
 pub term-first : (k : ℕ) (rows : List TableRow) (m a : ℤ) → term k rows m a 0 ≡ rank_at rows m a
 term-first k rows m a =
-    let place : rank_at rows (m +ℤ pos 0) (a +ℤ pos 0) ≡ rank_at rows m a = λ i. rank_at rows (plus_none m i) (plus_none a i) in
+    let place : rank_at rows (m +ℤ pos 0) (a +ℤ pos 0) ≡ rank_at rows m a =
+    λ i. rank_at rows (plus_none m i) (plus_none a i) in
     let one = ap (λ b. b * rank_at rows (m +ℤ pos 0) (a +ℤ pos 0)) (binomial-none k) in
     omega arith
 
 -- so the product has at least the rank
 pub product_rank-ge : (k : ℕ) (rows : List TableRow) (m a : ℤ) → rank_at rows m a ≤ product_rank k rows m a
-product_rank-ge k rows m a = omega (arith, product_rank-sum k rows m a, term-first k rows m a, term-le (suc k) 0 (term k rows m a) (omega arith))
+product_rank-ge k rows m a =
+    omega (arith, product_rank-sum k rows m a, term-first k rows m a, term-le (suc k) 0 (term k rows m a) (omega arith))
 
 right_factor : (x y : ℕ) → 0 < x * y → 0 < y
 right_factor x y h = elim (cases_lt 0 y) [
@@ -46,21 +49,24 @@ right_factor x y h = elim (cases_lt 0 y) [
 ]
 
 -- where the product has a row, the table has one at most k steps up
-pub product-found : (k : ℕ) (rows : List TableRow) (m a : ℤ) → 0 < product_rank k rows m a → (i : ℕ) × (i ≤ k) × (0 < rank_at rows (m +ℤ pos i) (a +ℤ pos i))
+pub product-found : (k : ℕ) (rows : List TableRow) (m a : ℤ) → 0 < product_rank k rows m a
+    → (i : ℕ) × (i ≤ k) × (0 < rank_at rows (m +ℤ pos i) (a +ℤ pos i))
 product-found k rows m a h =
     let t = term-found (suc k) (term k rows m a) (omega (arith, product_rank-sum k rows m a)) in
     let below = t.1 in
     (t.0, omega arith, right_factor (binomial k t.0) (rank_at rows (m +ℤ pos t.0) (a +ℤ pos t.0)) t.2)
 
 -- and the other way round
-pub product-reached : (k : ℕ) (rows : List TableRow) (m a : ℤ) (i : ℕ) → i ≤ k → 0 < rank_at rows (m +ℤ pos i) (a +ℤ pos i) → 0 < product_rank k rows m a
+pub product-reached : (k : ℕ) (rows : List TableRow) (m a : ℤ) (i : ℕ) → i ≤ k
+    → 0 < rank_at rows (m +ℤ pos i) (a +ℤ pos i) → 0 < product_rank k rows m a
 product-reached k rows m a i l h =
     let positive : 1 ≤ term k rows m a i = one-le-mul (binomial-positive k i l) (omega arith) in
     omega (arith, product_rank-sum k rows m a, term-le (suc k) i (term k rows m a) (omega arith))
 
 -- ---- how large the ranks are
 -- the rank is at most a bound of all ranks of the rows
-pub rank_at-bounded : (rows : List TableRow) (b : ℕ) (m a : ℤ) → AreOrdered rows → All (λ row. row.rank ≤ b) rows → rank_at rows m a ≤ b
+pub rank_at-bounded : (rows : List TableRow) (b : ℕ) (m a : ℤ) → AreOrdered rows → All (λ row. row.rank ≤ b) rows
+    → rank_at rows m a ≤ b
 rank_at-bounded rows b m a ordered h = elim (cases_lt 0 (rank_at rows m a)) [
   | inl l ↦
       let t = row_found rows m a l in
@@ -69,14 +75,18 @@ rank_at-bounded rows b m a ordered h = elim (cases_lt 0 (rank_at rows m a)) [
   | inr l ↦ omega arith
 ]
 
-pub product_rank-le : (k b : ℕ) (rows : List TableRow) (m a : ℤ) → ((m a : ℤ) → rank_at rows m a ≤ b) → product_rank k rows m a ≤ 2 ^ k * b
+pub product_rank-le : (k b : ℕ) (rows : List TableRow) (m a : ℤ) → ((m a : ℤ) → rank_at rows m a ≤ b)
+    → product_rank k rows m a ≤ 2 ^ k * b
 product_rank-le k b rows m a h =
-    let terms = sum_below-le (suc k) (term k rows m a) (λ i. binomial k i * b) (λ i l. mul-le-mul_left (binomial k i) (h (m +ℤ pos i) (a +ℤ pos i))) in
+    let terms =
+    sum_below-le (suc k) (term k rows m a) (λ i. binomial k i * b)
+    (λ i l. mul-le-mul_left (binomial k i) (h (m +ℤ pos i) (a +ℤ pos i))) in
     let whole = mul-le-mul_right b (sum-binomials k (suc k)) in
     omega (arith, product_rank-sum k rows m a, sum_below-scaled (suc k) b (binomial k))
 
 -- ranks of a product are within those of tables
-pub product_rank-small : (k : ℕ) (rows : List TableRow) (m a : ℤ) → k ≤ 16 → AreOrdered rows → All (λ row. row.rank ≤ 2 ^ 32) rows → product_rank k rows m a ≤ 2 ^ 48
+pub product_rank-small : (k : ℕ) (rows : List TableRow) (m a : ℤ) → k ≤ 16 → AreOrdered rows
+    → All (λ row. row.rank ≤ 2 ^ 32) rows → product_rank k rows m a ≤ 2 ^ 48
 product_rank-small k rows m a l ordered h =
     let power : 2 ^ k ≤ 2 ^ 16 = pow_mono l in
     let scaled = mul-le-mul_right (2 ^ 32) power in
@@ -87,16 +97,24 @@ carried : {X : Type 0} (R : X → X → Type 0) (u v w z : X) → u ≡ v → w 
 carried R u v w z e f r = subst (λ x. R x w) (sym e) (subst (λ x. R v x) (sym f) r)
 
 -- a list of pairs stays one where an element is put between what is related to it
-AllPairs-insert : {X : Type 0} (R : X → X → Type 0) (xs : List X) (p : ℕ) (y : X) → p ≤ length xs → AllPairs R xs → ((k : ℕ) (d : X) → k < p → R (get_or xs k d) y) → ((k : ℕ) (d : X) → p ≤ k → k < length xs → R y (get_or xs k d)) → AllPairs R (insert xs p y)
+AllPairs-insert : {X : Type 0} (R : X → X → Type 0) (xs : List X) (p : ℕ) (y : X) → p ≤ length xs → AllPairs R xs
+    → ((k : ℕ) (d : X) → k < p → R (get_or xs k d) y) → ((k : ℕ) (d : X) → p ≤ k → k < length xs → R y (get_or xs k d))
+    → AllPairs R (insert xs p y)
 AllPairs-insert R xs p y le pairs before after i j d l m = elim (cases_lt j p) [
   | inl low ↦ carried R _ _ _ _ (below i (omega arith)) (below j low) (pairs i j d l (omega arith))
   | inr high ↦ elim (cases_eq j p) [
     | inl at ↦ carried R _ _ _ _ (below i (omega arith)) (here j at) (before i d (omega arith))
     | inr past ↦ elim (cases_lt i p) [
-      | inl low ↦ carried R _ _ _ _ (below i low) (above (j - 1) j (omega arith) (omega arith)) (pairs i (j - 1) d (omega arith) short)
+      | inl low ↦
+          carried R _ _ _ _ (below i low) (above (j - 1) j (omega arith) (omega arith))
+          (pairs i (j - 1) d (omega arith) short)
       | inr up ↦ elim (cases_eq i p) [
-        | inl at ↦ carried R _ _ _ _ (here i at) (above (j - 1) j (omega arith) (omega arith)) (after (j - 1) d (omega arith) short)
-        | inr later ↦ carried R _ _ _ _ (above (i - 1) i (omega arith) (omega arith)) (above (j - 1) j (omega arith) (omega arith)) (pairs (i - 1) (j - 1) d (omega arith) short)
+        | inl at ↦
+            carried R _ _ _ _ (here i at) (above (j - 1) j (omega arith) (omega arith))
+            (after (j - 1) d (omega arith) short)
+        | inr later ↦
+            carried R _ _ _ _ (above (i - 1) i (omega arith) (omega arith))
+            (above (j - 1) j (omega arith) (omega arith)) (pairs (i - 1) (j - 1) d (omega arith) short)
       ]
     ]
   ]
@@ -135,7 +153,9 @@ module _ (old : List TableRow) (row : TableRow) (p : ℕ) (positive : ArePositiv
   all_after : (k : ℕ) (d : TableRow) → p ≤ k → k < length old → comes_before row (get_or old k d) ≡ true
   all_after k d b l = elim (cases_eq k p) [
     | inl e ↦ subst (λ n. comes_before row (get_or old n d) ≡ true) (sym e) (next_after d (omega arith))
-    | inr later ↦ comes_before-transitive row (get_or old p d) (get_or old k d) (next_after d (omega arith)) (positive.ordered p k d (omega arith) l)
+    | inr later ↦
+        comes_before-transitive row (get_or old p d) (get_or old k d) (next_after d (omega arith))
+        (positive.ordered p k d (omega arith) l)
   ]
 
   -- no row stands in its bidegree
@@ -159,10 +179,16 @@ module _ (old : List TableRow) (row : TableRow) (p : ℕ) (positive : ArePositiv
   put-inserted = record {
     positive = record {
       ordered = AllPairs-insert (λ q r. IsTrue (comes_before q r)) old p row le positive.ordered before all_after;
-      positive = All-append (λ r. 1 ≤ r.rank) (take p old) (row ∷ drop p old) (All-take (λ r. 1 ≤ r.rank) p old positive.positive)
+      positive =
+          All-append (λ r. 1 ≤ r.rank) (take p old) (row ∷ drop p old)
+          (All-take (λ r. 1 ≤ r.rank) p old positive.positive)
           (All-cons (λ r. 1 ≤ r.rank) row (drop p old) one (All-drop (λ r. 1 ≤ r.rank) p old positive.positive));
     };
-    stays = λ m a taken. omega (arith, rank_at-insert old p row m a, part_at-elsewhere row m a (same_where_taken m a taken));
+    stays = λ m a taken. omega (
+      arith,
+      rank_at-insert old p row m a,
+      part_at-elsewhere row m a (same_where_taken m a taken),
+    );
     fresh = λ m a none. elim (cases_Bool (stands_at row m a)) [
       | inl s ↦ inr (s, omega (arith, rank_at-insert old p row m a, part_at-here row m a s))
       | inr s ↦ inl (omega (arith, rank_at-insert old p row m a, part_at-elsewhere row m a s))
@@ -171,7 +197,8 @@ module _ (old : List TableRow) (row : TableRow) (p : ℕ) (positive : ArePositiv
   }
 
 -- where a row stands in the bidegree already, nothing is put
-pub put-kept : (old : List TableRow) (row : TableRow) (p : ℕ) (d : TableRow) → ArePositive old → p < length old → stands_at (get_or old p d) row.m row.a ≡ true → IsPut row old old
+pub put-kept : (old : List TableRow) (row : TableRow) (p : ℕ) (d : TableRow) → ArePositive old → p < length old
+    → stands_at (get_or old p d) row.m row.a ≡ true → IsPut row old old
 put-kept old row p d positive l s = record {
   positive = positive;
   stays = λ m a taken. refl;
@@ -188,7 +215,9 @@ part-none k rows = record {
 }
 
 -- one more row of the product
-part-put : (k : ℕ) (rows : List TableRow) (row : TableRow) (old new : List TableRow) → row.rank ≡ product_rank k rows row.m row.a → IsPartOfProduct k rows old → IsPut row old new → IsPartOfProduct k rows new
+part-put : (k : ℕ) (rows : List TableRow) (row : TableRow) (old new : List TableRow)
+    → row.rank ≡ product_rank k rows row.m row.a → IsPartOfProduct k rows old → IsPut row old new
+    → IsPartOfProduct k rows new
 part-put k rows row old new is part put = record {
   positive = put.positive;
   ranks = λ m a. elim (cases_lt 0 (rank_at old m a)) [
@@ -205,14 +234,20 @@ part-put k rows row old new is part put = record {
   ];
 }
 
-put-above : (row : TableRow) (old new : List TableRow) → IsPut row old new → (m a : ℤ) → 0 < rank_at old m a → 0 < rank_at new m a
+put-above : (row : TableRow) (old new : List TableRow) → IsPut row old new → (m a : ℤ) → 0 < rank_at old m a
+    → 0 < rank_at new m a
 put-above row old new put m a taken = omega (arith, put.stays m a taken)
 
 -- the rows of the product below one row
-pub shifts-none : (k : ℕ) (rows : List TableRow) (row : TableRow) (old : List TableRow) → IsPartOfProduct k rows old → AreShiftsPut k rows row 0 old old
-shifts-none k rows row old part = record { part = part; stays = λ m a taken. taken; there = λ i l. absurd (omega arith) }
+pub shifts-none : (k : ℕ) (rows : List TableRow) (row : TableRow) (old : List TableRow) → IsPartOfProduct k rows old
+    → AreShiftsPut k rows row 0 old old
+shifts-none k rows row old part =
+    record { part = part; stays = λ m a taken. taken; there = λ i l. absurd (omega arith) }
 
-pub shifts-more : (k : ℕ) (rows : List TableRow) (row : TableRow) (n : ℕ) (old now new : List TableRow) (shifted : TableRow) → shifted.m ≡ row.m -ℤ pos n → shifted.a ≡ row.a -ℤ pos n → shifted.rank ≡ product_rank k rows shifted.m shifted.a → AreShiftsPut k rows row n old now → IsPut shifted now new → AreShiftsPut k rows row (n + 1) old new
+pub shifts-more : (k : ℕ) (rows : List TableRow) (row : TableRow) (n : ℕ) (old now new : List TableRow)
+    (shifted : TableRow) → shifted.m ≡ row.m -ℤ pos n → shifted.a ≡ row.a -ℤ pos n
+    → shifted.rank ≡ product_rank k rows shifted.m shifted.a → AreShiftsPut k rows row n old now → IsPut shifted now new
+    → AreShiftsPut k rows row (n + 1) old new
 shifts-more k rows row n old now new shifted em ea is so_far put = record {
   part = part-put k rows shifted now new is so_far.part put;
   stays = λ m a taken. put-above shifted now new put m a (so_far.stays m a taken);
@@ -226,10 +261,12 @@ shifts-more k rows row n old now new shifted em ea is so_far put = record {
 }
 
 -- a step down from a row in order: the product has a rank there
-pub shifted-positive : (k : ℕ) (rows : List TableRow) (j : ℕ) (d : TableRow) (i : ℕ) → ArePositive rows → j < length rows → i ≤ k → 0 < product_rank k rows ((get_or rows j d).m -ℤ pos i) ((get_or rows j d).a -ℤ pos i)
+pub shifted-positive : (k : ℕ) (rows : List TableRow) (j : ℕ) (d : TableRow) (i : ℕ) → ArePositive rows
+    → j < length rows → i ≤ k → 0 < product_rank k rows ((get_or rows j d).m -ℤ pos i) ((get_or rows j d).a -ℤ pos i)
 shifted-positive k rows j d i positive l le =
     let row = get_or rows j d in
-    let back : rank_at rows ((row.m -ℤ pos i) +ℤ pos i) ((row.a -ℤ pos i) +ℤ pos i) ≡ rank_at rows row.m row.a = λ t. rank_at rows (there_and_back row.m i t) (there_and_back row.a i t) in
+    let back : rank_at rows ((row.m -ℤ pos i) +ℤ pos i) ((row.a -ℤ pos i) +ℤ pos i) ≡ rank_at rows row.m row.a =
+    λ t. rank_at rows (there_and_back row.m i t) (there_and_back row.a i t) in
     product-reached k rows (row.m -ℤ pos i) (row.a -ℤ pos i) i le
     (omega (arith, rank_at-le rows j d row.m row.a l (stands_itself row), positive.positive j d l))
   where
@@ -240,26 +277,33 @@ shifted-positive k rows j d i positive l le =
 pub rows-none : (k : ℕ) (rows : List TableRow) → AreRowsPut k rows 0 []
 rows-none k rows = record { so_far = part-none k rows; there = λ j d i l. absurd (omega arith) }
 
-pub rows-more : (k : ℕ) (rows : List TableRow) (n : ℕ) (e : TableRow) (old new : List TableRow) → n < length rows → AreRowsPut k rows n old → AreShiftsPut k rows (get_or rows n e) (k + 1) old new → AreRowsPut k rows (n + 1) new
+pub rows-more : (k : ℕ) (rows : List TableRow) (n : ℕ) (e : TableRow) (old new : List TableRow) → n < length rows
+    → AreRowsPut k rows n old → AreShiftsPut k rows (get_or rows n e) (k + 1) old new → AreRowsPut k rows (n + 1) new
 rows-more k rows n e old new within so_far shifts = record {
   so_far = shifts.part;
   there = λ j d i l le. elim (cases_eq j n) [
     | inl is ↦
         let row : get_or rows j d ≡ get_or rows n e = ap (λ o. get_or rows o d) is ∙ get_or_default rows n d e within in
         subst (λ r. 0 < rank_at new (r.m -ℤ pos i) (r.a -ℤ pos i)) (sym row) (shifts.there i (omega arith))
-    | inr other ↦ shifts.stays ((get_or rows j d).m -ℤ pos i) ((get_or rows j d).a -ℤ pos i) (so_far.there j d i (omega arith) le)
+    | inr other ↦
+        shifts.stays ((get_or rows j d).m -ℤ pos i) ((get_or rows j d).a -ℤ pos i)
+        (so_far.there j d i (omega arith) le)
   ];
 }
 
 -- a row that stands i steps up
-steps_up : (row : TableRow) (m a : ℤ) (i : ℕ) → stands_at row (m +ℤ pos i) (a +ℤ pos i) ≡ true → (row.m -ℤ pos i ≡ m) × (row.a -ℤ pos i ≡ a)
-steps_up row m a i s = let degrees = degrees_of row (m +ℤ pos i) (a +ℤ pos i) s in (back row.m m i degrees.0, back row.a a i degrees.1)
+steps_up : (row : TableRow) (m a : ℤ) (i : ℕ) → stands_at row (m +ℤ pos i) (a +ℤ pos i) ≡ true
+    → (row.m -ℤ pos i ≡ m) × (row.a -ℤ pos i ≡ a)
+steps_up row m a i s = let degrees = degrees_of row (m +ℤ pos i) (a +ℤ pos i) s in
+    (back row.m m i degrees.0, back row.a a i degrees.1)
   where
     back : (x z : ℤ) (i : ℕ) → x ≡ z +ℤ pos i → x -ℤ pos i ≡ z
     back x z i e = omega (arith, ints)
 
 -- where the product has a row, a step down from a row of the table leads there
-pub product-step : (k : ℕ) (rows : List TableRow) (m a : ℤ) → 0 < product_rank k rows m a → (i : ℕ) × (i ≤ k) × (j : ℕ) × (j < length rows) × ((d : TableRow) → ((get_or rows j d).m -ℤ pos i ≡ m) × ((get_or rows j d).a -ℤ pos i ≡ a))
+pub product-step : (k : ℕ) (rows : List TableRow) (m a : ℤ) → 0 < product_rank k rows m a
+    → (i : ℕ) × (i ≤ k) × (j : ℕ) × (j < length rows)
+    × ((d : TableRow) → ((get_or rows j d).m -ℤ pos i ≡ m) × ((get_or rows j d).a -ℤ pos i ≡ a))
 product-step k rows m a h =
     let t = product-found k rows m a h in
     let r = row_found rows (m +ℤ pos t.0) (a +ℤ pos t.0) t.2 in
@@ -280,11 +324,13 @@ rows-product k rows part all m a = elim (all.so_far.ranks m a) [
         let t = product-step k rows m a positive in
         let d : TableRow = record { m = m; a = a; rank = 0 } in
         let at = t.4 d in
-        let place : rank_at part ((get_or rows t.2 d).m -ℤ pos t.0) ((get_or rows t.2 d).a -ℤ pos t.0) ≡ rank_at part m a = λ i. rank_at part (at.0 i) (at.1 i) in
+        let place : rank_at part ((get_or rows t.2 d).m -ℤ pos t.0) ((get_or rows t.2 d).a -ℤ pos t.0)
+        ≡ rank_at part m a = λ i. rank_at part (at.0 i) (at.1 i) in
         omega (arith, all.there t.2 d t.0 t.3 t.1)
 
 -- and they are a table
-pub rows-table : (k : ℕ) (rows part : List TableRow) → k ≤ 16 → AreOrdered rows → All (λ row. row.rank ≤ 2 ^ 32) rows → IsPartOfProduct k rows part → IsTable part
+pub rows-table : (k : ℕ) (rows part : List TableRow) → k ≤ 16 → AreOrdered rows → All (λ row. row.rank ≤ 2 ^ 32) rows
+    → IsPartOfProduct k rows part → IsTable part
 rows-table k rows part l ordered small held = record {
   ordered = held.positive.ordered;
   ranks = λ i d within.

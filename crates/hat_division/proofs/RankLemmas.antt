@@ -34,7 +34,8 @@ order_of p q = elim (cases_Bool (comes_before p q)) [
     together : (p q : TableRow) → comes_before p q ≡ false → comes_before q p ≡ false → stands_at q p.m p.a ≡ true
     together p q h k = grind (arith, ints)
 
-pub comes_before-transitive : (p q r : TableRow) → comes_before p q ≡ true → comes_before q r ≡ true → comes_before p r ≡ true
+pub comes_before-transitive : (p q r : TableRow) → comes_before p q ≡ true → comes_before q r ≡ true
+    → comes_before p r ≡ true
 comes_before-transitive p q r h k = grind (arith, ints)
 
 -- the degrees of a row
@@ -61,11 +62,13 @@ pub later_not_higher : (p q : TableRow) (m a : ℤ) → comes_before p q ≡ tru
 later_not_higher p q m a h l = grind (arith, ints)
 
 -- what comes before a row comes before each row in its bidegree, and so does a row in the bidegree of the first
-pub comes_before-degrees : (p q r s : TableRow) → comes_before p q ≡ true → stands_at r p.m p.a ≡ true → stands_at s q.m q.a ≡ true → comes_before r s ≡ true
+pub comes_before-degrees : (p q r s : TableRow) → comes_before p q ≡ true → stands_at r p.m p.a ≡ true
+    → stands_at s q.m q.a ≡ true → comes_before r s ≡ true
 comes_before-degrees p q r s h e f = grind (arith, ints)
 
 -- ---- ranks
-pub rank_at-cons : (row : TableRow) (rows : List TableRow) (m a : ℤ) → rank_at (row ∷ rows) m a ≡ part_at row m a + rank_at rows m a
+pub rank_at-cons : (row : TableRow) (rows : List TableRow) (m a : ℤ)
+    → rank_at (row ∷ rows) m a ≡ part_at row m a + rank_at rows m a
 unfolding rank_at
 rank_at-cons row rows m a = sum_by-cons (λ r. part_at r m a) row rows
 
@@ -73,19 +76,23 @@ pub rank_at-nil : (m a : ℤ) → rank_at [] m a ≡ 0
 unfolding rank_at
 rank_at-nil m a = refl
 
-pub rank_at-push : (rows : List TableRow) (row : TableRow) (m a : ℤ) → rank_at (rows ++ row ∷ []) m a ≡ rank_at rows m a + part_at row m a
+pub rank_at-push : (rows : List TableRow) (row : TableRow) (m a : ℤ)
+    → rank_at (rows ++ row ∷ []) m a ≡ rank_at rows m a + part_at row m a
 unfolding rank_at
 rank_at-push rows row m a = sum_by_push (λ r. part_at r m a) rows row
 
-pub rank_at-insert : (rows : List TableRow) (i : ℕ) (row : TableRow) (m a : ℤ) → rank_at (insert rows i row) m a ≡ rank_at rows m a + part_at row m a
+pub rank_at-insert : (rows : List TableRow) (i : ℕ) (row : TableRow) (m a : ℤ)
+    → rank_at (insert rows i row) m a ≡ rank_at rows m a + part_at row m a
 unfolding rank_at
 rank_at-insert rows i row m a = sum_by-insert (λ r. part_at r m a) rows i row
 
-pub rank_at-more : (rows : List TableRow) (i : ℕ) (d : TableRow) (m a : ℤ) → i < length rows → rank_at (take (i + 1) rows) m a ≡ rank_at (take i rows) m a + part_at (get_or rows i d) m a
+pub rank_at-more : (rows : List TableRow) (i : ℕ) (d : TableRow) (m a : ℤ) → i < length rows
+    → rank_at (take (i + 1) rows) m a ≡ rank_at (take i rows) m a + part_at (get_or rows i d) m a
 unfolding rank_at
 rank_at-more rows i d m a l = sum_by_more (λ r. part_at r m a) rows i d l
 
-pub rank_at-take-drop : (rows : List TableRow) (i : ℕ) (m a : ℤ) → rank_at (take i rows) m a + rank_at (drop i rows) m a ≡ rank_at rows m a
+pub rank_at-take-drop : (rows : List TableRow) (i : ℕ) (m a : ℤ)
+    → rank_at (take i rows) m a + rank_at (drop i rows) m a ≡ rank_at rows m a
 unfolding rank_at
 rank_at-take-drop rows i m a = sum_by-take-drop (λ r. part_at r m a) rows i
 
@@ -96,18 +103,26 @@ pub part_at-elsewhere : (row : TableRow) (m a : ℤ) → stands_at row m a ≡ f
 part_at-elsewhere row m a s = cond-false (stands_at row m a) row.rank 0 s
 
 -- a row has at most the rank in its bidegree
-pub rank_at-le : (rows : List TableRow) (i : ℕ) (d : TableRow) (m a : ℤ) → i < length rows → stands_at (get_or rows i d) m a ≡ true → (get_or rows i d).rank ≤ rank_at rows m a
+pub rank_at-le : (rows : List TableRow) (i : ℕ) (d : TableRow) (m a : ℤ) → i < length rows
+    → stands_at (get_or rows i d) m a ≡ true → (get_or rows i d).rank ≤ rank_at rows m a
 unfolding rank_at
-rank_at-le rows i d m a l s = omega (arith, get_or-le-sum_by (λ r. part_at r m a) rows i d l, part_at-here (get_or rows i d) m a s)
+rank_at-le rows i d m a l s =
+    omega (arith, get_or-le-sum_by (λ r. part_at r m a) rows i d l, part_at-here (get_or rows i d) m a s)
 
 -- where no row is, the rank is 0
 pub rank_at-none : (rows : List TableRow) (m a : ℤ) → All (λ row. stands_at row m a ≡ false) rows → rank_at rows m a ≡ 0
 rank_at-none [] m a h = rank_at-nil m a
 rank_at-none (row ∷ rows) m a h =
-    omega (arith, rank_at-cons row rows m a, part_at-elsewhere row m a (All-head (λ r. stands_at r m a ≡ false) row rows h), rank_at-none rows m a (All-tail (λ r. stands_at r m a ≡ false) row rows h))
+    omega (
+      arith,
+      rank_at-cons row rows m a,
+      part_at-elsewhere row m a (All-head (λ r. stands_at r m a ≡ false) row rows h),
+      rank_at-none rows m a (All-tail (λ r. stands_at r m a ≡ false) row rows h),
+    )
 
 -- where the rank is above 0, there is a row
-pub row_found : (rows : List TableRow) (m a : ℤ) → 0 < rank_at rows m a → (i : ℕ) × (i < length rows) × ((d : TableRow) → stands_at (get_or rows i d) m a ≡ true)
+pub row_found : (rows : List TableRow) (m a : ℤ) → 0 < rank_at rows m a
+    → (i : ℕ) × (i < length rows) × ((d : TableRow) → stands_at (get_or rows i d) m a ≡ true)
 row_found [] m a h = absurd (omega (arith, rank_at-nil m a))
 row_found (row ∷ rows) m a h = elim (cases_Bool (stands_at row m a)) [
   | inl s ↦ (0, omega arith, λ d. s)
@@ -118,11 +133,14 @@ row_found (row ∷ rows) m a h = elim (cases_Bool (stands_at row m a)) [
 ]
 
 -- all rows after the first stand elsewhere
-tail_elsewhere : (row : TableRow) (rows : List TableRow) (m a : ℤ) → AreOrdered (row ∷ rows) → stands_at row m a ≡ true → rank_at rows m a ≡ 0
-tail_elsewhere row rows m a ordered s = rank_at-none rows m a (λ k d l. apart row (get_or rows k d) m a (ordered 0 (suc k) d (omega arith) (omega arith)) s)
+tail_elsewhere : (row : TableRow) (rows : List TableRow) (m a : ℤ) → AreOrdered (row ∷ rows) → stands_at row m a ≡ true
+    → rank_at rows m a ≡ 0
+tail_elsewhere row rows m a ordered s =
+    rank_at-none rows m a (λ k d l. apart row (get_or rows k d) m a (ordered 0 (suc k) d (omega arith) (omega arith)) s)
 
 -- in order, the rank is that of the one row
-pub rank_at-row : (rows : List TableRow) (i : ℕ) (d : TableRow) (m a : ℤ) → AreOrdered rows → i < length rows → stands_at (get_or rows i d) m a ≡ true → rank_at rows m a ≡ (get_or rows i d).rank
+pub rank_at-row : (rows : List TableRow) (i : ℕ) (d : TableRow) (m a : ℤ) → AreOrdered rows → i < length rows
+    → stands_at (get_or rows i d) m a ≡ true → rank_at rows m a ≡ (get_or rows i d).rank
 rank_at-row [] i d m a ordered l s = absurd (omega arith)
 rank_at-row (row ∷ rows) zero d m a ordered l s =
     omega (arith, rank_at-cons row rows m a, part_at-here row m a s, tail_elsewhere row rows m a ordered s)
@@ -135,12 +153,14 @@ rank_at-row (row ∷ rows) (suc i) d m a ordered l s =
     )
   where
     other : (stands_at row m a ≡ true) ⊎ (stands_at row m a ≡ false) → stands_at row m a ≡ false
-    other (inl e) = absurd (false≢true (sym (apart row (get_or rows i d) m a (ordered 0 (suc i) d (omega arith) l) e) ∙ s))
+    other (inl e) =
+        absurd (false≢true (sym (apart row (get_or rows i d) m a (ordered 0 (suc i) d (omega arith) l) e) ∙ s))
     other (inr e) = e
 
 -- ---- tables with the same ranks
 -- a row that stands before all others of a list stands in no bidegree of theirs
-before_all : (row next : TableRow) (rows : List TableRow) → AreOrdered (next ∷ rows) → comes_before row next ≡ true → rank_at (next ∷ rows) row.m row.a ≡ 0
+before_all : (row next : TableRow) (rows : List TableRow) → AreOrdered (next ∷ rows) → comes_before row next ≡ true
+    → rank_at (next ∷ rows) row.m row.a ≡ 0
 before_all row next rows ordered h = rank_at-none (next ∷ rows) row.m row.a each
   where
     each : All (λ r. stands_at r row.m row.a ≡ false) (next ∷ rows)
@@ -151,21 +171,38 @@ before_all row next rows ordered h = rank_at-none (next ∷ rows) row.m row.a ea
         (stands_itself row)
 
 -- the rank at the first row
-at_first : (row : TableRow) (rows : List TableRow) → AreOrdered (row ∷ rows) → rank_at (row ∷ rows) row.m row.a ≡ row.rank
+at_first : (row : TableRow) (rows : List TableRow) → AreOrdered (row ∷ rows)
+    → rank_at (row ∷ rows) row.m row.a ≡ row.rank
 at_first row rows ordered = rank_at-row (row ∷ rows) 0 row row.m row.a ordered (omega arith) (stands_itself row)
 
 ArePositive-tail : (row : TableRow) (rows : List TableRow) → ArePositive (row ∷ rows) → ArePositive rows
-ArePositive-tail row rows h = record { ordered = AreOrdered-tail row rows h.ordered; positive = All-tail (λ r. 1 ≤ r.rank) row rows h.positive }
+ArePositive-tail row rows h =
+    record { ordered = AreOrdered-tail row rows h.ordered; positive = All-tail (λ r. 1 ≤ r.rank) row rows h.positive }
 
 first_positive : (row : TableRow) (rows : List TableRow) → ArePositive (row ∷ rows) → 1 ≤ row.rank
 first_positive row rows h = All-head (λ r. 1 ≤ r.rank) row rows h.positive
 
 -- the first rows are the same
-same_first : (p q : TableRow) (ps qs : List TableRow) → ArePositive (p ∷ ps) → ArePositive (q ∷ qs) → ((m a : ℤ) → rank_at (p ∷ ps) m a ≡ rank_at (q ∷ qs) m a) → p ≡ q
+same_first : (p q : TableRow) (ps qs : List TableRow) → ArePositive (p ∷ ps) → ArePositive (q ∷ qs)
+    → ((m a : ℤ) → rank_at (p ∷ ps) m a ≡ rank_at (q ∷ qs) m a) → p ≡ q
 same_first p q ps qs hp hq same = elim (order_of p q) [
-  | inl h ↦ absurd (omega (arith, same p.m p.a, at_first p ps hp.ordered, first_positive p ps hp, before_all p q qs hq.ordered h))
+  | inl h ↦
+      absurd (omega (
+        arith,
+        same p.m p.a,
+        at_first p ps hp.ordered,
+        first_positive p ps hp,
+        before_all p q qs hq.ordered h,
+      ))
   | inr other ↦ elim other [
-    | inl h ↦ absurd (omega (arith, same q.m q.a, at_first q qs hq.ordered, first_positive q qs hq, before_all q p ps hp.ordered h))
+    | inl h ↦
+        absurd (omega (
+          arith,
+          same q.m q.a,
+          at_first q qs hq.ordered,
+          first_positive q qs hq,
+          before_all q p ps hp.ordered h,
+        ))
     | inr s ↦
         let degrees = degrees_of q p.m p.a s in
         let ranks : p.rank ≡ q.rank =
@@ -175,10 +212,13 @@ same_first p q ps qs hp hq same = elim (order_of p q) [
 ]
 
 -- lists in order with the same ranks above 0 are equal
-pub same_rows : (ps qs : List TableRow) → ArePositive ps → ArePositive qs → ((m a : ℤ) → rank_at ps m a ≡ rank_at qs m a) → ps ≡ qs
+pub same_rows : (ps qs : List TableRow) → ArePositive ps → ArePositive qs
+    → ((m a : ℤ) → rank_at ps m a ≡ rank_at qs m a) → ps ≡ qs
 same_rows [] [] hp hq same = refl
-same_rows [] (q ∷ qs) hp hq same = absurd (omega (arith, same q.m q.a, rank_at-nil q.m q.a, at_first q qs hq.ordered, first_positive q qs hq))
-same_rows (p ∷ ps) [] hp hq same = absurd (omega (arith, same p.m p.a, rank_at-nil p.m p.a, at_first p ps hp.ordered, first_positive p ps hp))
+same_rows [] (q ∷ qs) hp hq same =
+    absurd (omega (arith, same q.m q.a, rank_at-nil q.m q.a, at_first q qs hq.ordered, first_positive q qs hq))
+same_rows (p ∷ ps) [] hp hq same =
+    absurd (omega (arith, same p.m p.a, rank_at-nil p.m p.a, at_first p ps hp.ordered, first_positive p ps hp))
 same_rows (p ∷ ps) (q ∷ qs) hp hq same =
     let first = same_first p q ps qs hp hq same in
     let later = same_rows ps qs (ArePositive-tail p ps hp) (ArePositive-tail q qs hq) (λ m a.

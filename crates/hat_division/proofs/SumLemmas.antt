@@ -19,7 +19,14 @@ sum_below-zero f = refl
 -- a sum of larger terms is larger
 pub sum_below-le : (n : ℕ) (f g : ℕ → ℕ) → ((i : ℕ) → i < n → f i ≤ g i) → sum_below n f ≤ sum_below n g
 sum_below-le zero f g h = omega (arith, sum_below-zero f, sum_below-zero g)
-sum_below-le (suc n) f g h = omega (arith, sum_below-suc n f, sum_below-suc n g, sum_below-le n f g (λ i l. h i (omega arith)), h n (omega arith))
+sum_below-le (suc n) f g h =
+    omega (
+      arith,
+      sum_below-suc n f,
+      sum_below-suc n g,
+      sum_below-le n f g (λ i l. h i (omega arith)),
+      h n (omega arith),
+    )
 
 -- a term is at most the sum
 pub term-le : (n i : ℕ) (f : ℕ → ℕ) → i < n → f i ≤ sum_below n f
@@ -40,12 +47,15 @@ term-found (suc n) f h = elim (cases_lt 0 (f n)) [
 -- multiples
 pub sum_below-scaled : (n b : ℕ) (f : ℕ → ℕ) → sum_below n (λ i. f i * b) ≡ sum_below n f * b
 sum_below-scaled zero b f = omega (arith, sum_below-zero (λ i. f i * b), ap (λ s. s * b) (sum_below-zero f))
-sum_below-scaled (suc n) b f = omega (arith, sum_below-suc n (λ i. f i * b), sum_below-scaled n b f, ap (λ s. s * b) (sum_below-suc n f))
+sum_below-scaled (suc n) b f =
+    omega (arith, sum_below-suc n (λ i. f i * b), sum_below-scaled n b f, ap (λ s. s * b) (sum_below-suc n f))
 
 -- two sums that differ in the first term alone
-pub sum_below-first : (n : ℕ) (f g : ℕ → ℕ) → g 0 ≡ 0 → ((i : ℕ) → f (suc i) ≡ g (suc i)) → sum_below (suc n) f ≡ f 0 + sum_below (suc n) g
+pub sum_below-first : (n : ℕ) (f g : ℕ → ℕ) → g 0 ≡ 0 → ((i : ℕ) → f (suc i) ≡ g (suc i))
+    → sum_below (suc n) f ≡ f 0 + sum_below (suc n) g
 sum_below-first zero f g e h = omega (arith, sum_below-suc 0 f, sum_below-suc 0 g, sum_below-zero f, sum_below-zero g)
-sum_below-first (suc n) f g e h = omega (arith, sum_below-suc (suc n) f, sum_below-suc (suc n) g, sum_below-first n f g e h, h n)
+sum_below-first (suc n) f g e h =
+    omega (arith, sum_below-suc (suc n) f, sum_below-suc (suc n) g, sum_below-first n f g e h, h n)
 
 -- ---- binomial coefficients
 pub binomial-none : (n : ℕ) → binomial n 0 ≡ 1
@@ -71,17 +81,38 @@ binomial-positive (suc n) (suc i) l = omega (arith, pascal n i, binomial-positiv
 binomial-above : (n i : ℕ) → n < i → binomial n i ≡ 0
 binomial-above n zero l = absurd (omega arith)
 binomial-above zero (suc i) l = binomial-start i
-binomial-above (suc n) (suc i) l = omega (arith, pascal n i, binomial-above n i (omega arith), binomial-above n (suc i) (omega arith))
+binomial-above (suc n) (suc i) l =
+    omega (arith, pascal n i, binomial-above n i (omega arith), binomial-above n (suc i) (omega arith))
 
 -- the coefficients of one power add up to at most 2^k
-sum-pascal : (k n : ℕ) → sum_below (suc n) (binomial (suc k)) ≡ sum_below n (binomial k) + sum_below (suc n) (binomial k)
-sum-pascal k zero = omega (arith, sum_below-suc 0 (binomial (suc k)), sum_below-suc 0 (binomial k), sum_below-zero (binomial (suc k)), sum_below-zero (binomial k), binomial-none k, binomial-none (suc k))
-sum-pascal k (suc n) = omega (arith, sum_below-suc (suc n) (binomial (suc k)), sum_below-suc (suc n) (binomial k), sum_below-suc n (binomial k), sum-pascal k n, pascal k n)
+sum-pascal : (k n : ℕ)
+    → sum_below (suc n) (binomial (suc k)) ≡ sum_below n (binomial k) + sum_below (suc n) (binomial k)
+sum-pascal k zero =
+    omega (
+      arith,
+      sum_below-suc 0 (binomial (suc k)),
+      sum_below-suc 0 (binomial k),
+      sum_below-zero (binomial (suc k)),
+      sum_below-zero (binomial k),
+      binomial-none k,
+      binomial-none (suc k),
+    )
+sum-pascal k (suc n) =
+    omega (
+      arith,
+      sum_below-suc (suc n) (binomial (suc k)),
+      sum_below-suc (suc n) (binomial k),
+      sum_below-suc n (binomial k),
+      sum-pascal k n,
+      pascal k n,
+    )
 
 pub sum-binomials : (k n : ℕ) → sum_below n (binomial k) ≤ 2 ^ k
 sum-binomials k zero = omega (arith, sum_below-zero (binomial k))
-sum-binomials zero (suc zero) = omega (arith, sum_below-suc 0 (binomial 0), sum_below-zero (binomial 0), binomial-none 0)
-sum-binomials zero (suc (suc n)) = omega (arith, sum_below-suc (suc n) (binomial 0), sum-binomials zero (suc n), binomial-start n)
+sum-binomials zero (suc zero) =
+    omega (arith, sum_below-suc 0 (binomial 0), sum_below-zero (binomial 0), binomial-none 0)
+sum-binomials zero (suc (suc n)) =
+    omega (arith, sum_below-suc (suc n) (binomial 0), sum-binomials zero (suc n), binomial-start n)
 sum-binomials (suc k) (suc n) = omega (arith, sum-pascal k n, sum-binomials k n, sum-binomials k (suc n), pow-suc 2 k)
 
 -- one coefficient is at most their sum

@@ -4,13 +4,13 @@
 --     AreOrdered rows     the rows are in this order, and no degree comes twice
 --     HasRank row         the rank of the row is from 1 to 2^48
 --     IsTable rows        the rows are in this order, no degree comes twice, and each has a rank
-use Rattle.std.specs.Prelude.{◌≤◌, ◌^◌, Bool, ◌&&◌, ◌||◌, int_lt, List, IsTrue}
+use Rattle.std.specs.Prelude.{◌≤◌, ◌^◌, Bool, List, IsTrue}
 use Rattle.std.specs.List.{All, AllPairs}
-use Rattle.std.specs.Ordering.{int_eq}
+use Rattle.f2_algebra.specs.Bigraded.{stands_before}
 use Rattle.hat_division.specs.declared.tables.TableRow.{TableRow}
 
 abbrev pub comes_before : TableRow → TableRow → Bool
-comes_before p q = int_lt q.a p.a || (int_eq q.a p.a && int_lt q.m p.m)
+comes_before p q = stands_before (p.m, p.a) (q.m, q.a)
 
 abbrev pub AreOrdered : List TableRow → Type 0
 AreOrdered rows = AllPairs (λ p q. IsTrue (comes_before p q)) rows

@@ -15,11 +15,11 @@
 --     entry_count cells     the number of entries: the cells, the cycle pairs and the step pairs
 --     IsCertificate c       the grid is one of size at most six; the cells stand in order, no bidegree twice, with small
 --                           degrees and with sets of states; there are fewer than 2^32 - 1 entries
-use Rattle.std.specs.Prelude.{ℕ, ◌+◌, ◌-◌, ◌^◌, ◌<◌, ◌≤◌, ℤ, Bool, ◌&&◌, ◌||◌, int_lt, List, length, IsTrue, refl}
+use Rattle.std.specs.Prelude.{ℕ, ◌+◌, ◌-◌, ◌^◌, ◌<◌, ◌≤◌, ℤ, Bool, List, length, IsTrue, refl}
 use Rattle.std.specs.List.{All, AllPairs, sum_by}
-use Rattle.std.specs.Ordering.{int_eq}
 use Rattle.std.specs.Coded.{Coded, code_by, coded×, coded_list, coded_ℕ, coded_ℤ}
 use Rattle.std.specs.FinSet as finite_set
+use Rattle.f2_algebra.specs.Bigraded.{stands_before}
 use Rattle.f2_algebra.specs.Chain.{Chain, codes}
 use Rattle.f2_algebra.specs.Certificate.{CyclePair, StepPair, CertCell}
 use Rattle.state_rank.specs.States.{factorial}
@@ -57,7 +57,7 @@ certificate_code =
 
 -- ---- certificates
 abbrev pub comes_first : Cell → Cell → Bool
-comes_first p q = int_lt q.at.1 p.at.1 || (int_eq q.at.1 p.at.1 && int_lt q.at.0 p.at.0)
+comes_first p q = stands_before p.at q.at
 
 pub record HasSmallDegrees (d : ℤ × ℤ) : Type 0 where
   pub maslov : IsSmallDegree d.0

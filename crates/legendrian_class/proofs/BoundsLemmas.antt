@@ -20,40 +20,52 @@ use Rattle.legendrian_class.specs.Bounds.{Bounds, minus_chain, plus_chain}
 use Rattle.legendrian_class.specs.States.{HasStates}
 
 -- the image of a chain of states has states of the exchanged grid
-HasStates-image : (axis : Axis) (g : Marks) → IsGrid g → (c : ℕ) (corner : Corner) (z : Chain) → HasStates (swapped axis g c) (image axis g c corner z)
-HasStates-image axis g s c corner z = All-codes (λ k. k < factorial (size (swapped axis g c))) (image axis g c corner z) (λ k held.
+HasStates-image : (axis : Axis) (g : Marks) → IsGrid g → (c : ℕ) (corner : Corner) (z : Chain)
+    → HasStates (swapped axis g c) (image axis g c corner z)
+HasStates-image axis g s c corner z =
+    All-codes (λ k. k < factorial (size (swapped axis g c))) (image axis g c corner z) (λ k held.
     let same = ap factorial (size-swapped axis g c) in
     let below = image-below axis g s c corner z k held in
     omega arith)
 
 -- the same of a grid and a chain that are the exchanged grid and the image
-pub HasStates-exchanged : (axis : Axis) (g h : Marks) (c : ℕ) (corner : Corner) (z y : Chain) → IsGrid g → h ≡ swapped axis g c → y ≡ image axis g c corner z → HasStates h y
-HasStates-exchanged axis g h c corner z y s of_h of_y = subst (λ k. HasStates k y) (sym of_h) (subst (HasStates (swapped axis g c)) (sym of_y) (HasStates-image axis g s c corner z))
+pub HasStates-exchanged : (axis : Axis) (g h : Marks) (c : ℕ) (corner : Corner) (z y : Chain) → IsGrid g
+    → h ≡ swapped axis g c → y ≡ image axis g c corner z → HasStates h y
+HasStates-exchanged axis g h c corner z y s of_h of_y =
+    subst (λ k. HasStates k y) (sym of_h)
+    (subst (HasStates (swapped axis g c)) (sym of_y) (HasStates-image axis g s c corner z))
 
 module _ (axis : Axis) (c : ℕ) (corner : Corner) (class : Marks → Chain)
-    (carried : (g : Marks) → IsGrid g → c < size g → are_commuting axis g c ≡ true → image axis g c corner (class g) ≡ class (swapped axis g c)) where
+    (carried : (g : Marks) → IsGrid g → c < size g → are_commuting axis g c ≡ true
+    → image axis g c corner (class g) ≡ class (swapped axis g c)) where
   -- where the class bounds, it bounds in the exchanged grid
-  there : (g : Marks) → IsGrid g → c < size g → are_commuting axis g c ≡ true → Bounds g (class g) → Bounds (swapped axis g c) (class (swapped axis g c))
+  there : (g : Marks) → IsGrid g → c < size g → are_commuting axis g c ≡ true → Bounds g (class g)
+      → Bounds (swapped axis g c) (class (swapped axis g c))
   there g s l h (b, is) = (
     image axis g c corner b,
     record {
       states = HasStates-image axis g s c corner b;
-      is_border = sym (image-border axis g s c l h corner b) ∙ ap (image axis g c corner) is.is_border ∙ carried g s l h;
+      is_border =
+          sym (image-border axis g s c l h corner b) ∙ ap (image axis g c corner) is.is_border ∙ carried g s l h;
     },
   )
 
   -- and the other way round
-  alike : (g : Marks) → IsGrid g → c < size g → are_commuting axis g c ≡ true → Bounds g (class g) ↔ Bounds (swapped axis g c) (class (swapped axis g c))
+  alike : (g : Marks) → IsGrid g → c < size g → are_commuting axis g c ≡ true
+      → Bounds g (class g) ↔ Bounds (swapped axis g c) (class (swapped axis g c))
   alike g s l h = (
     there g s l h,
     λ bounds. subst (λ k. Bounds k (class k)) (swapped-swapped axis g s c l)
-        (there (swapped axis g c) (IsGrid-swapped axis g s c l) (let e = size-swapped axis g c in omega arith) (are_commuting-swapped axis g s c l h) bounds),
+        (there (swapped axis g c) (IsGrid-swapped axis g s c l) (let e = size-swapped axis g c in omega arith)
+        (are_commuting-swapped axis g s c l h) bounds),
   )
 
 pub plus_bounds_alike : (axis : Axis) (g : Marks) → IsGrid g → (c : ℕ) → c < size g → are_commuting axis g c ≡ true
     → Bounds g (plus_chain g) ↔ Bounds (swapped axis g c) (plus_chain (swapped axis g c))
-plus_bounds_alike axis g s c l h = alike axis c Over plus_chain (λ k sk lk hk. image-plus_state axis k sk c lk hk) g s l h
+plus_bounds_alike axis g s c l h =
+    alike axis c Over plus_chain (λ k sk lk hk. image-plus_state axis k sk c lk hk) g s l h
 
 pub minus_bounds_alike : (axis : Axis) (g : Marks) → IsGrid g → (c : ℕ) → c < size g → are_commuting axis g c ≡ true
     → Bounds g (minus_chain g) ↔ Bounds (swapped axis g c) (minus_chain (swapped axis g c))
-minus_bounds_alike axis g s c l h = alike axis c Under minus_chain (λ k sk lk hk. image-minus_state axis k sk c lk hk) g s l h
+minus_bounds_alike axis g s c l h =
+    alike axis c Under minus_chain (λ k sk lk hk. image-minus_state axis k sk c lk hk) g s l h

@@ -12,7 +12,8 @@ use Rattle.f2_algebra.proofs.Chains.Lists.{of_codes-cons, rising-codes, rises}
 use Rattle.legendrian_class.specs.Inner.Parts.{IsLeast}
 
 -- ---- each code
-each_in : (P : ℕ → Type 0) (xs : List ℕ) → ((k : ℕ) → k < length xs → P (slice_index xs k)) → (s : ℕ) → any s xs ≡ true → P s
+each_in : (P : ℕ → Type 0) (xs : List ℕ) → ((k : ℕ) → k < length xs → P (slice_index xs k)) → (s : ℕ) → any s xs ≡ true
+    → P s
 each_in P [] all s is = absurd (false≢true is)
 each_in P (x ∷ xs) all s is = elim (cases_Bool (eqb s x)) [
   | inl same ↦ subst P (sym (eqb-true s x same)) (all 0 (omega arith))
@@ -24,11 +25,13 @@ pub each_code : (P : ℕ → Type 0) (z : Chain) → All P (codes z) → (s : �
 each_code P z all s is = each_in P (codes z) (λ k l. all k 0 l) s (sym (holds-codes z s) ∙ is)
 
 -- ---- the least code
-first_place : (x : ℕ) (xs : List ℕ) → IsStrictlyIncreasing (x ∷ xs) → (k : ℕ) → k < length (x ∷ xs) → x ≤ slice_index (x ∷ xs) k
+first_place : (x : ℕ) (xs : List ℕ) → IsStrictlyIncreasing (x ∷ xs) → (k : ℕ) → k < length (x ∷ xs)
+    → x ≤ slice_index (x ∷ xs) k
 first_place x xs up zero l = omega arith
 first_place x xs up (suc k) l = let h = rises (x ∷ xs) up 0 (suc k) (omega arith) l in omega arith
 
-first_of : (z : Chain) (xs : List ℕ) → codes z ≡ xs → IsStrictlyIncreasing xs → IfSome (slice_get xs 0) (IsLeast z) × (IsNone (slice_get xs 0) → z ≡ nothing)
+first_of : (z : Chain) (xs : List ℕ) → codes z ≡ xs → IsStrictlyIncreasing xs
+    → IfSome (slice_get xs 0) (IsLeast z) × (IsNone (slice_get xs 0) → z ≡ nothing)
 first_of z [] is up = (tt, λ _. same_chain z nothing (λ q. holds-codes z q ∙ ap (any q) is ∙ sym (holds-nothing q)))
 first_of z (x ∷ xs) is up = (
   (
@@ -52,24 +55,30 @@ abbrev pub selected : (ℕ → Bool) → Chain → List ℕ → Chain
 selected test z [] = z
 selected test z (x ∷ xs) = selected test (cond (test x) (z ⊕ single x) z) xs
 
-kept : (b : Bool) (z : Chain) (x : ℕ) (xs : List ℕ) → any x xs ≡ false → cond b (z ⊕ single x) z ⊕ of_codes xs ≡ z ⊕ of_codes (cond b (x ∷ xs) xs)
+kept : (b : Bool) (z : Chain) (x : ℕ) (xs : List ℕ) → any x xs ≡ false
+    → cond b (z ⊕ single x) z ⊕ of_codes xs ≡ z ⊕ of_codes (cond b (x ∷ xs) xs)
 kept true z x xs new = add_assoc z (single x) (of_codes xs) ∙ ap (λ c. z ⊕ c) (sym (of_codes-cons x xs new))
 kept false z x xs new = refl
 
-selected-sum : (test : ℕ → Bool) (z : Chain) (xs : List ℕ) → IsApart xs → selected test z xs ≡ z ⊕ of_codes (filter test xs)
+selected-sum : (test : ℕ → Bool) (z : Chain) (xs : List ℕ) → IsApart xs
+    → selected test z xs ≡ z ⊕ of_codes (filter test xs)
 selected-sum test z [] apart = sym (add-nothing z)
 selected-sum test z (x ∷ xs) apart =
     selected-sum test (cond (test x) (z ⊕ single x) z) xs apart.1
     ∙ kept (test x) z x (filter test xs) (any-filter x test xs ∙ ap (λ b. b && test x) apart.0)
 
 -- one code more
-pub selected-next : (test : ℕ → Bool) (xs : List ℕ) (k : ℕ) (z w all : Chain) (b : Bool) → k < length xs → selected test z (drop k xs) ≡ all → b ≡ test (slice_index xs k) → w ≡ cond b (z ⊕ single (slice_index xs k)) z → selected test w (drop (k + 1) xs) ≡ all
+pub selected-next : (test : ℕ → Bool) (xs : List ℕ) (k : ℕ) (z w all : Chain) (b : Bool) → k < length xs
+    → selected test z (drop k xs) ≡ all → b ≡ test (slice_index xs k) → w ≡ cond b (z ⊕ single (slice_index xs k)) z
+    → selected test w (drop (k + 1) xs) ≡ all
 selected-next test xs k z w all b within so_far is step =
-    ap₂ (λ u ys. selected test u ys) (step ∙ ap (λ t. cond t (z ⊕ single (slice_index xs k)) z) is) (ap (λ n. drop n xs) (add-one k))
+    ap₂ (λ u ys. selected test u ys) (step ∙ ap (λ t. cond t (z ⊕ single (slice_index xs k)) z) is)
+    (ap (λ n. drop n xs) (add-one k))
     ∙ ap (selected test z) (sym (drop-cons xs k 0 within)) ∙ so_far
 
 -- all of them
-pub selected-all : (test : ℕ → Bool) (z w : Chain) (xs : List ℕ) (k : ℕ) → xs ≡ codes z → k ≡ length xs → selected test w (drop k xs) ≡ selected test nothing xs → w ≡ where_code test z
+pub selected-all : (test : ℕ → Bool) (z w : Chain) (xs : List ℕ) (k : ℕ) → xs ≡ codes z → k ≡ length xs
+    → selected test w (drop k xs) ≡ selected test nothing xs → w ≡ where_code test z
 unfolding where_code
 selected-all test z w xs k is all so_far =
     ap (selected test w) (sym (ap (λ n. drop n xs) all ∙ drop-length xs)) ∙ so_far
@@ -82,38 +91,46 @@ length-filter : (test : ℕ → Bool) (xs : List ℕ) → length (filter test xs
 length-filter test [] = omega arith
 length-filter test (x ∷ xs) = by (test x) (length-filter test xs)
   where
-    by : (b : Bool) → length (filter test xs) ≤ length xs → length (cond b (x ∷ filter test xs) (filter test xs)) ≤ suc (length xs)
+    by : (b : Bool) → length (filter test xs) ≤ length xs
+        → length (cond b (x ∷ filter test xs) (filter test xs)) ≤ suc (length xs)
     by true l = omega arith
     by false l = omega arith
 
-shorter : (test : ℕ → Bool) (xs : List ℕ) (s : ℕ) → any s xs ≡ true → test s ≡ false → length (filter test xs) < length xs
+shorter : (test : ℕ → Bool) (xs : List ℕ) (s : ℕ) → any s xs ≡ true → test s ≡ false
+    → length (filter test xs) < length xs
 shorter test [] s is fails = absurd (false≢true is)
 shorter test (x ∷ xs) s is fails = elim (cases_Bool (eqb s x)) [
   | inl same ↦ at_head (test x) (sym (ap test (eqb-true s x same)) ∙ fails) (length-filter test xs)
   | inr other ↦ in_tail (test x) (shorter test xs s (sym (ap (λ b. b || any s xs) other) ∙ is) fails)
 ]
   where
-    at_head : (b : Bool) → b ≡ false → length (filter test xs) ≤ length xs → length (cond b (x ∷ filter test xs) (filter test xs)) < suc (length xs)
+    at_head : (b : Bool) → b ≡ false → length (filter test xs) ≤ length xs
+        → length (cond b (x ∷ filter test xs) (filter test xs)) < suc (length xs)
     at_head true e l = absurd (false≢true (sym e))
     at_head false e l = omega arith
 
-    in_tail : (b : Bool) → length (filter test xs) < length xs → length (cond b (x ∷ filter test xs) (filter test xs)) < suc (length xs)
+    in_tail : (b : Bool) → length (filter test xs) < length xs
+        → length (cond b (x ∷ filter test xs) (filter test xs)) < suc (length xs)
     in_tail true l = omega arith
     in_tail false l = omega arith
 
 apart-filter : (test : ℕ → Bool) (xs : List ℕ) → IsApart xs → IsApart (filter test xs)
 apart-filter test [] apart = tt
-apart-filter test (x ∷ xs) apart = by (test x) (any-filter x test xs ∙ ap (λ b. b && test x) apart.0) (apart-filter test xs apart.1)
+apart-filter test (x ∷ xs) apart =
+    by (test x) (any-filter x test xs ∙ ap (λ b. b && test x) apart.0) (apart-filter test xs apart.1)
   where
-    by : (b : Bool) → any x (filter test xs) ≡ false → IsApart (filter test xs) → IsApart (cond b (x ∷ filter test xs) (filter test xs))
+    by : (b : Bool) → any x (filter test xs) ≡ false → IsApart (filter test xs)
+        → IsApart (cond b (x ∷ filter test xs) (filter test xs))
     by true new rest = (new, rest)
     by false new rest = rest
 
 -- where one code fails the test, fewer pass it
-pub fewer-where : (test : ℕ → Bool) (z : Chain) (s : ℕ) → holds z s ≡ true → test s ≡ false → length (codes (where_code test z)) < length (codes z)
+pub fewer-where : (test : ℕ → Bool) (z : Chain) (s : ℕ) → holds z s ≡ true → test s ≡ false
+    → length (codes (where_code test z)) < length (codes z)
 unfolding where_code
 fewer-where test z s is fails =
     let less = shorter test (codes z) s (sym (holds-codes z s) ∙ is) fails in
     let count : length (codes (of_codes (filter test (codes z)))) ≡ length (filter test (codes z)) =
-    sym (cardinality-length (of_codes (filter test (codes z)))) ∙ cardinality-of_codes (filter test (codes z)) (apart-filter test (codes z) (IsApart-codes z)) in
+    sym (cardinality-length (of_codes (filter test (codes z))))
+    ∙ cardinality-of_codes (filter test (codes z)) (apart-filter test (codes z) (IsApart-codes z)) in
     omega arith

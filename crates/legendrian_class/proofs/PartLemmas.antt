@@ -30,7 +30,8 @@ use Rattle.legendrian_class.specs.Inner.Parts.{has_alexander, IsNullBut}
 use Rattle.legendrian_class.proofs.ChainLemmas.{each_code, fewer-where}
 
 -- ---- the verdict of a cycle by a log
-module _ (C : Complex ℤ) (old new : Slice) (log : List Entry) (z : Chain) (built : slice_complex old ≡ C) (reduced : IsReduced old new log) (rules : IsComplex C) (cycle : border C z ≡ nothing) where
+module _ (C : Complex ℤ) (old new : Slice) (log : List Entry) (z : Chain) (built : slice_complex old ≡ C)
+    (reduced : IsReduced old new log) (rules : IsComplex C) (cycle : border C z ≡ nothing) where
   stands : IsLog C log
   stands = subst (λ D. IsLog D log) built reduced.stands
 
@@ -39,11 +40,14 @@ module _ (C : Complex ℤ) (old new : Slice) (log : List Entry) (z : Chain) (bui
 
   -- a cycle of which nothing is left is null by its correction
   pub null-pushed : (b : Chain) → rest log z ≡ nothing → b ≡ correction log z → IsNullBy C z b
-  null-pushed b none is = subst (IsNullBy C z) (sym (is ∙ correction-by log z)) (null_by_correction C rules log stands bare z cycle none)
+  null-pushed b none is =
+      subst (IsNullBy C z) (sym (is ∙ correction-by log z)) (null_by_correction C rules log stands bare z cycle none)
 
   -- a cycle of which s is left is alive by the pull of s
-  pub alive-pulled : (f : Chain) (s : ℕ) → AllCells C z → holds (rest log z) s ≡ true → f ≡ pull log (single s) → IsAliveBy C z f
-  alive-pulled f s cells left is = subst (IsAliveBy C z) (sym is) (alive_by_pull C rules log stands bare z cycle cells s left)
+  pub alive-pulled : (f : Chain) (s : ℕ) → AllCells C z → holds (rest log z) s ≡ true → f ≡ pull log (single s)
+      → IsAliveBy C z f
+  alive-pulled f s cells left is =
+      subst (IsAliveBy C z) (sym is) (alive_by_pull C rules log stands bare z cycle cells s left)
 
 -- ---- the part at an Alexander degree
 module _ (g : Marks) (a : ℤ) where
@@ -51,10 +55,13 @@ module _ (g : Marks) (a : ℤ) where
   slice = at_second a (grid_complex g)
 
   -- a state is a cell of the slice exactly where it has the degree
-  pub cell-degree : (s : ℕ) → s < factorial (size g) → is_some ((at_second a (grid_complex g)).degree s) ≡ has_alexander g a s
+  pub cell-degree : (s : ℕ) → s < factorial (size g)
+      → is_some ((at_second a (grid_complex g)).degree s) ≡ has_alexander g a s
   cell-degree s below = elim (cases_Bool (has_alexander g a s)) [
     | inl is ↦ ap is_some (degree-cell g a s below ((Decides-int_eq (alexander_at g s) a).0 is)) ∙ sym is
-    | inr is_not ↦ ap is_some (degree-other g a s below (λ e. false≢true (sym is_not ∙ (Decides-int_eq (alexander_at g s) a).1 e))) ∙ sym is_not
+    | inr is_not ↦
+        ap is_some (degree-other g a s below (λ e. false≢true
+        (sym is_not ∙ (Decides-int_eq (alexander_at g s) a).1 e))) ∙ sym is_not
   ]
 
   module _ (grid : IsGrid g) (z : Chain) (states : HasStates g z) where
@@ -64,7 +71,8 @@ module _ (g : Marks) (a : ℤ) where
     -- the part is a chain of cells of the slice
     pub part-cells : AllCells (at_second a (grid_complex g)) (where_code (has_alexander g a) z)
     part-cells s h =
-        let (in_z, is) = and_parts (holds z s) (has_alexander g a s) (sym (holds-where_code (has_alexander g a) z s) ∙ h) in
+        let (in_z, is) =
+        and_parts (holds z s) (has_alexander g a s) (sym (holds-where_code (has_alexander g a) z s) ∙ h) in
         cell-degree s (below_at s in_z) ∙ is
 
     rules_of : IsComplex (grid_complex g)
@@ -73,20 +81,24 @@ module _ (g : Marks) (a : ℤ) where
     arrow_cell : (s t : ℕ) → arrow slice s t ≡ true → is_some (slice.degree t) ≡ true
     arrow_cell s t h = let (m, above, below) = (part_rules g a grid).lowers s t h in ap is_some below
 
-    leaves_cell : (s t : ℕ) → is_some (slice.degree t) ≡ true → arrow (grid_complex g) s t ≡ true → is_some (slice.degree s) ≡ true
+    leaves_cell : (s t : ℕ) → is_some (slice.degree t) ≡ true → arrow (grid_complex g) s t ≡ true
+        → is_some (slice.degree s) ≡ true
     leaves_cell s t live h =
         let (d, above, below) = rules_of.lowers s t h in
         let at : first_at a (Some d) ≡ slice.degree t = ap (first_at a) (sym below) in
         second d (int_eq d.1 a) refl (ap is_some at ∙ live) (ap (first_at a) above)
       where
-        second : (d : ℤ × ℤ) (b : Bool) → int_eq d.1 a ≡ b → is_some (cond b (Some d.0) None) ≡ true → slice.degree s ≡ first_at a (Some ((grid_complex g).up d)) → is_some (slice.degree s) ≡ true
+        second : (d : ℤ × ℤ) (b : Bool) → int_eq d.1 a ≡ b → is_some (cond b (Some d.0) None) ≡ true
+            → slice.degree s ≡ first_at a (Some ((grid_complex g).up d)) → is_some (slice.degree s) ≡ true
         second d true e l at_s = ap is_some (at_s ∙ ap (λ b. cond b (Some ((grid_complex g).up d).0) None) e)
         second d false e l at_s = absurd (false≢true l)
 
-    one_arrow : (s t : ℕ) → holds z s ≡ true → is_some (slice.degree t) ≡ true → (has_alexander g a s && arrow slice s t) ≡ arrow (grid_complex g) s t
+    one_arrow : (s t : ℕ) → holds z s ≡ true → is_some (slice.degree t) ≡ true
+        → (has_alexander g a s && arrow slice s t) ≡ arrow (grid_complex g) s t
     one_arrow s t in_z live = elim (cases_Bool (is_some (slice.degree s))) [
       | inl cell ↦
-          ap₂ ◌&&◌ (sym (cell-degree s (below_at s in_z)) ∙ cell) (ap (λ b. holds (cond b ((grid_complex g).targets s) nothing) t) cell)
+          ap₂ ◌&&◌ (sym (cell-degree s (below_at s in_z)) ∙ cell)
+          (ap (λ b. holds (cond b ((grid_complex g).targets s) nothing) t) cell)
       | inr no_cell ↦
           ap (λ b. b && arrow slice s t) (sym (cell-degree s (below_at s in_z)) ∙ no_cell)
           ∙ sym (none_where (arrow (grid_complex g) s t) (λ h. false≢true (sym no_cell ∙ leaves_cell s t live h)))
@@ -94,11 +106,13 @@ module _ (g : Marks) (a : ℤ) where
 
     none_elsewhere : (s t : ℕ) → is_some (slice.degree t) ≡ false → (has_alexander g a s && arrow slice s t) ≡ false
     none_elsewhere s t dead =
-        ap (λ b. has_alexander g a s && b) (none_where (arrow slice s t) (λ h. false≢true (sym dead ∙ arrow_cell s t h)))
+        ap (λ b. has_alexander g a s && b)
+        (none_where (arrow slice s t) (λ h. false≢true (sym dead ∙ arrow_cell s t h)))
         ∙ same 1 (λ b. b && false) (λ b. false) refl (has_alexander g a s)
 
     -- the part of a cycle is a cycle of the slice
-    pub part-cycle : border (grid_complex g) z ≡ nothing → border (at_second a (grid_complex g)) (where_code (has_alexander g a) z) ≡ nothing
+    pub part-cycle : border (grid_complex g) z ≡ nothing
+        → border (at_second a (grid_complex g)) (where_code (has_alexander g a) z) ≡ nothing
     part-cycle cycle = same_chain _ nothing (λ t.
         holds-sum_over (where_code (has_alexander g a) z) slice.targets t
         ∙ weight-where (has_alexander g a) (λ s. arrow slice s t) z
@@ -108,11 +122,13 @@ module _ (g : Marks) (a : ℤ) where
         even : (t : ℕ) → weight (λ s. has_alexander g a s && arrow (at_second a (grid_complex g)) s t) z ≡ false
         even t = elim (cases_Bool (is_some ((at_second a (grid_complex g)).degree t))) [
           | inl live ↦
-              weight-same (λ s. has_alexander g a s && arrow (at_second a (grid_complex g)) s t) (λ s. arrow (grid_complex g) s t) z (λ s h. one_arrow s t h live)
+              weight-same (λ s. has_alexander g a s && arrow (at_second a (grid_complex g)) s t)
+              (λ s. arrow (grid_complex g) s t) z (λ s h. one_arrow s t h live)
               ∙ sym (holds-sum_over z (grid_complex g).targets t)
               ∙ ap (λ c. holds c t) cycle ∙ holds-nothing t
           | inr dead ↦
-              weight-same (λ s. has_alexander g a s && arrow (at_second a (grid_complex g)) s t) (λ s. false) z (λ s _. none_elsewhere s t dead)
+              weight-same (λ s. has_alexander g a s && arrow (at_second a (grid_complex g)) s t) (λ s. false) z
+              (λ s _. none_elsewhere s t dead)
               ∙ weight-none z
         ]
 
@@ -133,14 +149,20 @@ null-start g z left bound none is =
     subst (λ l. IsNullBut g z l bound) all (subst (IsNullBut g z z) (sym none) (record {
       within = λ s h. h;
       closed = λ s t h i e. i;
-      null = (border-nothing (grid_complex g) ∙ sym (add_self z), λ s h. absurd (false≢true (sym (holds-nothing s) ∙ h)));
+      null = (
+        border-nothing (grid_complex g) ∙ sym (add_self z),
+        λ s h. absurd (false≢true (sym (holds-nothing s) ∙ h)),
+      );
     }))
 
 -- where nothing is left, the chain is null
-pub null-end : (g : Marks) (z left bound : Chain) → left ≡ nothing → IsNullBut g z left bound → IsNullBy (grid_complex g) z bound
-null-end g z left bound none but = subst (λ c. IsNullBy (grid_complex g) c bound) (ap (λ l. z ⊕ l) none ∙ add-nothing z) but.null
+pub null-end : (g : Marks) (z left bound : Chain) → left ≡ nothing → IsNullBut g z left bound
+    → IsNullBy (grid_complex g) z bound
+null-end g z left bound none but =
+    subst (λ c. IsNullBy (grid_complex g) c bound) (ap (λ l. z ⊕ l) none ∙ add-nothing z) but.null
 
-module _ (g : Marks) (grid : IsGrid g) (z : Chain) (states : HasStates g z) (a : ℤ) (part : Chain) (is_part : part ≡ where_code (has_alexander g a) z) where
+module _ (g : Marks) (grid : IsGrid g) (z : Chain) (states : HasStates g z) (a : ℤ) (part : Chain)
+    (is_part : part ≡ where_code (has_alexander g a) z) where
   in_part : (s : ℕ) → holds part s ≡ (holds z s && has_alexander g a s)
   in_part s = ap (λ c. holds c s) is_part ∙ holds-where_code (has_alexander g a) z s
 
@@ -148,31 +170,41 @@ module _ (g : Marks) (grid : IsGrid g) (z : Chain) (states : HasStates g z) (a :
   part_in_z s h = and_parts (holds z s) (has_alexander g a s) (sym (in_part s) ∙ h)
 
   -- a part that is alive keeps the whole alive
-  pub alive-whole : border (grid_complex g) z ≡ nothing → (f : Chain) → IsAliveBy (at_second a (grid_complex g)) part f → IsAliveBy (grid_complex g) z f
+  pub alive-whole : border (grid_complex g) z ≡ nothing → (f : Chain) → IsAliveBy (at_second a (grid_complex g)) part f
+      → IsAliveBy (grid_complex g) z f
   alive-whole cycle f alive =
       let C = grid_complex g in
-      let cells : AllCells (at_second a C) part = subst (AllCells (at_second a C)) (sym is_part) (part-cells g a grid z states) in
-      let there : IsAliveBy C part f = alive_of_part C (with_second a) (at_second a C) (at_second_IsPartOf a C refl) (grid_complex_rules g grid) part f cells alive in
+      let cells : AllCells (at_second a C) part =
+      subst (AllCells (at_second a C)) (sym is_part) (part-cells g a grid z states) in
+      let there : IsAliveBy C part f =
+      alive_of_part C (with_second a) (at_second a C) (at_second_IsPartOf a C refl)
+      (grid_complex_rules g grid) part f cells alive in
       let (m, of, _) = alive.degree in
       subst (λ c. IsAliveBy C c f) (ap (λ c. part ⊕ c) (add_comm z part) ∙ add_back part z)
       (alive_sum C part (z ⊕ part) f
       (λ s in_part_s h. in_both z part s (part_in_z s in_part_s).0 in_part_s h)
       (λ s h in_f.
-      let (in_z, not_in) = only_first (holds z s) (holds part s) (λ i. (part_in_z s i).0) (sym (holds-add z part s) ∙ h) in
-      let at : has_alexander g a s ≡ true = sym (cell-degree g a s (each_code (λ code. code < factorial (size g)) z states s in_z)) ∙ ap is_some (of s in_f) in
+      let (in_z, not_in) =
+      only_first (holds z s) (holds part s) (λ i. (part_in_z s i).0) (sym (holds-add z part s) ∙ h) in
+      let at : has_alexander g a s ≡ true =
+      sym (cell-degree g a s (each_code (λ code. code < factorial (size g)) z states s in_z))
+      ∙ ap is_some (of s in_f) in
       false≢true (sym not_in ∙ in_part s ∙ ap₂ ◌&&◌ in_z at))
       (border-add C z part ∙ ap₂ ◌⊕◌ cycle there.cycle ∙ add_self nothing)
       there)
 
-  module _ (left bound : Chain) (but : IsNullBut g z left bound) (code : ℕ) (held : holds left code ≡ true) (at_code : a ≡ alexander_at g code) where
+  module _ (left bound : Chain) (but : IsNullBut g z left bound) (code : ℕ) (held : holds left code ≡ true)
+      (at_code : a ≡ alexander_at g code) where
     degree_of : (s : ℕ) → has_alexander g a s ≡ true → alexander_at g s ≡ a
     degree_of s is = (Decides-int_eq (alexander_at g s) a).0 is
 
     part_in_left : (s : ℕ) → holds part s ≡ true → holds left s ≡ true
-    part_in_left s h = let (in_z, is) = part_in_z s h in but.closed code s held in_z (sym at_code ∙ sym (degree_of s is))
+    part_in_left s h = let (in_z, is) = part_in_z s h in
+        but.closed code s held in_z (sym at_code ∙ sym (degree_of s is))
 
     -- a null part joins those before it
-    pub null-next : (b : Chain) → IsNullBy (at_second a (grid_complex g)) part b → IsNullBut g z (left ⊕ part) (bound ⊕ b)
+    pub null-next : (b : Chain) → IsNullBy (at_second a (grid_complex g)) part b
+        → IsNullBut g z (left ⊕ part) (bound ⊕ b)
     null-next b null =
         let C = grid_complex g in
         record {
@@ -181,9 +213,11 @@ module _ (g : Marks) (grid : IsGrid g) (z : Chain) (states : HasStates g z) (a :
             | inr p ↦ (part_in_z s p).0
           ];
           closed = λ s t h in_z e.
-              let (l, p) = only_first (holds left s) (holds part s) (part_in_left s) (sym (holds-add left part s) ∙ h) in
+              let (l, p) =
+              only_first (holds left s) (holds part s) (part_in_left s) (sym (holds-add left part s) ∙ h) in
               let other : holds part t ≡ false = none_where (holds part t) (λ q.
-              let is : has_alexander g a s ≡ true = (Decides-int_eq (alexander_at g s) a).1 (e ∙ degree_of t (part_in_z t q).1) in
+              let is : has_alexander g a s ≡ true =
+              (Decides-int_eq (alexander_at g s) a).1 (e ∙ degree_of t (part_in_z t q).1) in
               false≢true (sym p ∙ in_part s ∙ ap₂ ◌&&◌ (but.within s l) is)) in
               holds-add left part t ∙ ap₂ ◌⊻◌ (but.closed s t l in_z e) other;
           null =
@@ -196,10 +230,14 @@ module _ (g : Marks) (grid : IsGrid g) (z : Chain) (states : HasStates g z) (a :
     -- and less is left
     pub less-left : length (codes (left ⊕ part)) < length (codes left)
     less-left =
-        let others : left ⊕ part ≡ where_code (λ s. not (holds part s)) left = same_chain (left ⊕ part) (where_code (λ s. not (holds part s)) left) (λ s.
-        holds-add left part s ∙ but_part (holds left s) (holds part s) (part_in_left s) ∙ sym (holds-where_code (λ s. not (holds part s)) left s)) in
+        let others : left ⊕ part ≡ where_code (λ s. not (holds part s)) left =
+        same_chain (left ⊕ part) (where_code (λ s. not (holds part s)) left) (λ s.
+        holds-add left part s ∙ but_part (holds left s) (holds part s) (part_in_left s)
+        ∙ sym (holds-where_code (λ s. not (holds part s)) left s)) in
         subst (λ c. length (codes c) < length (codes left)) (sym others)
-        (fewer-where (λ s. not (holds part s)) left code held (ap not (in_part code ∙ ap₂ ◌&&◌ (but.within code held) ((Decides-int_eq (alexander_at g code) a).1 (sym at_code)))))
+        (fewer-where (λ s. not (holds part s)) left code held
+        (ap not (in_part code
+        ∙ ap₂ ◌&&◌ (but.within code held) ((Decides-int_eq (alexander_at g code) a).1 (sym at_code)))))
       where
         but_part : (l p : Bool) → (p ≡ true → l ≡ true) → (l ⊻ p) ≡ (l && not p)
         but_part true p inside = same 1 (λ p. true ⊻ p) (λ p. true && not p) refl p

@@ -38,20 +38,23 @@ module _ (side : Side) (g : Marks) (s : IsGrid g) where
       let sf = IsShift-target_column side n in
       let sh = IsShift-moved_row side n in
       let sy = IsBijection-plus_state g s in
-      same_list n (turned_state side (plus_state g)) (plus_state (turned side g)) (IsBijection-turned_state side n (plus_state g) sy).long (length-plus_state n (turned side g) size_is) (λ e le.
+      same_list n (turned_state side (plus_state g)) (plus_state (turned side g))
+      (IsBijection-turned_state side n (plus_state g) sy).long (length-plus_state n (turned side g) size_is) (λ e le.
       let (d, ld, is) = onto n f sf.one.small sf.one.apart e le in
       let k = one_down_below n d ld in
       ap (slice_index (turned_state side (plus_state g))) (sym is)
       ∙ state-at_target side n (plus_state g) sy d ld
       ∙ ap (moved_row side n) (plus_state-at n g refl d ld)
       ∙ sym (sh.after (slice_index g.x (one_down n d)) (s.x.small (one_down n d) k))
-      ∙ ap (one_up n) (sym (at_target side n g.x (one_down n d) k) ∙ ap (slice_index (turned_rows side n g.x)) (sym (sf.before d ld)))
+      ∙ ap (one_up n) (sym (at_target side n g.x (one_down n d) k)
+      ∙ ap (slice_index (turned_rows side n g.x)) (sym (sf.before d ld)))
       ∙ sym (plus_state-at n (turned side g) size_is (f d) (sf.one.small d ld))
       ∙ ap (slice_index (plus_state (turned side g))) is)
 
   plus_chain-turned : turned_chain side n (plus_chain g) ≡ plus_chain (turned side g)
   plus_chain-turned =
-      carried-single n (turned_state side) (turned_state (opposite side)) (turned_AreInverse side n) (plus_state g) (IsBijection-plus_state g s)
+      carried-single n (turned_state side) (turned_state (opposite side)) (turned_AreInverse side n) (plus_state g)
+      (IsBijection-plus_state g s)
       ∙ ap (λ x. single (rank x)) plus_state-turned
 
   -- and the lower left ones
@@ -67,29 +70,39 @@ module _ (side : Side) (g : Marks) (s : IsGrid g) where
       ap (λ m. record { o = by m (turned_rows side n g.o); x = by m (turned_rows side n g.x) }) size_is
       ∙ (λ i. record { o = of_rows g.o s.o i; x = of_rows g.x s.x i })
     where
-      of_rows : (rows : List ℕ) → IsBijection (size g) rows → turned_rows (opposite side) (size g) (turned_rows side (size g) rows) ≡ rows
+      of_rows : (rows : List ℕ) → IsBijection (size g) rows
+          → turned_rows (opposite side) (size g) (turned_rows side (size g) rows) ≡ rows
       of_rows rows b =
-          ap (λ m. turned_rows (opposite side) m (turned_rows side (size g) rows)) (sym (length-turned_rows side (size g) rows))
+          ap (λ m. turned_rows (opposite side) m (turned_rows side (size g) rows))
+          (sym (length-turned_rows side (size g) rows))
           ∙ ap (λ m. turned_state (opposite side) (turned_rows side m rows)) (sym b.long)
           ∙ turned_state-back side (size g) rows b
 
-module _ (class : Marks → Chain) (carried : (side : Side) (g : Marks) → IsGrid g → turned_chain side (size g) (class g) ≡ class (turned side g)) where
+module _ (class : Marks → Chain)
+    (carried : (side : Side) (g : Marks) → IsGrid g
+    → turned_chain side (size g) (class g) ≡ class (turned side g)) where
   -- where the class bounds, it bounds in the turned grid
   there : (side : Side) (g : Marks) → IsGrid g → Bounds g (class g) → Bounds (turned side g) (class (turned side g))
   there side g s (b, is) = (
     turned_chain side (size g) b,
-    record { states = HasStates-turned side g b is.states; is_border = border-turned side g s b ∙ ap (turned_chain side (size g)) is.is_border ∙ carried side g s },
+    record {
+      states = HasStates-turned side g b is.states;
+      is_border = border-turned side g s b ∙ ap (turned_chain side (size g)) is.is_border ∙ carried side g s;
+    },
   )
 
   -- and the other way round
   alike : (side : Side) (g : Marks) → IsGrid g → Bounds g (class g) ↔ Bounds (turned side g) (class (turned side g))
   alike side g s = (
     there side g s,
-    λ bounds. subst (λ k. Bounds k (class k)) (turned-back side g s) (there (opposite side) (turned side g) (IsGrid-turned side g s) bounds),
+    λ bounds. subst (λ k. Bounds k (class k)) (turned-back side g s)
+        (there (opposite side) (turned side g) (IsGrid-turned side g s) bounds),
   )
 
-pub plus_bounds_turned : (side : Side) (g : Marks) → IsGrid g → Bounds g (plus_chain g) ↔ Bounds (turned side g) (plus_chain (turned side g))
+pub plus_bounds_turned : (side : Side) (g : Marks) → IsGrid g
+    → Bounds g (plus_chain g) ↔ Bounds (turned side g) (plus_chain (turned side g))
 plus_bounds_turned = alike plus_chain plus_chain-turned
 
-pub minus_bounds_turned : (side : Side) (g : Marks) → IsGrid g → Bounds g (minus_chain g) ↔ Bounds (turned side g) (minus_chain (turned side g))
+pub minus_bounds_turned : (side : Side) (g : Marks) → IsGrid g
+    → Bounds g (minus_chain g) ↔ Bounds (turned side g) (minus_chain (turned side g))
 minus_bounds_turned = alike minus_chain minus_chain-turned

@@ -22,21 +22,27 @@ use Rattle.legendrian_class.specs.Verdicts.{IsNotCycle, IsNull, IsAlive, HasVerd
 use Rattle.legendrian_class.proofs.ChainLemmas.{each_code}
 
 -- ---- the cells of the grid complex
-degree_if : (g : Marks) (s : ℕ) (b : Bool) (d : ℤ × ℤ) → (if b then Some (bidegree g (unrank (size g) s)) else None) ≡ Some d → (b ≡ true) × (bidegree g (unrank (size g) s) ≡ d)
+degree_if : (g : Marks) (s : ℕ) (b : Bool) (d : ℤ × ℤ)
+    → (if b then Some (bidegree g (unrank (size g) s)) else None) ≡ Some d
+    → (b ≡ true) × (bidegree g (unrank (size g) s) ≡ d)
 degree_if g s true d e = (refl, same_some (bidegree g (unrank (size g) s)) d e)
 degree_if g s false d e = absurd (false≢true (ap is_some e))
 
 -- a code that has a degree is the rank of a state, of that degree
-degree_is : (g : Marks) (s : ℕ) (d : ℤ × ℤ) → (grid_complex g).degree s ≡ Some d → (s < factorial (size g)) × (bidegree g (unrank (size g) s) ≡ d)
+degree_is : (g : Marks) (s : ℕ) (d : ℤ × ℤ) → (grid_complex g).degree s ≡ Some d
+    → (s < factorial (size g)) × (bidegree g (unrank (size g) s) ≡ d)
 degree_is g s d e = let told = degree_if g s _ d e in (ltb-true s (factorial (size g)) told.0, told.1)
 
 -- the targets of a state are its border
-targets_is : (g : Marks) (s : ℕ) → s < factorial (size g) → (grid_complex g).targets s ≡ border_of_state g (unrank (size g) s)
-targets_is g s below = ap (λ b. cond b (border_of_state g (unrank (size g) s)) nothing) (lt-ltb s (factorial (size g)) below)
+targets_is : (g : Marks) (s : ℕ) → s < factorial (size g)
+    → (grid_complex g).targets s ≡ border_of_state g (unrank (size g) s)
+targets_is g s below =
+    ap (λ b. cond b (border_of_state g (unrank (size g) s)) nothing) (lt-ltb s (factorial (size g)) below)
 
 -- ---- verdicts
 -- the least state of the border
-pub IsNotCycle-least : (g : Marks) (z : Chain) (s : ℕ) → (holds (border g z) s ≡ true) × ((t : ℕ) → holds (border g z) t ≡ true → s ≤ t) → IsNotCycle g z s
+pub IsNotCycle-least : (g : Marks) (z : Chain) (s : ℕ)
+    → (holds (border g z) s ≡ true) × ((t : ℕ) → holds (border g z) t ≡ true → s ≤ t) → IsNotCycle g z s
 IsNotCycle-least g z s least = record { held = least.0; least = least.1 }
 
 -- is a state
@@ -46,7 +52,8 @@ IsNotCycle-state g z s not_cycle = border-below g z s not_cycle.held
 pub IsNull-by : (g : Marks) (z b : Chain) → IsNullBy (grid_complex g) z b → IsNull g z b
 IsNull-by g z b null = record {
   bounds = record {
-    states = All-codes (λ code. code < factorial (size g)) b (λ s h. let (t, in_z, (m, above, below)) = null.1 s h in (degree_is g s (up_m m) above).0);
+    states = All-codes (λ code. code < factorial (size g)) b
+        (λ s h. let (t, in_z, (m, above, below)) = null.1 s h in (degree_is g s (up_m m) above).0);
     is_border = sym (border-grid_complex g b) ∙ null.0;
   };
   degrees = λ s h.
@@ -84,10 +91,13 @@ IsAlive-by g z f alive =
     }
 
 -- ---- no two
-even_everywhere : (g : Marks) (z f : Chain) → IsAlive g z f → (s : ℕ) → pairs_oddly ((grid_complex g).targets s) f ≡ false
+even_everywhere : (g : Marks) (z f : Chain) → IsAlive g z f → (s : ℕ)
+    → pairs_oddly ((grid_complex g).targets s) f ≡ false
 even_everywhere g z f alive s = elim (cases_lt s (factorial (size g))) [
   | inl below ↦ ap (λ c. pairs_oddly c f) (targets_is g s below) ∙ alive.even s below
-  | inr past ↦ ap (λ b. pairs_oddly (cond b (border_of_state g (unrank (size g) s)) nothing) f) (not_below s (factorial (size g)) past) ∙ pairs_oddly-weight nothing f ∙ weight-nothing (holds f)
+  | inr past ↦
+      ap (λ b. pairs_oddly (cond b (border_of_state g (unrank (size g) s)) nothing) f)
+      (not_below s (factorial (size g)) past) ∙ pairs_oddly-weight nothing f ∙ weight-nothing (holds f)
 ]
   where
     not_below : (s n : ℕ) → n ≤ s → ltb s n ≡ false
@@ -96,8 +106,12 @@ even_everywhere g z f alive s = elim (cases_lt s (factorial (size g))) [
 -- a chain has no two of the three verdicts
 pub one_verdict : (g : Marks) → IsGrid g → (z : Chain) → HasOneVerdict g z
 one_verdict g grid z = record {
-  not_cycle_or_border = λ s b not_cycle bounds. false≢true (sym (ap (λ c. holds c s) (ap (border g) (sym bounds.is_border) ∙ border-border g grid b) ∙ holds-nothing s) ∙ not_cycle.held);
-  not_cycle_or_alive = λ s f not_cycle alive. false≢true (sym (ap (λ c. holds c s) alive.cycle ∙ holds-nothing s) ∙ not_cycle.held);
+  not_cycle_or_border =
+      λ s b not_cycle bounds. false≢true
+      (sym (ap (λ c. holds c s) (ap (border g) (sym bounds.is_border) ∙ border-border g grid b) ∙ holds-nothing s)
+      ∙ not_cycle.held);
+  not_cycle_or_alive =
+      λ s f not_cycle alive. false≢true (sym (ap (λ c. holds c s) alive.cycle ∙ holds-nothing s) ∙ not_cycle.held);
   border_or_alive = λ b f bounds alive.
       false≢true (
       sym (even_with_borders (grid_complex g) f (even_everywhere g z f alive) b)
@@ -125,22 +139,32 @@ any-codes_below (suc n) s l = elim (cases_eq s n) [
     either true = refl
     either false = refl
 
-cell_below : (g : Marks) (s : ℕ) (b : Bool) → is_some (if b then Some (bidegree g (unrank (size g) s)) else None) ≡ true → b ≡ true
+cell_below : (g : Marks) (s : ℕ) (b : Bool) → is_some (if b then Some (bidegree g (unrank (size g) s)) else None) ≡ true
+    → b ≡ true
 cell_below g s true h = refl
 cell_below g s false h = h
 
 cells_of : (g : Marks) (z : Chain) → HasStates g z → AllCells (grid_complex g) z
-cells_of g z states s h = ap (λ b. is_some (if b then Some (bidegree g (unrank (size g) s)) else None)) (lt-ltb s (factorial (size g)) (each_code (λ code. code < factorial (size g)) z states s h))
+cells_of g z states s h =
+    ap (λ b. is_some (if b then Some (bidegree g (unrank (size g) s)) else None))
+    (lt-ltb s (factorial (size g)) (each_code (λ code. code < factorial (size g)) z states s h))
 
 -- each chain of states has a verdict, with some evidence
 pub some_verdict : (g : Marks) → IsGrid g → (z : Chain) → HasStates g z → HasVerdict g z
 some_verdict g grid z states =
     let C = grid_complex g in
-    elim (exists_verdict C (grid_complex_rules g grid) (codes_below (factorial (size g))) (λ s live. any-codes_below (factorial (size g)) s (ltb-true s (factorial (size g)) (cell_below g s _ live))) z (cells_of g z states)) [
+    elim (exists_verdict C (grid_complex_rules g grid) (codes_below (factorial (size g)))
+    (λ s live. any-codes_below (factorial (size g)) s (ltb-true s (factorial (size g)) (cell_below g s _ live))) z
+    (cells_of g z states)) [
       | inl not_cycle ↦
           let (s, (held, least)) = not_cycle in
-          let same = border-grid_complex g z in
-          (verdict.NotCycle s, IsNotCycle-least g z s (sym (ap (λ c. holds c s) same) ∙ held, λ t h. least t (ap (λ c. holds c t) same ∙ h)))
+          let same = border-grid_complex g z in (
+            verdict.NotCycle s,
+            IsNotCycle-least g z s (
+              sym (ap (λ c. holds c s) same) ∙ held,
+              λ t h. least t (ap (λ c. holds c t) same ∙ h),
+            ),
+          )
       | inr cycle ↦ elim cycle [
         | inl null ↦ (verdict.Null null.0, IsNull-by g z null.0 null.1)
         | inr alive ↦ (verdict.Alive alive.0, IsAlive-by g z alive.0 alive.1)

@@ -23,8 +23,10 @@ pub record Followed : Type 0 where
 
 abbrev pub followed_code : Coded Followed
 followed_code =
-    code_by (List ℕ × (List ℕ × Chain)) (coded× (coded_list coded_ℕ) (coded× (coded_list coded_ℕ) (finite_set.code coded_ℕ)))
-    (λ p. (p.grid.o, (p.grid.x, p.chain))) (λ t. record { grid = record { o = t.0; x = t.1.0 }; chain = t.1.1 }) (λ _. refl)
+    code_by (List ℕ × (List ℕ × Chain))
+    (coded× (coded_list coded_ℕ) (coded× (coded_list coded_ℕ) (finite_set.code coded_ℕ)))
+    (λ p. (p.grid.o, (p.grid.x, p.chain))) (λ t. record { grid = record { o = t.0; x = t.1.0 }; chain = t.1.1 })
+    (λ _. refl)
 
 abbrev pub at_start : Marks → Followed
 at_start g = record { grid = g; chain = nothing }

@@ -15,4 +15,5 @@ pub record PoolValue : Type 0 where
 
 abbrev pub pool_code : Coded PoolValue
 pool_code =
-    code_by (FinMap nat_cmp Node × ℕ) (coded× (map.code coded_ℕ the_row.coded) coded_ℕ) (λ p. (p.nodes, p.spare)) (λ t. record { nodes = t.0; spare = t.1 }) (λ _. refl)
+    code_by (FinMap nat_cmp Node × ℕ) (coded× (map.code coded_ℕ the_row.coded) coded_ℕ) (λ p. (p.nodes, p.spare))
+    (λ t. record { nodes = t.0; spare = t.1 }) (λ _. refl)

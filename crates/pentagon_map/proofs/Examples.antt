@@ -15,7 +15,9 @@ example = record { o = 0 ∷ 2 ∷ 1 ∷ 3 ∷ []; x = 1 ∷ 3 ∷ 2 ∷ 0 ∷ [
 
 -- the states of the image of x
 abbrev states_of_image : Corner → List ℕ → List (List ℕ)
-states_of_image corner x = filter (λ y. is_odd (length (filter (is_pentagon example 1 (crossing_row example 1 corner) x y) (rectangles 4)))) (states 4)
+states_of_image corner x =
+    filter (λ y. is_odd (length (filter (is_pentagon example 1 (crossing_row example 1 corner) x y) (rectangles 4))))
+    (states 4)
 
 crossing-over : crossing_row example 1 Over ≡ 2
 crossing-over = refl

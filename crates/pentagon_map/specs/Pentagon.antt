@@ -60,9 +60,11 @@ last_met n i j k = if nat_lt (offset n i j) (offset n i k) then k else j
 
 -- Where the columns commute, it does not matter from which row of L, or of R, the way begins.
 abbrev pub crossing_row : Marks → ℕ → Corner → ℕ
-crossing_row g c Over = first_met (size g) (slice_index g.o (one_down (size g) c)) (slice_index g.o c) (slice_index g.x c)
+crossing_row g c Over =
+    first_met (size g) (slice_index g.o (one_down (size g) c)) (slice_index g.o c) (slice_index g.x c)
 crossing_row g c Under =
-    last_met (size g) (slice_index g.o c) (slice_index g.o (one_down (size g) c)) (slice_index g.x (one_down (size g) c))
+    last_met (size g) (slice_index g.o c) (slice_index g.o (one_down (size g) c))
+    (slice_index g.x (one_down (size g) c))
 
 abbrev pub has_mark_from : Marks → ℕ → ℕ → ℕ → Bool
 has_mark_from g d j k = in_range (size g) j k (slice_index g.o d) || in_range (size g) j k (slice_index g.x d)
@@ -87,7 +89,8 @@ is_pentagon g c w x y r = leads r x y && (is_empty x r && is_pentagonal g c w r)
 -- the image of a state across columns
 unfoldable pub column_image : Marks → ℕ → Corner → List ℕ → Chain
 column_image g c corner x =
-    states_where (size g) (λ y. is_odd (length (filter (is_pentagon g c (crossing_row g c corner) x y) (rectangles (size g)))))
+    states_where (size g) (λ y. is_odd (length (filter (is_pentagon g c (crossing_row g c corner) x y)
+    (rectangles (size g)))))
 
 abbrev pub image_of_state : Axis → Marks → ℕ → Corner → List ℕ → Chain
 image_of_state Cols g c corner x = column_image g c corner x

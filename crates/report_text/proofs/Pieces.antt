@@ -7,14 +7,18 @@ use mir.Val.{SFits, to_z, of_z}
 use Rattle.report_text.specs.Lines.{line}
 
 -- what is printed of a signed number of 32 bits is the number
-pub printed : (old new : List ℕ) (z : ℤ) → SFits w32 z → new ≡ old ++ signed_decimal (to_z w32 (of_z w32 z)) → new ≡ old ++ signed_decimal z
+pub printed : (old new : List ℕ) (z : ℤ) → SFits w32 z → new ≡ old ++ signed_decimal (to_z w32 (of_z w32 z))
+    → new ≡ old ++ signed_decimal z
 printed old new z fits e = e ∙ ap (λ y. old ++ signed_decimal y) (to_z-of_z w32 z fits)
 
 -- the pieces of a row make one line
-pub row_line-pieces : (l m a d : List ℕ) → ((((((l ++ codes "rank ") ++ m) ++ 32 ∷ []) ++ a) ++ 32 ∷ []) ++ d) ++ 10 ∷ [] ≡ l ++ line (codes "rank " ++ m ++ 32 ∷ a ++ 32 ∷ d)
+pub row_line-pieces : (l m a d : List ℕ)
+    → ((((((l ++ codes "rank ") ++ m) ++ 32 ∷ []) ++ a) ++ 32 ∷ []) ++ d) ++ 10 ∷ []
+    ≡ l ++ line (codes "rank " ++ m ++ 32 ∷ a ++ 32 ∷ d)
 row_line-pieces l m a d = simp append_assoc
 
 -- the pieces of the line of a class make one line
 pub class_line-pieces : (s x m a v : List ℕ)
-    → (((((((codes "class " ++ s) ++ 32 ∷ x) ++ codes " at ") ++ m) ++ 32 ∷ []) ++ a) ++ v) ++ 10 ∷ [] ≡ line (codes "class " ++ s ++ 32 ∷ x ++ codes " at " ++ m ++ 32 ∷ a ++ v)
+    → (((((((codes "class " ++ s) ++ 32 ∷ x) ++ codes " at ") ++ m) ++ 32 ∷ []) ++ a) ++ v) ++ 10 ∷ []
+    ≡ line (codes "class " ++ s ++ 32 ∷ x ++ codes " at " ++ m ++ 32 ∷ a ++ v)
 class_line-pieces s x m a v = simp append_assoc

@@ -8,7 +8,8 @@
 --                                the state x+ or x- of a grid, its Maslov and its Alexander degree, and whether its
 --                                class is alive or null
 --     table_lines rows           the number of rows of a table, and a line for each row
---     hat_lines exponent hat     the exponent, the number of rows and a line for each row of a hat, or that there is none
+--     hat_lines exponent hat     the exponent, the number of rows and a line for each row of a hat, or that there is
+--                                none
 --     set_line word n z          a word, and the states of size n of a chain, in ascending order
 --     refused_line word number   the word of a fault, and the number of its line
 use Rattle.std.specs.Prelude.{ℕ, ℤ, Bool, List, [], ◌∷◌, ◌++◌, length, codes, Option, None, Some, if◌then◌else◌}

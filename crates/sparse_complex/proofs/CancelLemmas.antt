@@ -16,11 +16,11 @@ use Rattle.sparse_complex.specs.declared.slices.Cell.{Cell}
 use Rattle.sparse_complex.specs.Slices.{other_sources, other_targets, fill}
 use Rattle.sparse_complex.specs.Inner.Lists.{no_id, among, AreDistinct, head_at}
 use Rattle.sparse_complex.specs.Inner.Graph.{AreListed, width, targets, sources, has_arrow, others, code_at, IsFilled, IsCleared}
-use Rattle.sparse_complex.specs.Inner.Kept.{no_key, key_of, is_live, maslov_at, slice_of, IsLiveKey, IsStored, IsFirst, IsKept}
+use Rattle.sparse_complex.specs.Inner.Kept.{no_key, key_of, is_live, maslov_at, slice_of, IsLiveKey, IsKeptByKey, IsFirst, IsKept}
 use Rattle.sparse_complex.proofs.ListLemmas.{same_test, in_head, in_tail, AreDistinct-filter}
 use Rattle.sparse_complex.proofs.GraphLemmas.{has_arrow-sources, has_arrow-targets}
 use Rattle.sparse_complex.proofs.FillLemmas.{no_out}
-use Rattle.sparse_complex.proofs.KeptLemmas.{past, degree-slice_of, arrow-stored, ends-live, same_key, no_arrow-from, no_arrow-to}
+use Rattle.sparse_complex.proofs.KeptLemmas.{past, degree-slice_of, arrow-kept, ends-live, same_key, no_arrow-from, no_arrow-to}
 use Rattle.sparse_complex.proofs.QueryLemmas.{distinct-source_codes, distinct-target_codes, among-source_codes, among-target_codes}
 
 -- ---- an entry of a slice
@@ -33,24 +33,30 @@ key_of_arrow s p t h = by (fin.get s p) refl h
     by (Some v) e h = refl
 
 -- the other sources of y
-pub holds-other_sources : (s : Slice) (x y p : ℕ) → holds (other_sources s x y) p ≡ (arrow (slice_complex s) p y && not (eqb p x))
+pub holds-other_sources : (s : Slice) (x y p : ℕ)
+    → holds (other_sources s x y) p ≡ (arrow (slice_complex s) p y && not (eqb p x))
 unfolding other_sources holds codes
 holds-other_sources s x y p =
     holds-of_codes _ p ∙ any-filter p (λ p. arrow (slice_complex s) p y && not (eqb p x)) (fin.keys s)
     ∙ by (arrow (slice_complex s) p y) (key_of_arrow s p y)
   where
-    by : (a : Bool) → (a ≡ true → fin.contains_key s p ≡ true) → (any p (fin.keys s) && (a && not (eqb p x))) ≡ (a && not (eqb p x))
-    by true h = ap (λ k. k && (true && not (eqb p x))) (sym (any-is p (fin.keys s)) ∙ sym (fin.contains_key-keys s p) ∙ h refl)
+    by : (a : Bool) → (a ≡ true → fin.contains_key s p ≡ true)
+        → (any p (fin.keys s) && (a && not (eqb p x))) ≡ (a && not (eqb p x))
+    by true h =
+        ap (λ k. k && (true && not (eqb p x))) (sym (any-is p (fin.keys s)) ∙ sym (fin.contains_key-keys s p) ∙ h refl)
     by false h = same 1 (λ k. k && false) (λ k. false) refl (any p (fin.keys s))
 
 -- the other targets of x
-pub holds-other_targets : (s : Slice) (x y t : ℕ) → holds (other_targets s x y) t ≡ (arrow (slice_complex s) x t && not (eqb t y))
+pub holds-other_targets : (s : Slice) (x y t : ℕ)
+    → holds (other_targets s x y) t ≡ (arrow (slice_complex s) x t && not (eqb t y))
 unfolding other_targets
 holds-other_targets s x y t = holds-where_code (λ q. not (eqb q y)) ((slice_complex s).targets x) t
 
 -- an arrow with its other sources and targets fits the complex of the slice
-pub IsEntry-of_arrow : (s : Slice) (x y : ℕ) → arrow (slice_complex s) x y ≡ true → IsEntry (slice_complex s) (record { x = x; y = y; sources = other_sources s x y; targets = other_targets s x y })
-IsEntry-of_arrow s x y h = record { arrows = h; other_sources = holds-other_sources s x y; other_targets = holds-other_targets s x y }
+pub IsEntry-of_arrow : (s : Slice) (x y : ℕ) → arrow (slice_complex s) x y ≡ true
+    → IsEntry (slice_complex s) (record { x = x; y = y; sources = other_sources s x y; targets = other_targets s x y })
+IsEntry-of_arrow s x y h =
+    record { arrows = h; other_sources = holds-other_sources s x y; other_targets = holds-other_targets s x y }
 
 -- ---- the number of toggles
 distinct-same : (xs : List ℕ) → AreDistinct xs → IsApart xs
@@ -58,25 +64,37 @@ distinct-same [] a = tt
 distinct-same (x ∷ xs) a = (a.0, distinct-same xs a.1)
 
 -- a chain with the elements of a list that are apart has as many codes
-count-codes : (z : Chain) (xs : List ℕ) → AreDistinct xs → ((c : ℕ) → holds z c ≡ among c xs) → length (codes z) ≡ length xs
-count-codes z xs a h = sym (cardinality-length z) ∙ ap cardinality (same_chain z (of_codes xs) (λ c. h c ∙ sym (holds-of_codes xs c))) ∙ cardinality-of_codes xs (distinct-same xs a)
+count-codes : (z : Chain) (xs : List ℕ) → AreDistinct xs → ((c : ℕ) → holds z c ≡ among c xs)
+    → length (codes z) ≡ length xs
+count-codes z xs a h = sym (cardinality-length z)
+    ∙ ap cardinality (same_chain z (of_codes xs) (λ c. h c ∙ sym (holds-of_codes xs c)))
+    ∙ cardinality-of_codes xs (distinct-same xs a)
 
 among-others : (t y : ℕ) (ks : List ℕ) → among t (others y ks) ≡ (among t ks && not (eqb t y))
 among-others t y ks = any-filter t (λ j. not (eqb j y)) ks
 
 -- as many codes other than c as keys other than k
-length-others : (cells : List Cell) (c k : ℕ) (ks : List ℕ) → ((j : ℕ) → among j ks ≡ true → eqb (code_at cells j) c ≡ eqb j k) → length (others c (map (code_at cells) ks)) ≡ length (others k ks)
+length-others : (cells : List Cell) (c k : ℕ) (ks : List ℕ)
+    → ((j : ℕ) → among j ks ≡ true → eqb (code_at cells j) c ≡ eqb j k)
+    → length (others c (map (code_at cells) ks)) ≡ length (others k ks)
 length-others cells c k [] h = refl
-length-others cells c k (j ∷ ks) h = by (eqb j k) (h j (in_head j ks)) (length-others cells c k ks (λ i m. h i (in_tail i j ks m)))
+length-others cells c k (j ∷ ks) h =
+    by (eqb j k) (h j (in_head j ks)) (length-others cells c k ks (λ i m. h i (in_tail i j ks m)))
   where
     by : (b : Bool) → eqb (code_at cells j) c ≡ b → length (others c (map (code_at cells) ks)) ≡ length (others k ks)
-        → length (cond (not (eqb (code_at cells j) c)) (code_at cells j ∷ others c (map (code_at cells) ks)) (others c (map (code_at cells) ks))) ≡ length (cond (not b) (j ∷ others k ks) (others k ks))
-    by true e r = ap (λ b. length (cond (not b) (code_at cells j ∷ others c (map (code_at cells) ks)) (others c (map (code_at cells) ks)))) e ∙ r
-    by false e r = ap (λ b. length (cond (not b) (code_at cells j ∷ others c (map (code_at cells) ks)) (others c (map (code_at cells) ks)))) e ∙ ap suc r
+        → length (cond (not (eqb (code_at cells j) c)) (code_at cells j ∷ others c (map (code_at cells) ks))
+        (others c (map (code_at cells) ks))) ≡ length (cond (not b) (j ∷ others k ks) (others k ks))
+    by true e r =
+        ap (λ b. length (cond (not b) (code_at cells j ∷ others c (map (code_at cells) ks))
+        (others c (map (code_at cells) ks)))) e ∙ r
+    by false e r =
+        ap (λ b. length (cond (not b) (code_at cells j ∷ others c (map (code_at cells) ks))
+        (others c (map (code_at cells) ks)))) e ∙ ap suc r
 
-module _ (keys : List ℕ) (cells : List Cell) (links : Links) (s : IsStored keys cells links) where
+module _ (keys : List ℕ) (cells : List Cell) (links : Links) (s : IsKeptByKey keys cells links) where
   -- a code is that of a live key where the key is that of the code
-  code-test : (c k : ℕ) → is_live keys c ≡ true → IsLiveKey keys cells k → eqb (code_at cells k) c ≡ eqb k (key_of keys c)
+  code-test : (c k : ℕ) → is_live keys c ≡ true → IsLiveKey keys cells k
+      → eqb (code_at cells k) c ≡ eqb k (key_of keys c)
   code-test c k l e = same_test _ _
       (λ h. eq-eqb k (key_of keys c) (sym e ∙ ap (key_of keys) (eqb-true (code_at cells k) c h)))
       (λ h. eq-eqb (code_at cells k) c (ap (code_at cells) (eqb-true k (key_of keys c) h) ∙ (s.keyed c l).1))
@@ -87,28 +105,42 @@ module _ (keys : List ℕ) (cells : List Cell) (links : Links) (s : IsStored key
       (λ h. eq-eqb c d (same_key keys cells links s c d l m (eqb-true (key_of keys c) (key_of keys d) h)))
       (λ h. eq-eqb (key_of keys c) (key_of keys d) (ap (key_of keys) (eqb-true c d h)))
 
-  pub fill-stored : (x y : ℕ) → is_live keys x ≡ true → is_live keys y ≡ true
-      → fill (slice_of keys cells links) x y ≡ length (others (key_of keys x) (sources links (key_of keys y))) * length (others (key_of keys y) (targets links (key_of keys x)))
-  fill-stored x y l m =
+  pub fill-kept : (x y : ℕ) → is_live keys x ≡ true → is_live keys y ≡ true
+      → fill (slice_of keys cells links) x y
+      ≡ length (others (key_of keys x) (sources links (key_of keys y)))
+      * length (others (key_of keys y) (targets links (key_of keys x)))
+  fill-kept x y l m =
       let p = key_of keys x in
       let q = key_of keys y in
       ap₂ (λ a b. a * b)
-      (count-codes (other_sources (slice_of keys cells links) x y) (others x (map (code_at cells) (sources links q))) (AreDistinct-filter (λ j. not (eqb j x)) _ (distinct-source_codes keys cells links s q))
-      (λ c. holds-other_sources (slice_of keys cells links) x y c ∙ ap (λ b. b && not (eqb c x)) (sym (among-source_codes keys cells links s y m c)) ∙ sym (among-others c x (map (code_at cells) (sources links q))))
-      ∙ length-others cells x p (sources links q) (λ j i. code-test x j l (s.ends j q (sym (has_arrow-sources links s.listed j q) ∙ i)).0))
-      (count-codes (other_targets (slice_of keys cells links) x y) (others y (map (code_at cells) (targets links p))) (AreDistinct-filter (λ j. not (eqb j y)) _ (distinct-target_codes keys cells links s p))
-      (λ c. holds-other_targets (slice_of keys cells links) x y c ∙ ap (λ b. b && not (eqb c y)) (sym (among-target_codes keys cells links s x l c)) ∙ sym (among-others c y (map (code_at cells) (targets links p))))
-      ∙ length-others cells y q (targets links p) (λ j i. code-test y j m (s.ends p j (sym (has_arrow-targets links s.listed p j) ∙ i)).1))
+      (count-codes (other_sources (slice_of keys cells links) x y) (others x (map (code_at cells) (sources links q)))
+      (AreDistinct-filter (λ j. not (eqb j x)) _ (distinct-source_codes keys cells links s q))
+      (λ c. holds-other_sources (slice_of keys cells links) x y c
+      ∙ ap (λ b. b && not (eqb c x)) (sym (among-source_codes keys cells links s y m c))
+      ∙ sym (among-others c x (map (code_at cells) (sources links q))))
+      ∙ length-others cells x p (sources links q)
+      (λ j i. code-test x j l (s.ends j q (sym (has_arrow-sources links s.listed j q) ∙ i)).0))
+      (count-codes (other_targets (slice_of keys cells links) x y) (others y (map (code_at cells) (targets links p)))
+      (AreDistinct-filter (λ j. not (eqb j y)) _ (distinct-target_codes keys cells links s p))
+      (λ c. holds-other_targets (slice_of keys cells links) x y c
+      ∙ ap (λ b. b && not (eqb c y)) (sym (among-target_codes keys cells links s x l c))
+      ∙ sym (among-others c y (map (code_at cells) (targets links p))))
+      ∙ length-others cells y q (targets links p)
+      (λ j i. code-test y j m (s.ends p j (sym (has_arrow-targets links s.listed p j) ∙ i)).1))
 
   -- with no source, or no target, there is nothing to toggle
   no_fill-from : (x y : ℕ) → key_of keys x ≡ no_key → fill (slice_of keys cells links) x y ≡ 0
   no_fill-from x y e = ap (λ n. length (codes (other_sources (slice_of keys cells links) x y)) * n)
-      (count-codes (other_targets (slice_of keys cells links) x y) [] tt (λ c. holds-other_targets (slice_of keys cells links) x y c ∙ ap (λ b. b && not (eqb c y)) (no_arrow-from keys cells links s x c e)))
+      (count-codes (other_targets (slice_of keys cells links) x y) [] tt
+      (λ c. holds-other_targets (slice_of keys cells links) x y c
+      ∙ ap (λ b. b && not (eqb c y)) (no_arrow-from keys cells links s x c e)))
       ∙ omega arith
 
   no_fill-to : (x y : ℕ) → key_of keys y ≡ no_key → fill (slice_of keys cells links) x y ≡ 0
   no_fill-to x y e = ap (λ n. n * length (codes (other_targets (slice_of keys cells links) x y)))
-      (count-codes (other_sources (slice_of keys cells links) x y) [] tt (λ c. holds-other_sources (slice_of keys cells links) x y c ∙ ap (λ b. b && not (eqb c x)) (no_arrow-to keys cells links s c y e)))
+      (count-codes (other_sources (slice_of keys cells links) x y) [] tt
+      (λ c. holds-other_sources (slice_of keys cells links) x y c
+      ∙ ap (λ b. b && not (eqb c x)) (no_arrow-to keys cells links s c y e)))
       ∙ omega arith
 
   pub room-from : (x y n : ℕ) → key_of keys x ≡ no_key → fill (slice_of keys cells links) x y ≤ n
@@ -121,7 +153,8 @@ others-shorter : (k : ℕ) (ks : List ℕ) → length (others k ks) ≤ length k
 others-shorter k [] = omega arith
 others-shorter k (j ∷ ks) = by (not (eqb j k)) (others-shorter k ks)
   where
-    by : (b : Bool) → length (others k ks) ≤ length ks → length (cond b (j ∷ others k ks) (others k ks)) ≤ suc (length ks)
+    by : (b : Bool) → length (others k ks) ≤ length ks
+        → length (cond b (j ∷ others k ks) (others k ks)) ≤ suc (length ks)
     by true l = omega arith
     by false l = omega arith
 
@@ -129,15 +162,21 @@ products : (a b c d n : ℕ) → a ≤ c → b ≤ d → n ≡ c * d → a * b �
 products a b c d n l m e = grind (arith, e, l, m)
 
 -- the product of all sources and all targets is enough
-pub room-enough : (keys : List ℕ) (cells : List Cell) (links : Links) (s : IsStored keys cells links) (x y n : ℕ) → is_live keys x ≡ true → is_live keys y ≡ true
-    → n ≡ length (sources links (key_of keys y)) * length (targets links (key_of keys x)) → fill (slice_of keys cells links) x y ≤ n
+pub room-enough : (keys : List ℕ) (cells : List Cell) (links : Links) (s : IsKeptByKey keys cells links) (x y n : ℕ)
+    → is_live keys x ≡ true → is_live keys y ≡ true
+    → n ≡ length (sources links (key_of keys y)) * length (targets links (key_of keys x))
+    → fill (slice_of keys cells links) x y ≤ n
 room-enough keys cells links s x y n l m e =
-    let f = fill-stored keys cells links s x y l m in
-    let g = products (length (others (key_of keys x) (sources links (key_of keys y)))) (length (others (key_of keys y) (targets links (key_of keys x)))) _ _ n (others-shorter (key_of keys x) (sources links (key_of keys y))) (others-shorter (key_of keys y) (targets links (key_of keys x))) e in
+    let f = fill-kept keys cells links s x y l m in
+    let g = products (length (others (key_of keys x) (sources links (key_of keys y))))
+    (length (others (key_of keys y) (targets links (key_of keys x)))) _ _ n
+    (others-shorter (key_of keys x) (sources links (key_of keys y)))
+    (others-shorter (key_of keys y) (targets links (key_of keys x))) e in
     omega arith
 
 -- ---- the keys of two codes are taken away
-pub key_of-set : (keys : List ℕ) (c k d : ℕ) → c < length keys → key_of (set keys c k) d ≡ cond (eqb d c) k (key_of keys d)
+pub key_of-set : (keys : List ℕ) (c k d : ℕ) → c < length keys
+    → key_of (set keys c k) d ≡ cond (eqb d c) k (key_of keys d)
 unfolding key_of
 key_of-set keys c k d l = by (eqb d c) refl
   where
@@ -164,17 +203,27 @@ live-below keys c l = by (lt_or_ge c (length keys))
 pub record IsCut (p q : ℕ) (old new : Links) : Type 0 where
   pub listed : AreListed new
   pub width : width new ≡ width old
-  pub arrows : (s t : ℕ) → has_arrow new s t ≡ ((has_arrow old s t ⊻ ((has_arrow old s q && not (eqb s p)) && (has_arrow old p t && not (eqb t q)))) && (not (eqb s p || eqb s q) && not (eqb t p || eqb t q)))
+  pub arrows : (s t : ℕ)
+      → has_arrow new s t
+      ≡ ((has_arrow old s t ⊻ ((has_arrow old s q && not (eqb s p)) && (has_arrow old p t && not (eqb t q))))
+      && (not (eqb s p || eqb s q) && not (eqb t p || eqb t q)))
 
-pub IsCut-cleared : (p q : ℕ) (l0 l1 l2 l3 l4 l5 : Links) → IsFilled p q l0 l1 → IsCleared (λ s _. eqb s p) l1 l2 → IsCleared (λ _ t. eqb t p) l2 l3 → IsCleared (λ s _. eqb s q) l3 l4 → IsCleared (λ _ t. eqb t q) l4 l5
+pub IsCut-cleared : (p q : ℕ) (l0 l1 l2 l3 l4 l5 : Links) → IsFilled p q l0 l1 → IsCleared (λ s _. eqb s p) l1 l2
+    → IsCleared (λ _ t. eqb t p) l2 l3 → IsCleared (λ s _. eqb s q) l3 l4 → IsCleared (λ _ t. eqb t q) l4 l5
     → IsCut p q l0 l5
 IsCut-cleared p q l0 l1 l2 l3 l4 l5 f a b c d = record {
   listed = d.listed;
   width = d.width ∙ c.width ∙ b.width ∙ a.width ∙ f.width;
   arrows = λ s t.
-      d.arrows s t ∙ ap (λ h. h && not (eqb t q)) (c.arrows s t ∙ ap (λ h. h && not (eqb s q)) (b.arrows s t ∙ ap (λ h. h && not (eqb t p)) (a.arrows s t ∙ ap (λ h. h && not (eqb s p)) (f.arrows s t))))
-      ∙ same 5 (λ h sp sq tp tq. (((h && not sp) && not tp) && not sq) && not tq) (λ h sp sq tp tq. h && (not (sp || sq) && not (tp || tq))) refl
-      (has_arrow l0 s t ⊻ ((has_arrow l0 s q && not (eqb s p)) && (has_arrow l0 p t && not (eqb t q)))) (eqb s p) (eqb s q) (eqb t p) (eqb t q);
+      d.arrows s t
+      ∙ ap (λ h. h && not (eqb t q))
+      (c.arrows s t
+      ∙ ap (λ h. h && not (eqb s q))
+      (b.arrows s t ∙ ap (λ h. h && not (eqb t p)) (a.arrows s t ∙ ap (λ h. h && not (eqb s p)) (f.arrows s t))))
+      ∙ same 5 (λ h sp sq tp tq. (((h && not sp) && not tp) && not sq) && not tq)
+      (λ h sp sq tp tq. h && (not (sp || sq) && not (tp || tq))) refl
+      (has_arrow l0 s t ⊻ ((has_arrow l0 s q && not (eqb s p)) && (has_arrow l0 p t && not (eqb t q)))) (eqb s p)
+      (eqb s q) (eqb t p) (eqb t q);
 }
 
 xor_cases : (a b c : Bool) → (a ⊻ (b && c)) ≡ true → (a ≡ true) ⊎ ((b ≡ true) × (c ≡ true))
@@ -197,17 +246,21 @@ not-true false h = refl
 abbrev pub keys_without : List ℕ → ℕ → ℕ → List ℕ
 keys_without keys x y = set (set keys x no_key) y no_key
 
-module _ (keys : List ℕ) (cells : List Cell) (links : Links) (s : IsStored keys cells links) (x y : ℕ) (l : is_live keys x ≡ true) (m : is_live keys y ≡ true)
+module _ (keys : List ℕ) (cells : List Cell) (links : Links) (s : IsKeptByKey keys cells links) (x y : ℕ)
+    (l : is_live keys x ≡ true) (m : is_live keys y ≡ true)
     (new : Links) (cut : IsCut (key_of keys x) (key_of keys y) links new) where
-  key-without : (c : ℕ) → key_of (keys_without keys x y) c ≡ cond (eqb c y) no_key (cond (eqb c x) no_key (key_of keys c))
+  key-without : (c : ℕ)
+      → key_of (keys_without keys x y) c ≡ cond (eqb c y) no_key (cond (eqb c x) no_key (key_of keys c))
   key-without c =
-      key_of-set (set keys x no_key) y no_key c (subst (λ n. y < n) (sym (length-set keys x no_key)) (live-below keys y m))
+      key_of-set (set keys x no_key) y no_key c
+      (subst (λ n. y < n) (sym (length-set keys x no_key)) (live-below keys y m))
       ∙ ap (λ k. cond (eqb c y) no_key k) (key_of-set keys x no_key c (live-below keys x l))
 
   live-without : (c : ℕ) → is_live (keys_without keys x y) c ≡ (is_live keys c && not (is_one_of x y c))
   live-without c = ap (λ k. not (eqb k no_key)) (key-without c) ∙ by (eqb c x) (eqb c y) (is_live keys c) refl
     where
-      by : (a b d : Bool) → is_live keys c ≡ d → not (eqb (cond b no_key (cond a no_key (key_of keys c))) no_key) ≡ (is_live keys c && not (a || b))
+      by : (a b d : Bool) → is_live keys c ≡ d
+          → not (eqb (cond b no_key (cond a no_key (key_of keys c))) no_key) ≡ (is_live keys c && not (a || b))
       by true true d e = sym (ap (λ h. h && false) e ∙ none d)
         where
           none : (d : Bool) → (d && false) ≡ false
@@ -239,31 +292,46 @@ module _ (keys : List ℕ) (cells : List Cell) (links : Links) (s : IsStored key
 
   -- the arrows that are left have ends that stay
   cut-parts : (a b : ℕ) → has_arrow new a b ≡ true
-      → ((has_arrow links a b ≡ true) ⊎ ((has_arrow links a (key_of keys y) ≡ true) × (has_arrow links (key_of keys x) b ≡ true)))
-      × ((eqb a (key_of keys x) ≡ false) × (eqb a (key_of keys y) ≡ false)) × ((eqb b (key_of keys x) ≡ false) × (eqb b (key_of keys y) ≡ false))
+      → ((has_arrow links a b ≡ true)
+      ⊎ ((has_arrow links a (key_of keys y) ≡ true) × (has_arrow links (key_of keys x) b ≡ true)))
+      × ((eqb a (key_of keys x) ≡ false) × (eqb a (key_of keys y) ≡ false))
+      × ((eqb b (key_of keys x) ≡ false) × (eqb b (key_of keys y) ≡ false))
   cut-parts a b h =
       let p = key_of keys x in
       let q = key_of keys y in
-      let w = and_parts (has_arrow links a b ⊻ ((has_arrow links a (key_of keys y) && not (eqb a (key_of keys x))) && (has_arrow links (key_of keys x) b && not (eqb b (key_of keys y)))))
-      (not (eqb a (key_of keys x) || eqb a (key_of keys y)) && not (eqb b (key_of keys x) || eqb b (key_of keys y))) (sym (cut.arrows a b) ∙ h) in
-      let u = and_parts (not (eqb a (key_of keys x) || eqb a (key_of keys y))) (not (eqb b (key_of keys x) || eqb b (key_of keys y))) w.1 in (
-        either (xor_cases (has_arrow links a b) (has_arrow links a (key_of keys y) && not (eqb a (key_of keys x))) (has_arrow links (key_of keys x) b && not (eqb b (key_of keys y))) w.0),
+      let w = and_parts (has_arrow links a b ⊻ ((has_arrow links a (key_of keys y) && not (eqb a (key_of keys x)))
+      && (has_arrow links (key_of keys x) b && not (eqb b (key_of keys y)))))
+      (not (eqb a (key_of keys x) || eqb a (key_of keys y)) && not (eqb b (key_of keys x) || eqb b (key_of keys y)))
+      (sym (cut.arrows a b) ∙ h) in
+      let u = and_parts (not (eqb a (key_of keys x) || eqb a (key_of keys y)))
+      (not (eqb b (key_of keys x) || eqb b (key_of keys y))) w.1 in (
+        either (xor_cases (has_arrow links a b) (has_arrow links a (key_of keys y) && not (eqb a (key_of keys x)))
+            (has_arrow links (key_of keys x) b && not (eqb b (key_of keys y))) w.0),
         or_none (eqb a (key_of keys x)) (eqb a (key_of keys y)) u.0,
         or_none (eqb b (key_of keys x)) (eqb b (key_of keys y)) u.1,
       )
     where
-      either : (has_arrow links a b ≡ true) ⊎ (((has_arrow links a (key_of keys y) && not (eqb a (key_of keys x))) ≡ true) × ((has_arrow links (key_of keys x) b && not (eqb b (key_of keys y))) ≡ true))
-          → (has_arrow links a b ≡ true) ⊎ ((has_arrow links a (key_of keys y) ≡ true) × (has_arrow links (key_of keys x) b ≡ true))
+      either : (has_arrow links a b ≡ true)
+          ⊎ (((has_arrow links a (key_of keys y) && not (eqb a (key_of keys x))) ≡ true)
+          × ((has_arrow links (key_of keys x) b && not (eqb b (key_of keys y))) ≡ true))
+          → (has_arrow links a b ≡ true)
+          ⊎ ((has_arrow links a (key_of keys y) ≡ true) × (has_arrow links (key_of keys x) b ≡ true))
       either (inl h) = inl h
-      either (inr r) = inr ((and_parts (has_arrow links a (key_of keys y)) (not (eqb a (key_of keys x))) r.0).0, (and_parts (has_arrow links (key_of keys x) b) (not (eqb b (key_of keys y))) r.1).0)
+      either (inr r) =
+          inr (
+            (and_parts (has_arrow links a (key_of keys y)) (not (eqb a (key_of keys x))) r.0).0,
+            (and_parts (has_arrow links (key_of keys x) b) (not (eqb b (key_of keys y))) r.1).0,
+          )
 
   -- a live key that is none of the two is still live
-  still-live : (k : ℕ) → IsLiveKey keys cells k → (eqb k (key_of keys x) ≡ false) × (eqb k (key_of keys y) ≡ false) → IsLiveKey (keys_without keys x y) cells k
+  still-live : (k : ℕ) → IsLiveKey keys cells k → (eqb k (key_of keys x) ≡ false) × (eqb k (key_of keys y) ≡ false)
+      → IsLiveKey (keys_without keys x y) cells k
   still-live k e n =
-      key-stays (code_at cells k) (ap₂ (λ a b. a || b) (code-test keys cells links s x k l e ∙ n.0) (code-test keys cells links s y k m e ∙ n.1)) ∙ e
+      key-stays (code_at cells k) (ap₂ (λ a b. a || b) (code-test keys cells links s x k l e ∙ n.0)
+      (code-test keys cells links s y k m e ∙ n.1)) ∙ e
 
-  pub stored-left : IsStored (keys_without keys x y) cells new
-  stored-left = record {
+  pub kept-left : IsKeptByKey (keys_without keys x y) cells new
+  kept-left = record {
     listed = cut.listed;
     small = subst (λ w. w ≤ no_key) (sym cut.width) s.small;
     whole = s.whole ∙ sym cut.width;
@@ -276,11 +344,16 @@ module _ (keys : List ℕ) (cells : List Cell) (links : Links) (s : IsStored key
         let r = cut-parts a b h in
         elim r.0 [
           | inl old ↦ let e = s.ends a b old in (still-live a e.0 r.1, still-live b e.1 r.2)
-          | inr both ↦ (still-live a (s.ends a (key_of keys y) both.0).0 r.1, still-live b (s.ends (key_of keys x) b both.1).1 r.2)
+          | inr both ↦ (
+            still-live a (s.ends a (key_of keys y) both.0).0 r.1,
+            still-live b (s.ends (key_of keys x) b both.1).1 r.2,
+          )
         ];
   }
 
-  degree-left : (c : ℕ) → (slice_complex (slice_of (keys_without keys x y) cells new)).degree c ≡ (cancelled (slice_complex (slice_of keys cells links)) x y).degree c
+  degree-left : (c : ℕ)
+      → (slice_complex (slice_of (keys_without keys x y) cells new)).degree c
+      ≡ (cancelled (slice_complex (slice_of keys cells links)) x y).degree c
   degree-left c =
       degree-slice_of (keys_without keys x y) cells new c
       ∙ ap (λ b. cond b (Some (maslov_at cells (key_of (keys_without keys x y) c))) None) (live-without c)
@@ -288,11 +361,18 @@ module _ (keys : List ℕ) (cells : List Cell) (links : Links) (s : IsStored key
       ∙ ap (λ d. cond (is_one_of x y c) None d) (sym (degree-slice_of keys cells links c))
     where
       by : (a : Bool) → is_one_of x y c ≡ a → (b : Bool) → is_live keys c ≡ b
-          → cond (is_live keys c && not (is_one_of x y c)) (Some (maslov_at cells (key_of (keys_without keys x y) c))) None ≡ cond (is_one_of x y c) None (cond (is_live keys c) (Some (maslov_at cells (key_of keys c))) None)
-      by true e true f = ap₂ (λ u v. cond (u && not v) (Some (maslov_at cells (key_of (keys_without keys x y) c))) None) f e ∙ sym (ap (λ v. cond v None (cond (is_live keys c) (Some (maslov_at cells (key_of keys c))) None)) e)
-      by true e false f = ap₂ (λ u v. cond (u && not v) (Some (maslov_at cells (key_of (keys_without keys x y) c))) None) f e ∙ sym (ap (λ v. cond v None (cond (is_live keys c) (Some (maslov_at cells (key_of keys c))) None)) e)
+          → cond (is_live keys c && not (is_one_of x y c))
+          (Some (maslov_at cells (key_of (keys_without keys x y) c))) None
+          ≡ cond (is_one_of x y c) None (cond (is_live keys c) (Some (maslov_at cells (key_of keys c))) None)
+      by true e true f =
+          ap₂ (λ u v. cond (u && not v) (Some (maslov_at cells (key_of (keys_without keys x y) c))) None) f e
+          ∙ sym (ap (λ v. cond v None (cond (is_live keys c) (Some (maslov_at cells (key_of keys c))) None)) e)
+      by true e false f =
+          ap₂ (λ u v. cond (u && not v) (Some (maslov_at cells (key_of (keys_without keys x y) c))) None) f e
+          ∙ sym (ap (λ v. cond v None (cond (is_live keys c) (Some (maslov_at cells (key_of keys c))) None)) e)
       by false e true f =
-          ap₂ (λ u v. cond (u && not v) (Some (maslov_at cells (key_of (keys_without keys x y) c))) None) f e ∙ ap (λ k. Some (maslov_at cells k)) (key-stays c e)
+          ap₂ (λ u v. cond (u && not v) (Some (maslov_at cells (key_of (keys_without keys x y) c))) None) f e
+          ∙ ap (λ k. Some (maslov_at cells k)) (key-stays c e)
           ∙ sym (ap₂ (λ u v. cond v None (cond u (Some (maslov_at cells (key_of keys c))) None)) f e)
       by false e false f =
           ap₂ (λ u v. cond (u && not v) (Some (maslov_at cells (key_of (keys_without keys x y) c))) None) f e
@@ -303,22 +383,35 @@ module _ (keys : List ℕ) (cells : List Cell) (links : Links) (s : IsStored key
 
   -- of codes that were live
   both-live : (c d : ℕ) → is_live keys c ≡ true → is_live keys d ≡ true
-      → has_arrow new (key_of keys c) (key_of keys d) ≡ (not (is_one_of x y c) && ((old_arrow c d ⊻ (old_arrow c y && old_arrow x d)) && not (is_one_of x y d)))
+      → has_arrow new (key_of keys c) (key_of keys d)
+      ≡ (not (is_one_of x y c) && ((old_arrow c d ⊻ (old_arrow c y && old_arrow x d)) && not (is_one_of x y d)))
   both-live c d u v =
       cut.arrows (key_of keys c) (key_of keys d)
-      ∙ (λ i. (old c d u v i ⊻ ((old c y u m i && not (key-test keys cells links s c x u l i)) && (old x d l v i && not (key-test keys cells links s d y v m i))))
-      && (not (key-test keys cells links s c x u l i || key-test keys cells links s c y u m i) && not (key-test keys cells links s d x v l i || key-test keys cells links s d y v m i)))
-      ∙ same 7 (λ h a b cx cy dx dy. (h ⊻ ((a && not cx) && (b && not dy))) && (not (cx || cy) && not (dx || dy))) (λ h a b cx cy dx dy. not (cx || cy) && ((h ⊻ (a && b)) && not (dx || dy))) refl
+      ∙ (λ i. (old c d u v i
+      ⊻ ((old c y u m i && not (key-test keys cells links s c x u l i))
+      && (old x d l v i && not (key-test keys cells links s d y v m i))))
+      && (not (key-test keys cells links s c x u l i || key-test keys cells links s c y u m i)
+      && not (key-test keys cells links s d x v l i || key-test keys cells links s d y v m i)))
+      ∙ same 7 (λ h a b cx cy dx dy. (h ⊻ ((a && not cx) && (b && not dy))) && (not (cx || cy) && not (dx || dy)))
+      (λ h a b cx cy dx dy. not (cx || cy) && ((h ⊻ (a && b)) && not (dx || dy))) refl
       (old_arrow c d) (old_arrow c y) (old_arrow x d) (eqb c x) (eqb c y) (eqb d x) (eqb d y)
     where
-      old : (c d : ℕ) → is_live keys c ≡ true → is_live keys d ≡ true → has_arrow links (key_of keys c) (key_of keys d) ≡ arrow (slice_complex (slice_of keys cells links)) c d
-      old c d u v = sym (arrow-stored keys cells links s c d ∙ ap (λ b. b && has_arrow links (key_of keys c) (key_of keys d)) (and_from (is_live keys c) (is_live keys d) u v))
+      old : (c d : ℕ) → is_live keys c ≡ true → is_live keys d ≡ true
+          → has_arrow links (key_of keys c) (key_of keys d) ≡ arrow (slice_complex (slice_of keys cells links)) c d
+      old c d u v =
+          sym (arrow-kept keys cells links s c d
+          ∙ ap (λ b. b && has_arrow links (key_of keys c) (key_of keys d))
+          (and_from (is_live keys c) (is_live keys d) u v))
 
   -- a code that was not live has no arrow before or after
-  not-live : (c d : ℕ) → (is_live keys c && is_live keys d) ≡ false → (old_arrow c d ⊻ (old_arrow c y && old_arrow x d)) ≡ false
+  not-live : (c d : ℕ) → (is_live keys c && is_live keys d) ≡ false
+      → (old_arrow c d ⊻ (old_arrow c y && old_arrow x d)) ≡ false
   not-live c d e =
-      (λ i. arrow-stored keys cells links s c d i ⊻ (arrow-stored keys cells links s c y i && arrow-stored keys cells links s x d i))
-      ∙ by (is_live keys c) (is_live keys d) (is_live keys x) (is_live keys y) (has_arrow links (key_of keys c) (key_of keys d)) (has_arrow links (key_of keys c) (key_of keys y)) (has_arrow links (key_of keys x) (key_of keys d)) e
+      (λ i. arrow-kept keys cells links s c d i
+      ⊻ (arrow-kept keys cells links s c y i && arrow-kept keys cells links s x d i))
+      ∙ by (is_live keys c) (is_live keys d) (is_live keys x) (is_live keys y)
+      (has_arrow links (key_of keys c) (key_of keys d)) (has_arrow links (key_of keys c) (key_of keys y))
+      (has_arrow links (key_of keys x) (key_of keys d)) e
     where
       by : (c d x y h a b : Bool) → (c && d) ≡ false → (((c && d) && h) ⊻ (((c && y) && a) && ((x && d) && b))) ≡ false
       by true true x y h a b e = absurd (true≢false e)
@@ -334,9 +427,12 @@ module _ (keys : List ℕ) (cells : List Cell) (links : Links) (s : IsStored key
           none false = refl
       by false d x y h a b e = refl
 
-  arrow-left : (c d : ℕ) → arrow (slice_complex (slice_of (keys_without keys x y) cells new)) c d ≡ (not (is_one_of x y c) && ((old_arrow c d ⊻ (old_arrow c y && old_arrow x d)) && not (is_one_of x y d)))
-  arrow-left c d = arrow-stored (keys_without keys x y) cells new stored-left c d
-      ∙ (λ i. (live-without c i && live-without d i) && has_arrow new (key_of (keys_without keys x y) c) (key_of (keys_without keys x y) d))
+  arrow-left : (c d : ℕ)
+      → arrow (slice_complex (slice_of (keys_without keys x y) cells new)) c d
+      ≡ (not (is_one_of x y c) && ((old_arrow c d ⊻ (old_arrow c y && old_arrow x d)) && not (is_one_of x y d)))
+  arrow-left c d = arrow-kept (keys_without keys x y) cells new kept-left c d
+      ∙ (λ i. (live-without c i && live-without d i)
+      && has_arrow new (key_of (keys_without keys x y) c) (key_of (keys_without keys x y) d))
       ∙ by (is_one_of x y c) refl (is_one_of x y d) refl (is_live keys c) refl (is_live keys d) refl
     where
       none : (z : Bool) → (z && false) ≡ false
@@ -347,40 +443,60 @@ module _ (keys : List ℕ) (cells : List Cell) (links : Links) (s : IsStored key
       none_left true h = refl
       none_left false h = refl
 
-      by : (a : Bool) → is_one_of x y c ≡ a → (b : Bool) → is_one_of x y d ≡ b → (u : Bool) → is_live keys c ≡ u → (v : Bool) → is_live keys d ≡ v
-          → (((is_live keys c && not (is_one_of x y c)) && (is_live keys d && not (is_one_of x y d))) && has_arrow new (key_of (keys_without keys x y) c) (key_of (keys_without keys x y) d))
+      by : (a : Bool) → is_one_of x y c ≡ a → (b : Bool) → is_one_of x y d ≡ b → (u : Bool) → is_live keys c ≡ u
+          → (v : Bool) → is_live keys d ≡ v
+          → (((is_live keys c && not (is_one_of x y c)) && (is_live keys d && not (is_one_of x y d)))
+          && has_arrow new (key_of (keys_without keys x y) c) (key_of (keys_without keys x y) d))
           ≡ (not (is_one_of x y c) && ((old_arrow c d ⊻ (old_arrow c y && old_arrow x d)) && not (is_one_of x y d)))
       by true e b f u g v h =
-          ap (λ a. ((is_live keys c && not a) && (is_live keys d && not (is_one_of x y d))) && has_arrow new (key_of (keys_without keys x y) c) (key_of (keys_without keys x y) d)) e
-          ∙ ap (λ z. (z && (is_live keys d && not (is_one_of x y d))) && has_arrow new (key_of (keys_without keys x y) c) (key_of (keys_without keys x y) d)) (none (is_live keys c))
+          ap (λ a. ((is_live keys c && not a) && (is_live keys d && not (is_one_of x y d)))
+          && has_arrow new (key_of (keys_without keys x y) c) (key_of (keys_without keys x y) d)) e
+          ∙ ap (λ z. (z && (is_live keys d && not (is_one_of x y d)))
+          && has_arrow new (key_of (keys_without keys x y) c) (key_of (keys_without keys x y) d))
+          (none (is_live keys c))
           ∙ sym (ap (λ a. not a && ((old_arrow c d ⊻ (old_arrow c y && old_arrow x d)) && not (is_one_of x y d))) e)
       by false e true f u g v h =
-          ap (λ b. ((is_live keys c && not (is_one_of x y c)) && (is_live keys d && not b)) && has_arrow new (key_of (keys_without keys x y) c) (key_of (keys_without keys x y) d)) f
-          ∙ ap (λ z. ((is_live keys c && not (is_one_of x y c)) && z) && has_arrow new (key_of (keys_without keys x y) c) (key_of (keys_without keys x y) d)) (none (is_live keys d))
-          ∙ none_left (is_live keys c && not (is_one_of x y c)) (has_arrow new (key_of (keys_without keys x y) c) (key_of (keys_without keys x y) d))
-          ∙ sym (ap₂ (λ a b. not a && ((old_arrow c d ⊻ (old_arrow c y && old_arrow x d)) && not b)) e f ∙ none (old_arrow c d ⊻ (old_arrow c y && old_arrow x d)))
+          ap (λ b. ((is_live keys c && not (is_one_of x y c)) && (is_live keys d && not b))
+          && has_arrow new (key_of (keys_without keys x y) c) (key_of (keys_without keys x y) d)) f
+          ∙ ap (λ z. ((is_live keys c && not (is_one_of x y c)) && z)
+          && has_arrow new (key_of (keys_without keys x y) c) (key_of (keys_without keys x y) d))
+          (none (is_live keys d))
+          ∙ none_left (is_live keys c && not (is_one_of x y c))
+          (has_arrow new (key_of (keys_without keys x y) c) (key_of (keys_without keys x y) d))
+          ∙ sym (ap₂ (λ a b. not a && ((old_arrow c d ⊻ (old_arrow c y && old_arrow x d)) && not b)) e f
+          ∙ none (old_arrow c d ⊻ (old_arrow c y && old_arrow x d)))
       by false e false f true g true h =
           (λ i. ((g i && not (e i)) && (h i && not (f i))) && has_arrow new (key-stays c e i) (key-stays d f i))
           ∙ both-live c d g h
       by false e false f true g false h =
           (λ i. ((g i && not (e i)) && (h i && not (f i))) && has_arrow new (key-stays c e i) (key-stays d f i))
-          ∙ sym (ap₂ (λ a b. not a && ((old_arrow c d ⊻ (old_arrow c y && old_arrow x d)) && not b)) e f ∙ ap (λ z. z && true) (not-live c d (ap₂ (λ u v. u && v) g h)))
+          ∙ sym (ap₂ (λ a b. not a && ((old_arrow c d ⊻ (old_arrow c y && old_arrow x d)) && not b)) e f
+          ∙ ap (λ z. z && true) (not-live c d (ap₂ (λ u v. u && v) g h)))
       by false e false f false g v h =
-          (λ i. ((g i && not (e i)) && (is_live keys d && not (f i))) && has_arrow new (key-stays c e i) (key-stays d f i))
-          ∙ sym (ap₂ (λ a b. not a && ((old_arrow c d ⊻ (old_arrow c y && old_arrow x d)) && not b)) e f ∙ ap (λ z. z && true) (not-live c d (ap (λ u. u && is_live keys d) g)))
+          (λ i. ((g i && not (e i)) && (is_live keys d && not (f i)))
+          && has_arrow new (key-stays c e i) (key-stays d f i))
+          ∙ sym (ap₂ (λ a b. not a && ((old_arrow c d ⊻ (old_arrow c y && old_arrow x d)) && not b)) e f
+          ∙ ap (λ z. z && true) (not-live c d (ap (λ u. u && is_live keys d) g)))
 
-  module _ (rules : IsComplex (slice_complex (slice_of keys cells links))) (is : arrow (slice_complex (slice_of keys cells links)) x y ≡ true) where
+  module _ (rules : IsComplex (slice_complex (slice_of keys cells links)))
+      (is : arrow (slice_complex (slice_of keys cells links)) x y ≡ true) where
     pub rules-left : IsComplex (cancelled (slice_complex (slice_of keys cells links)) x y)
-    rules-left = cancelled_IsComplex (slice_complex (slice_of keys cells links)) rules _ (IsEntry-of_arrow (slice_of keys cells links) x y is)
+    rules-left =
+        cancelled_IsComplex (slice_complex (slice_of keys cells links)) rules _
+        (IsEntry-of_arrow (slice_of keys cells links) x y is)
 
     -- what is left is the cancelled slice
-    pub left-is : slice_complex (slice_of (keys_without keys x y) cells new) ≡ cancelled (slice_complex (slice_of keys cells links)) x y
+    pub left-is : slice_complex (slice_of (keys_without keys x y) cells new)
+        ≡ cancelled (slice_complex (slice_of keys cells links)) x y
     left-is =
         same_complex _ _ refl degree-left
-        (λ c d. arrow-left c d ∙ sym (arrow-cancelled (slice_complex (slice_of keys cells links)) rules _ (IsEntry-of_arrow (slice_of keys cells links) x y is) c d))
+        (λ c d. arrow-left c d
+        ∙ sym (arrow-cancelled (slice_complex (slice_of keys cells links)) rules _
+        (IsEntry-of_arrow (slice_of keys cells links) x y is) c d))
 
   -- the cursor has only to move on
-  pub first-left : (cursor next : ℕ) → IsFirst links cursor → next ≤ width new → ((k : ℕ) → cursor ≤ k → k < next → (head_at new.heads.items k).first_out ≡ no_id)
+  pub first-left : (cursor next : ℕ) → IsFirst links cursor → next ≤ width new
+      → ((k : ℕ) → cursor ≤ k → k < next → (head_at new.heads.items k).first_out ≡ no_id)
       → (next < width new → eqb (head_at new.heads.items next).first_out no_id ≡ false) → IsFirst new next
   first-left cursor next f within none some = record {
     within = within;
@@ -401,7 +517,10 @@ module _ (keys : List ℕ) (cells : List Cell) (links : Links) (s : IsStored key
       by a b h true e =
           let z = f.none_before a in
           cut.arrows a b
-          ∙ ap₂ (λ u v. (u ⊻ ((v && not (eqb a (key_of keys x))) && (has_arrow links (key_of keys x) b && not (eqb b (key_of keys y))))) && (not (eqb a (key_of keys x) || eqb a (key_of keys y)) && not (eqb b (key_of keys x) || eqb b (key_of keys y))))
+          ∙ ap₂ (λ u v. (u ⊻ ((v && not (eqb a (key_of keys x)))
+          && (has_arrow links (key_of keys x) b && not (eqb b (key_of keys y)))))
+          && (not (eqb a (key_of keys x) || eqb a (key_of keys y))
+          && not (eqb b (key_of keys x) || eqb b (key_of keys y))))
           (z b (below a cursor e)) (z (key_of keys y) (below a cursor e))
       by a b h false e = no_out new cut.listed a (head_at new.heads.items a) refl (none a (above a cursor e) h) b
 
@@ -415,7 +534,8 @@ pub record CanCancel (keys : List ℕ) (links : Links) (x y p q fills : ℕ) : T
   pub y_in : y < length keys
   pub room : length (others p (sources links q)) * length (others q (targets links p)) ≡ fills
 
-pub can_cancel : (keys : List ℕ) (cells : List Cell) (links : Links) (s : IsStored keys cells links) (x y p q : ℕ) → arrow (slice_complex (slice_of keys cells links)) x y ≡ true → p ≡ key_of keys x → q ≡ key_of keys y
+pub can_cancel : (keys : List ℕ) (cells : List Cell) (links : Links) (s : IsKeptByKey keys cells links) (x y p q : ℕ)
+    → arrow (slice_complex (slice_of keys cells links)) x y ≡ true → p ≡ key_of keys x → q ≡ key_of keys y
     → CanCancel keys links x y p q (fill (slice_of keys cells links) x y)
 can_cancel keys cells links s x y p q is e f =
     let l = ends-live keys cells links s x y is in
@@ -426,30 +546,43 @@ can_cancel keys cells links s x y p q is e f =
       q_in = subst (λ k. k < width links) (sym f) (s.keyed y l.1).0;
       x_in = live-below keys x l.0;
       y_in = live-below keys y l.1;
-      room = (λ i. length (others (e i) (sources links (f i))) * length (others (f i) (targets links (e i)))) ∙ sym (fill-stored keys cells links s x y l.0 l.1);
+      room = (λ i. length (others (e i) (sources links (f i))) * length (others (f i) (targets links (e i))))
+          ∙ sym (fill-kept keys cells links s x y l.0 l.1);
     }
 
-pub kept_after : (keys : List ℕ) (cells : List Cell) (links new : Links) (cursor next : ℕ) (k : IsKept keys cells links cursor) (x y : ℕ) (is : arrow (slice_complex (slice_of keys cells links)) x y ≡ true)
+pub kept_after : (keys : List ℕ) (cells : List Cell) (links new : Links) (cursor next : ℕ)
+    (k : IsKept keys cells links cursor) (x y : ℕ) (is : arrow (slice_complex (slice_of keys cells links)) x y ≡ true)
     → IsCut (key_of keys x) (key_of keys y) links new
-    → next ≤ width new → ((j : ℕ) → cursor ≤ j → j < next → (head_at new.heads.items j).first_out ≡ no_id) → (next < width new → eqb (head_at new.heads.items next).first_out no_id ≡ false)
+    → next ≤ width new → ((j : ℕ) → cursor ≤ j → j < next → (head_at new.heads.items j).first_out ≡ no_id)
+    → (next < width new → eqb (head_at new.heads.items next).first_out no_id ≡ false)
     → IsKept (keys_without keys x y) cells new next
 kept_after keys cells links new cursor next k x y is cut within none some =
-    let l = ends-live keys cells links k.stored x y is in
+    let l = ends-live keys cells links k.by_key x y is in
     record {
-      stored = stored-left keys cells links k.stored x y l.0 l.1 new cut;
-      first = first-left keys cells links k.stored x y l.0 l.1 new cut cursor next k.first within none some;
-      rules = subst IsComplex (sym (left-is keys cells links k.stored x y l.0 l.1 new cut k.rules is)) (rules-left keys cells links k.stored x y l.0 l.1 new cut k.rules is);
+      by_key = kept-left keys cells links k.by_key x y l.0 l.1 new cut;
+      first = first-left keys cells links k.by_key x y l.0 l.1 new cut cursor next k.first within none some;
+      rules = subst IsComplex (sym (left-is keys cells links k.by_key x y l.0 l.1 new cut k.rules is))
+          (rules-left keys cells links k.by_key x y l.0 l.1 new cut k.rules is);
     }
 
-pub cancelled_after : (keys : List ℕ) (cells : List Cell) (links new : Links) (cursor : ℕ) (k : IsKept keys cells links cursor) (x y : ℕ) (is : arrow (slice_complex (slice_of keys cells links)) x y ≡ true)
-    → IsCut (key_of keys x) (key_of keys y) links new → slice_complex (slice_of (keys_without keys x y) cells new) ≡ cancelled (slice_complex (slice_of keys cells links)) x y
-cancelled_after keys cells links new cursor k x y is cut = let l = ends-live keys cells links k.stored x y is in left-is keys cells links k.stored x y l.0 l.1 new cut k.rules is
+pub cancelled_after : (keys : List ℕ) (cells : List Cell) (links new : Links) (cursor : ℕ)
+    (k : IsKept keys cells links cursor) (x y : ℕ) (is : arrow (slice_complex (slice_of keys cells links)) x y ≡ true)
+    → IsCut (key_of keys x) (key_of keys y) links new
+    → slice_complex (slice_of (keys_without keys x y) cells new)
+    ≡ cancelled (slice_complex (slice_of keys cells links)) x y
+cancelled_after keys cells links new cursor k x y is cut = let l = ends-live keys cells links k.by_key x y is in
+    left-is keys cells links k.by_key x y l.0 l.1 new cut k.rules is
 
-pub rules_after : (keys : List ℕ) (cells : List Cell) (links : Links) (cursor : ℕ) (k : IsKept keys cells links cursor) (x y : ℕ) (is : arrow (slice_complex (slice_of keys cells links)) x y ≡ true) → IsComplex (cancelled (slice_complex (slice_of keys cells links)) x y)
-rules_after keys cells links cursor k x y is = cancelled_IsComplex (slice_complex (slice_of keys cells links)) k.rules _ (IsEntry-of_arrow (slice_of keys cells links) x y is)
+pub rules_after : (keys : List ℕ) (cells : List Cell) (links : Links) (cursor : ℕ) (k : IsKept keys cells links cursor)
+    (x y : ℕ) (is : arrow (slice_complex (slice_of keys cells links)) x y ≡ true)
+    → IsComplex (cancelled (slice_complex (slice_of keys cells links)) x y)
+rules_after keys cells links cursor k x y is =
+    cancelled_IsComplex (slice_complex (slice_of keys cells links)) k.rules _
+    (IsEntry-of_arrow (slice_of keys cells links) x y is)
 
 -- the cursor at the start
-pub first-begin : (links : Links) (t : AreListed links) (next : ℕ) → next ≤ width links → ((k : ℕ) → 0 ≤ k → k < next → (head_at links.heads.items k).first_out ≡ no_id)
+pub first-begin : (links : Links) (t : AreListed links) (next : ℕ) → next ≤ width links
+    → ((k : ℕ) → 0 ≤ k → k < next → (head_at links.heads.items k).first_out ≡ no_id)
     → (next < width links → eqb (head_at links.heads.items next).first_out no_id ≡ false) → IsFirst links next
 first-begin links t next within none some = record {
   within = within;

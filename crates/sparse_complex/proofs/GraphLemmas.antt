@@ -20,7 +20,8 @@ among-map f (x ∷ is) i m = elim (in_cases i x is m) [
   | inr t ↦ in_tail (f i) (f x) (map f is) (among-map f is i t)
 ]
 
-pub among-of_map : (f : ℕ → ℕ) (is : List ℕ) (x : ℕ) → among x (map f is) ≡ true → (i : ℕ) × (among i is ≡ true) × (f i ≡ x)
+pub among-of_map : (f : ℕ → ℕ) (is : List ℕ) (x : ℕ) → among x (map f is) ≡ true
+    → (i : ℕ) × (among i is ≡ true) × (f i ≡ x)
 among-of_map f [] x m = absurd (false≢true m)
 among-of_map f (i ∷ is) x m = elim (in_cases x (f i) (map f is) m) [
   | inl e ↦ (i, in_head i is, sym e)
@@ -28,10 +29,13 @@ among-of_map f (i ∷ is) x m = elim (in_cases x (f i) (map f is) m) [
 ]
 
 -- images under a function that tells members apart are apart
-pub AreDistinct-map : (f : ℕ → ℕ) (is : List ℕ) → ((i j : ℕ) → among i is ≡ true → among j is ≡ true → f i ≡ f j → i ≡ j) → AreDistinct is → AreDistinct (map f is)
+pub AreDistinct-map : (f : ℕ → ℕ) (is : List ℕ)
+    → ((i j : ℕ) → among i is ≡ true → among j is ≡ true → f i ≡ f j → i ≡ j) → AreDistinct is → AreDistinct (map f is)
 AreDistinct-map f [] one a = tt
-AreDistinct-map f (x ∷ is) one a =
-    (none (among (f x) (map f is)) refl, AreDistinct-map f is (λ i j m n. one i j (in_tail i x is m) (in_tail j x is n)) a.1)
+AreDistinct-map f (x ∷ is) one a = (
+  none (among (f x) (map f is)) refl,
+  AreDistinct-map f is (λ i j m n. one i j (in_tail i x is m) (in_tail j x is n)) a.1,
+)
   where
     none : (b : Bool) → among (f x) (map f is) ≡ b → b ≡ false
     none true e =
@@ -49,22 +53,30 @@ length-map f (x ∷ is) = ap suc (length-map f is)
 
 -- ---- arrows are nodes
 module _ (l : Links) (t : AreListed l) where
-  pub out_member : (k i : ℕ) → among i (outs_of l k) ≡ true → (is_node l.pool.nodes i ≡ true) × ((node_at l.pool.nodes i).from ≡ k)
+  pub out_member : (k i : ℕ) → among i (outs_of l k) ≡ true
+      → (is_node l.pool.nodes i ≡ true) × ((node_at l.pool.nodes i).from ≡ k)
   out_member k i m = member-live _ _ _ _ _ _ _ t.out_lists t.ids k i m
 
-  pub in_member : (k i : ℕ) → among i (ins_of l k) ≡ true → (is_node l.pool.nodes i ≡ true) × ((node_at l.pool.nodes i).to ≡ k)
+  pub in_member : (k i : ℕ) → among i (ins_of l k) ≡ true
+      → (is_node l.pool.nodes i ≡ true) × ((node_at l.pool.nodes i).to ≡ k)
   in_member k i m = member-live _ _ _ _ _ _ _ t.in_lists t.ids k i m
 
   -- a node is an arrow between its ends
-  pub has_arrow-node : (i : ℕ) → is_node l.pool.nodes i ≡ true → has_arrow l (node_at l.pool.nodes i).from (node_at l.pool.nodes i).to ≡ true
+  pub has_arrow-node : (i : ℕ) → is_node l.pool.nodes i ≡ true
+      → has_arrow l (node_at l.pool.nodes i).from (node_at l.pool.nodes i).to ≡ true
   unfolding has_arrow
-  has_arrow-node i n = among-map (λ j. (node_at l.pool.nodes j).to) (outs_of l (node_at l.pool.nodes i).from) i (live-member _ _ _ _ _ _ _ t.out_lists t.ids i n)
+  has_arrow-node i n =
+      among-map (λ j. (node_at l.pool.nodes j).to) (outs_of l (node_at l.pool.nodes i).from) i
+      (live-member _ _ _ _ _ _ _ t.out_lists t.ids i n)
 
-  pub has_arrow-ends : (i s u : ℕ) → is_node l.pool.nodes i ≡ true → (node_at l.pool.nodes i).from ≡ s → (node_at l.pool.nodes i).to ≡ u → has_arrow l s u ≡ true
+  pub has_arrow-ends : (i s u : ℕ) → is_node l.pool.nodes i ≡ true → (node_at l.pool.nodes i).from ≡ s
+      → (node_at l.pool.nodes i).to ≡ u → has_arrow l s u ≡ true
   has_arrow-ends i s u n e f = ap₂ (has_arrow l) (sym e) (sym f) ∙ has_arrow-node i n
 
   -- an arrow is a node
-  pub node-has_arrow : (s u : ℕ) → has_arrow l s u ≡ true → (i : ℕ) × (is_node l.pool.nodes i ≡ true) × ((node_at l.pool.nodes i).from ≡ s) × ((node_at l.pool.nodes i).to ≡ u)
+  pub node-has_arrow : (s u : ℕ) → has_arrow l s u ≡ true
+      → (i : ℕ) × (is_node l.pool.nodes i ≡ true) × ((node_at l.pool.nodes i).from ≡ s)
+      × ((node_at l.pool.nodes i).to ≡ u)
   unfolding has_arrow
   node-has_arrow s u h =
       let r = among-of_map (λ j. (node_at l.pool.nodes j).to) (outs_of l s) u h in
@@ -84,7 +96,9 @@ module _ (l : Links) (t : AreListed l) where
       back : has_arrow l s u ≡ true → among s (sources l u) ≡ true
       back h =
           let (i, n, e, f) = node-has_arrow s u h in
-          ap₂ (λ a b. among a (sources l b)) (sym e) (sym f) ∙ among-map (λ j. (node_at l.pool.nodes j).from) (ins_of l (node_at l.pool.nodes i).to) i (live-member _ _ _ _ _ _ _ t.in_lists t.ids i n)
+          ap₂ (λ a b. among a (sources l b)) (sym e) (sym f)
+          ∙ among-map (λ j. (node_at l.pool.nodes j).from) (ins_of l (node_at l.pool.nodes i).to) i
+          (live-member _ _ _ _ _ _ _ t.in_lists t.ids i n)
 
   pub has_arrow-targets : (s u : ℕ) → among u (targets l s) ≡ has_arrow l s u
   unfolding has_arrow
@@ -101,15 +115,18 @@ module _ (l : Links) (t : AreListed l) where
   pub distinct-targets : (k : ℕ) → AreDistinct (targets l k)
   distinct-targets k =
       AreDistinct-map (λ j. (node_at l.pool.nodes j).to) (outs_of l k)
-      (λ i j m n e. let a = out_member k i m in let b = out_member k j n in t.simple i j a.0 b.0 (a.1 ∙ sym b.1) e) (t.out_lists.distinct k)
+      (λ i j m n e. let a = out_member k i m in let b = out_member k j n in t.simple i j a.0 b.0 (a.1 ∙ sym b.1) e)
+      (t.out_lists.distinct k)
 
   pub distinct-sources : (k : ℕ) → AreDistinct (sources l k)
   distinct-sources k =
       AreDistinct-map (λ j. (node_at l.pool.nodes j).from) (ins_of l k)
-      (λ i j m n e. let a = in_member k i m in let b = in_member k j n in t.simple i j a.0 b.0 e (a.1 ∙ sym b.1)) (t.in_lists.distinct k)
+      (λ i j m n e. let a = in_member k i m in let b = in_member k j n in t.simple i j a.0 b.0 e (a.1 ∙ sym b.1))
+      (t.in_lists.distinct k)
 
   -- no node has ends that have no arrow
-  pub no_node : (s u : ℕ) → has_arrow l s u ≡ false → (i : ℕ) → is_node l.pool.nodes i ≡ true → (node_at l.pool.nodes i).from ≡ s → (node_at l.pool.nodes i).to ≡ u → ⊥
+  pub no_node : (s u : ℕ) → has_arrow l s u ≡ false → (i : ℕ) → is_node l.pool.nodes i ≡ true
+      → (node_at l.pool.nodes i).from ≡ s → (node_at l.pool.nodes i).to ≡ u → ⊥
   no_node s u h i n e f = true≢false (sym (has_arrow-ends i s u n e f) ∙ h)
 
 -- ---- one arrow changes
@@ -117,9 +134,11 @@ leave_out-none : (id : ℕ) (is : List ℕ) → among id is ≡ false → leave_
 leave_out-none id [] h = refl
 leave_out-none id (x ∷ is) h = by (eqb id x) refl h (leave_out-none id is)
   where
-    by : (b : Bool) → eqb id x ≡ b → (b || among id is) ≡ false → (among id is ≡ false → leave_out id is ≡ is) → cond (not (eqb x id)) (x ∷ leave_out id is) (leave_out id is) ≡ x ∷ is
+    by : (b : Bool) → eqb id x ≡ b → (b || among id is) ≡ false → (among id is ≡ false → leave_out id is ≡ is)
+        → cond (not (eqb x id)) (x ∷ leave_out id is) (leave_out id is) ≡ x ∷ is
     by true e h r = absurd (true≢false h)
-    by false e h r = ap (λ b. cond (not b) (x ∷ leave_out id is) (leave_out id is)) (eqb_comm x id ∙ e) ∙ ap (λ js. x ∷ js) (r h)
+    by false e h r =
+        ap (λ b. cond (not b) (x ∷ leave_out id is) (leave_out id is)) (eqb_comm x id ∙ e) ∙ ap (λ js. x ∷ js) (r h)
 
 and_not : (a b : Bool) → (b ≡ true → a ≡ true) → (a && not b) ≡ (a ⊻ b)
 and_not true true h = refl
@@ -149,7 +168,8 @@ or_right : (a b : Bool) → b ≡ true → (a || b) ≡ true
 or_right true b h = refl
 or_right false b h = h
 
-module _ (old new : Links) (t : AreListed old) (id : ℕ) (here : is_node old.pool.nodes id ≡ true) (u : IsUnlinked id old new) where
+module _ (old new : Links) (t : AreListed old) (id : ℕ) (here : is_node old.pool.nodes id ≡ true)
+    (u : IsUnlinked id old new) where
   pub gone-listed : AreListed new
   gone-listed = AreInLists-same _ _ _ _ u.nodes u.heads (AreInLists-unlinked old.pool.nodes old.heads.items t id here)
 
@@ -163,13 +183,17 @@ module _ (old new : Links) (t : AreListed old) (id : ℕ) (here : is_node old.po
   gone-was i n = (and_parts (is_node old.pool.nodes i) (not (eqb i id)) (sym (gone-node i) ∙ n)).0
 
   gone-distinct : (i : ℕ) → is_node new.pool.nodes i ≡ true → eqb i id ≡ false
-  gone-distinct i n = not-true (eqb i id) (and_parts (is_node old.pool.nodes i) (not (eqb i id)) (sym (gone-node i) ∙ n)).1
+  gone-distinct i n =
+      not-true (eqb i id) (and_parts (is_node old.pool.nodes i) (not (eqb i id)) (sym (gone-node i) ∙ n)).1
 
-  gone-from : (i : ℕ) → is_node new.pool.nodes i ≡ true → (node_at new.pool.nodes i).from ≡ (node_at old.pool.nodes i).from
-  gone-from i n = ap (λ ns. (node_at ns i).from) u.nodes ∙ from-unlinked old.pool.nodes old.heads.items t id here i (ap (λ ns. is_node ns i) (sym u.nodes) ∙ n)
+  gone-from : (i : ℕ) → is_node new.pool.nodes i ≡ true
+      → (node_at new.pool.nodes i).from ≡ (node_at old.pool.nodes i).from
+  gone-from i n = ap (λ ns. (node_at ns i).from) u.nodes
+      ∙ from-unlinked old.pool.nodes old.heads.items t id here i (ap (λ ns. is_node ns i) (sym u.nodes) ∙ n)
 
   gone-to : (i : ℕ) → is_node new.pool.nodes i ≡ true → (node_at new.pool.nodes i).to ≡ (node_at old.pool.nodes i).to
-  gone-to i n = ap (λ ns. (node_at ns i).to) u.nodes ∙ to-unlinked old.pool.nodes old.heads.items t id here i (ap (λ ns. is_node ns i) (sym u.nodes) ∙ n)
+  gone-to i n = ap (λ ns. (node_at ns i).to) u.nodes
+      ∙ to-unlinked old.pool.nodes old.heads.items t id here i (ap (λ ns. is_node ns i) (sym u.nodes) ∙ n)
 
   pub gone-outs : (k : ℕ) → outs_of new k ≡ leave_out id (outs_of old k)
   gone-outs k = (λ j. outs (u.nodes j) (u.heads j) k) ∙ outs-unlinked old.pool.nodes old.heads.items t id here k
@@ -178,46 +202,75 @@ module _ (old new : Links) (t : AreListed old) (id : ℕ) (here : is_node old.po
   gone-ins k = (λ j. ins (u.nodes j) (u.heads j) k) ∙ ins-unlinked old.pool.nodes old.heads.items t id here k
 
   -- the arrow of the node has left
-  pub has_arrow-unlinked : (s r : ℕ) → has_arrow new s r ≡ (has_arrow old s r && not (eqb s (node_at old.pool.nodes id).from && eqb r (node_at old.pool.nodes id).to))
+  pub has_arrow-unlinked : (s r : ℕ)
+      → has_arrow new s r
+      ≡ (has_arrow old s r && not (eqb s (node_at old.pool.nodes id).from && eqb r (node_at old.pool.nodes id).to))
   has_arrow-unlinked s r = same_test _ _ forth back
     where
       test : Bool
       test = eqb s (node_at old.pool.nodes id).from && eqb r (node_at old.pool.nodes id).to
 
-      forth : has_arrow new s r ≡ true → (has_arrow old s r && not (eqb s (node_at old.pool.nodes id).from && eqb r (node_at old.pool.nodes id).to)) ≡ true
+      forth : has_arrow new s r ≡ true
+          → (has_arrow old s r && not (eqb s (node_at old.pool.nodes id).from && eqb r (node_at old.pool.nodes id).to))
+          ≡ true
       forth h =
           let (i, n, e, f) = node-has_arrow new gone-listed s r h in
           let e' = sym (gone-from i n) ∙ e in
           let f' = sym (gone-to i n) ∙ f in
           let distinct = gone-distinct i n in
-          and_from (has_arrow old s r) (not (eqb s (node_at old.pool.nodes id).from && eqb r (node_at old.pool.nodes id).to)) (has_arrow-ends old t i s r (gone-was i n) e' f') (ap not (other (eqb s (node_at old.pool.nodes id).from && eqb r (node_at old.pool.nodes id).to) refl i (gone-was i n) e' f' distinct))
+          and_from (has_arrow old s r) (not (eqb s (node_at old.pool.nodes id).from
+          && eqb r (node_at old.pool.nodes id).to)) (has_arrow-ends old t i s r (gone-was i n) e' f')
+          (ap not (other (eqb s (node_at old.pool.nodes id).from && eqb r (node_at old.pool.nodes id).to) refl i
+          (gone-was i n) e' f' distinct))
         where
-          other : (b : Bool) → (eqb s (node_at old.pool.nodes id).from && eqb r (node_at old.pool.nodes id).to) ≡ b → (i : ℕ) → is_node old.pool.nodes i ≡ true → (node_at old.pool.nodes i).from ≡ s → (node_at old.pool.nodes i).to ≡ r → eqb i id ≡ false
+          other : (b : Bool) → (eqb s (node_at old.pool.nodes id).from && eqb r (node_at old.pool.nodes id).to) ≡ b
+              → (i : ℕ) → is_node old.pool.nodes i ≡ true → (node_at old.pool.nodes i).from ≡ s
+              → (node_at old.pool.nodes i).to ≡ r → eqb i id ≡ false
               → (eqb s (node_at old.pool.nodes id).from && eqb r (node_at old.pool.nodes id).to) ≡ false
           other true q i n e f distinct =
               let p = and_parts (eqb s (node_at old.pool.nodes id).from) (eqb r (node_at old.pool.nodes id).to) q in
-              absurd (true≢false (sym (eq-eqb i id (t.simple i id n here (e ∙ eqb-true s (node_at old.pool.nodes id).from p.0) (f ∙ eqb-true r (node_at old.pool.nodes id).to p.1))) ∙ distinct))
+              absurd (true≢false (sym (eq-eqb i id (t.simple i id n here
+              (e ∙ eqb-true s (node_at old.pool.nodes id).from p.0)
+              (f ∙ eqb-true r (node_at old.pool.nodes id).to p.1))) ∙ distinct))
           other false q i n e f distinct = q
 
-      back : (has_arrow old s r && not (eqb s (node_at old.pool.nodes id).from && eqb r (node_at old.pool.nodes id).to)) ≡ true → has_arrow new s r ≡ true
+      back : (has_arrow old s r && not (eqb s (node_at old.pool.nodes id).from && eqb r (node_at old.pool.nodes id).to))
+          ≡ true → has_arrow new s r ≡ true
       back h =
-          let p = and_parts (has_arrow old s r) (not (eqb s (node_at old.pool.nodes id).from && eqb r (node_at old.pool.nodes id).to)) h in
+          let p = and_parts (has_arrow old s r)
+          (not (eqb s (node_at old.pool.nodes id).from && eqb r (node_at old.pool.nodes id).to)) h in
           let (i, n, e, f) = node-has_arrow old t s r p.0 in
-          let distinct : eqb i id ≡ false = ne_eqb i id (λ q. true≢false (sym (and_from (eqb s (node_at old.pool.nodes id).from) (eqb r (node_at old.pool.nodes id).to) (eq-eqb s (node_at old.pool.nodes id).from (sym e ∙ ap (λ j. (node_at old.pool.nodes j).from) q)) (eq-eqb r (node_at old.pool.nodes id).to (sym f ∙ ap (λ j. (node_at old.pool.nodes j).to) q))) ∙ not-true (eqb s (node_at old.pool.nodes id).from && eqb r (node_at old.pool.nodes id).to) p.1)) in
+          let distinct : eqb i id ≡ false =
+          ne_eqb i id (λ q. true≢false (sym (and_from (eqb s (node_at old.pool.nodes id).from)
+          (eqb r (node_at old.pool.nodes id).to)
+          (eq-eqb s (node_at old.pool.nodes id).from (sym e ∙ ap (λ j. (node_at old.pool.nodes j).from) q))
+          (eq-eqb r (node_at old.pool.nodes id).to (sym f ∙ ap (λ j. (node_at old.pool.nodes j).to) q)))
+          ∙ not-true (eqb s (node_at old.pool.nodes id).from && eqb r (node_at old.pool.nodes id).to) p.1)) in
           let stays = gone-node i ∙ and_from (is_node old.pool.nodes i) (not (eqb i id)) n (ap not distinct) in
           has_arrow-ends new gone-listed i s r stays (gone-from i stays ∙ e) (gone-to i stays ∙ f)
 
   -- so the arrow is toggled
-  pub IsToggled-unlinked : (p q : ℕ) → (node_at old.pool.nodes id).from ≡ p → (node_at old.pool.nodes id).to ≡ q → old.pool.spare ≤ new.pool.spare + 1 → IsToggled p q old new
+  pub IsToggled-unlinked : (p q : ℕ) → (node_at old.pool.nodes id).from ≡ p → (node_at old.pool.nodes id).to ≡ q
+      → old.pool.spare ≤ new.pool.spare + 1 → IsToggled p q old new
   IsToggled-unlinked p q e f room = record {
     listed = gone-listed;
     width = ap length u.heads ∙ length-unlinked old.pool.nodes old.heads.items t id here;
     arrows = λ s r.
         has_arrow-unlinked s r
         ∙ (λ i. has_arrow old s r && not (eqb s (e i) && eqb r (f i)))
-        ∙ and_not (has_arrow old s r) (eqb s p && eqb r q) (λ h. let a = and_parts (eqb s p) (eqb r q) h in has_arrow-ends old t id s r here (e ∙ sym (eqb-true s p a.0)) (f ∙ sym (eqb-true r q a.1)));
-    other_outs = λ k h. gone-outs k ∙ leave_out-none id (outs_of old k) (t.out_lists.members k id ∙ ap (λ b. is_node old.pool.nodes id && b) (ap (λ j. eqb j k) e ∙ eqb_comm p k ∙ h) ∙ and_false (is_node old.pool.nodes id));
-    other_ins = λ k h. gone-ins k ∙ leave_out-none id (ins_of old k) (t.in_lists.members k id ∙ ap (λ b. is_node old.pool.nodes id && b) (ap (λ j. eqb j k) f ∙ eqb_comm q k ∙ h) ∙ and_false (is_node old.pool.nodes id));
+        ∙ and_not (has_arrow old s r) (eqb s p && eqb r q)
+        (λ h. let a = and_parts (eqb s p) (eqb r q) h in
+        has_arrow-ends old t id s r here (e ∙ sym (eqb-true s p a.0)) (f ∙ sym (eqb-true r q a.1)));
+    other_outs =
+        λ k h. gone-outs k
+        ∙ leave_out-none id (outs_of old k)
+        (t.out_lists.members k id ∙ ap (λ b. is_node old.pool.nodes id && b) (ap (λ j. eqb j k) e ∙ eqb_comm p k ∙ h)
+        ∙ and_false (is_node old.pool.nodes id));
+    other_ins =
+        λ k h. gone-ins k
+        ∙ leave_out-none id (ins_of old k)
+        (t.in_lists.members k id ∙ ap (λ b. is_node old.pool.nodes id && b) (ap (λ j. eqb j k) f ∙ eqb_comm q k ∙ h)
+        ∙ and_false (is_node old.pool.nodes id));
     ends = λ i n m. (gone-from i m, gone-to i m);
     room = room;
   }
@@ -226,32 +279,45 @@ module _ (old new : Links) (t : AreListed old) (id : ℕ) (here : is_node old.po
       and_false true = refl
       and_false false = refl
 
-module _ (old new : Links) (t : AreListed old) (p q : ℕ) (p_in : p < width old) (q_in : q < width old) (absent : has_arrow old p q ≡ false) (u : IsLinked p q old new) where
-  none : (i : ℕ) → is_node old.pool.nodes i ≡ true → (node_at old.pool.nodes i).from ≡ p → (node_at old.pool.nodes i).to ≡ q → ⊥
+module _ (old new : Links) (t : AreListed old) (p q : ℕ) (p_in : p < width old) (q_in : q < width old)
+    (absent : has_arrow old p q ≡ false) (u : IsLinked p q old new) where
+  none : (i : ℕ) → is_node old.pool.nodes i ≡ true → (node_at old.pool.nodes i).from ≡ p
+      → (node_at old.pool.nodes i).to ≡ q → ⊥
   none = no_node old t p q absent
 
   put-listed : AreListed new
-  put-listed = AreInLists-same _ _ _ _ u.nodes u.heads (AreInLists-linked old.pool.nodes old.heads.items t u.id u.fresh u.is_id p q p_in q_in none)
+  put-listed =
+      AreInLists-same _ _ _ _ u.nodes u.heads
+      (AreInLists-linked old.pool.nodes old.heads.items t u.id u.fresh u.is_id p q p_in q_in none)
 
   put-node : (i : ℕ) → is_node new.pool.nodes i ≡ (eqb i u.id || is_node old.pool.nodes i)
-  put-node i = ap (λ ns. is_node ns i) u.nodes ∙ is_node-linked old.pool.nodes old.heads.items t u.id u.fresh u.is_id p q p_in q_in none i
+  put-node i = ap (λ ns. is_node ns i) u.nodes
+      ∙ is_node-linked old.pool.nodes old.heads.items t u.id u.fresh u.is_id p q p_in q_in none i
 
-  put-from : (i : ℕ) → eqb i no_id ≡ false → (node_at new.pool.nodes i).from ≡ cond (eqb i u.id) p (node_at old.pool.nodes i).from
-  put-from i ne = ap (λ ns. (node_at ns i).from) u.nodes ∙ from-put old.pool.nodes old.heads.items t u.id u.fresh u.is_id p q p_in q_in none i ne
+  put-from : (i : ℕ) → eqb i no_id ≡ false
+      → (node_at new.pool.nodes i).from ≡ cond (eqb i u.id) p (node_at old.pool.nodes i).from
+  put-from i ne = ap (λ ns. (node_at ns i).from) u.nodes
+      ∙ from-put old.pool.nodes old.heads.items t u.id u.fresh u.is_id p q p_in q_in none i ne
 
-  put-to : (i : ℕ) → eqb i no_id ≡ false → (node_at new.pool.nodes i).to ≡ cond (eqb i u.id) q (node_at old.pool.nodes i).to
-  put-to i ne = ap (λ ns. (node_at ns i).to) u.nodes ∙ to-put old.pool.nodes old.heads.items t u.id u.fresh u.is_id p q p_in q_in none i ne
+  put-to : (i : ℕ) → eqb i no_id ≡ false
+      → (node_at new.pool.nodes i).to ≡ cond (eqb i u.id) q (node_at old.pool.nodes i).to
+  put-to i ne = ap (λ ns. (node_at ns i).to) u.nodes
+      ∙ to-put old.pool.nodes old.heads.items t u.id u.fresh u.is_id p q p_in q_in none i ne
 
   put-old : (i : ℕ) → is_node old.pool.nodes i ≡ true → eqb i u.id ≡ false
   put-old i n = ne_eqb i u.id (λ e. true≢false (sym n ∙ ap (is_node old.pool.nodes) e ∙ u.fresh))
 
   put-outs : (k : ℕ) → outs_of new k ≡ cond (eqb k p) (u.id ∷ outs_of old k) (outs_of old k)
-  put-outs k = (λ j. outs (u.nodes j) (u.heads j) k) ∙ outs-linked old.pool.nodes old.heads.items t u.id u.fresh u.is_id p q p_in q_in none k
+  put-outs k = (λ j. outs (u.nodes j) (u.heads j) k)
+      ∙ outs-linked old.pool.nodes old.heads.items t u.id u.fresh u.is_id p q p_in q_in none k
 
   put-ins : (k : ℕ) → ins_of new k ≡ cond (eqb k q) (u.id ∷ ins_of old k) (ins_of old k)
-  put-ins k = (λ j. ins (u.nodes j) (u.heads j) k) ∙ ins-linked old.pool.nodes old.heads.items t u.id u.fresh u.is_id p q p_in q_in none k
+  put-ins k = (λ j. ins (u.nodes j) (u.heads j) k)
+      ∙ ins-linked old.pool.nodes old.heads.items t u.id u.fresh u.is_id p q p_in q_in none k
 
-  old-ends : (i : ℕ) → is_node old.pool.nodes i ≡ true → ((node_at new.pool.nodes i).from ≡ (node_at old.pool.nodes i).from) × ((node_at new.pool.nodes i).to ≡ (node_at old.pool.nodes i).to)
+  old-ends : (i : ℕ) → is_node old.pool.nodes i ≡ true
+      → ((node_at new.pool.nodes i).from ≡ (node_at old.pool.nodes i).from)
+      × ((node_at new.pool.nodes i).to ≡ (node_at old.pool.nodes i).to)
   old-ends i n = (
     put-from i (t.ids i n) ∙ ap (λ b. cond b p (node_at old.pool.nodes i).from) (put-old i n),
     put-to i (t.ids i n) ∙ ap (λ b. cond b q (node_at old.pool.nodes i).to) (put-old i n),
@@ -267,8 +333,12 @@ module _ (old new : Links) (t : AreListed old) (p q : ℕ) (p_in : p < width old
           let ne = put-listed.ids i n in
           elim (or_cases (eqb i u.id) (is_node old.pool.nodes i) (sym (put-node i) ∙ n)) [
             | inl is ↦ or_right (has_arrow old s r) (eqb s p && eqb r q)
-                (and_from (eqb s p) (eqb r q) (eq-eqb s p (sym e ∙ put-from i ne ∙ ap (λ b. cond b p (node_at old.pool.nodes i).from) is)) (eq-eqb r q (sym f ∙ put-to i ne ∙ ap (λ b. cond b q (node_at old.pool.nodes i).to) is)))
-            | inr is ↦ let o = old-ends i is in or_left (has_arrow old s r) (eqb s p && eqb r q) (has_arrow-ends old t i s r is (sym o.0 ∙ e) (sym o.1 ∙ f))
+                (and_from (eqb s p) (eqb r q) (eq-eqb s p (sym e ∙ put-from i ne
+                ∙ ap (λ b. cond b p (node_at old.pool.nodes i).from) is))
+                (eq-eqb r q (sym f ∙ put-to i ne ∙ ap (λ b. cond b q (node_at old.pool.nodes i).to) is)))
+            | inr is ↦ let o = old-ends i is in
+                or_left (has_arrow old s r) (eqb s p && eqb r q)
+                (has_arrow-ends old t i s r is (sym o.0 ∙ e) (sym o.1 ∙ f))
           ]
 
       back : (has_arrow old s r || (eqb s p && eqb r q)) ≡ true → has_arrow new s r ≡ true
@@ -276,19 +346,26 @@ module _ (old new : Links) (t : AreListed old) (p q : ℕ) (p_in : p < width old
         | inl a ↦
             let (i, n, e, f) = node-has_arrow old t s r a in
             let o = old-ends i n in
-            has_arrow-ends new put-listed i s r (put-node i ∙ or_right (eqb i u.id) (is_node old.pool.nodes i) n) (o.0 ∙ e) (o.1 ∙ f)
+            has_arrow-ends new put-listed i s r (put-node i ∙ or_right (eqb i u.id) (is_node old.pool.nodes i) n)
+            (o.0 ∙ e) (o.1 ∙ f)
         | inr a ↦
             let b = and_parts (eqb s p) (eqb r q) a in
-            has_arrow-ends new put-listed u.id s r (put-node u.id ∙ or_left (eqb u.id u.id) (is_node old.pool.nodes u.id) (eq-eqb u.id u.id refl))
-            (put-from u.id u.is_id ∙ ap (λ b. cond b p (node_at old.pool.nodes u.id).from) (eq-eqb u.id u.id refl) ∙ sym (eqb-true s p b.0))
-            (put-to u.id u.is_id ∙ ap (λ b. cond b q (node_at old.pool.nodes u.id).to) (eq-eqb u.id u.id refl) ∙ sym (eqb-true r q b.1))
+            has_arrow-ends new put-listed u.id s r
+            (put-node u.id ∙ or_left (eqb u.id u.id) (is_node old.pool.nodes u.id) (eq-eqb u.id u.id refl))
+            (put-from u.id u.is_id ∙ ap (λ b. cond b p (node_at old.pool.nodes u.id).from) (eq-eqb u.id u.id refl)
+            ∙ sym (eqb-true s p b.0))
+            (put-to u.id u.is_id ∙ ap (λ b. cond b q (node_at old.pool.nodes u.id).to) (eq-eqb u.id u.id refl)
+            ∙ sym (eqb-true r q b.1))
       ]
 
   pub IsToggled-linked : old.pool.spare ≤ new.pool.spare + 1 → IsToggled p q old new
   IsToggled-linked room = record {
     listed = put-listed;
     width = ap length u.heads ∙ length-linked old.pool.nodes old.heads.items t u.id u.fresh u.is_id p q p_in q_in none;
-    arrows = λ s r. has_arrow-linked s r ∙ or_new (has_arrow old s r) (eqb s p && eqb r q) (λ h. let a = and_parts (eqb s p) (eqb r q) h in ap₂ (has_arrow old) (eqb-true s p a.0) (eqb-true r q a.1) ∙ absent);
+    arrows = λ s r. has_arrow-linked s r
+        ∙ or_new (has_arrow old s r) (eqb s p && eqb r q)
+        (λ h. let a = and_parts (eqb s p) (eqb r q) h in
+        ap₂ (has_arrow old) (eqb-true s p a.0) (eqb-true r q a.1) ∙ absent);
     other_outs = λ k h. put-outs k ∙ ap (λ b. cond b (u.id ∷ outs_of old k) (outs_of old k)) h;
     other_ins = λ k h. put-ins k ∙ ap (λ b. cond b (u.id ∷ ins_of old k) (ins_of old k)) h;
     ends = λ i n m. old-ends i n;
@@ -296,7 +373,8 @@ module _ (old new : Links) (t : AreListed old) (p q : ℕ) (p_in : p < width old
   }
 
 -- the code that is read at a key
-pub cell_is : (cells : List Cell) (k : ℕ) (x : Cell) → k < length cells → x ≡ get_or cells k x → code_at cells k ≡ x.code
+pub cell_is : (cells : List Cell) (k : ℕ) (x : Cell) → k < length cells → x ≡ get_or cells k x
+    → code_at cells k ≡ x.code
 unfolding code_at
 cell_is cells k x l e = ap (λ (z : Cell). z.code) (default cells k no_cell x l ∙ sym e)
   where
@@ -328,12 +406,14 @@ lt_or_eq k n l = by (eqb k n) refl
     by false e = inl (grind (arith, e, l))
 
 -- what a search answers
-pub found-has_arrow : (l : Links) (t : AreListed l) (p q : ℕ) (o : Option ℕ) → IfSome o (IsArrow l p q) → (IsNone o → has_arrow l p q ≡ false) → is_some o ≡ has_arrow l p q
+pub found-has_arrow : (l : Links) (t : AreListed l) (p q : ℕ) (o : Option ℕ) → IfSome o (IsArrow l p q)
+    → (IsNone o → has_arrow l p q ≡ false) → is_some o ≡ has_arrow l p q
 found-has_arrow l t p q None f n = sym (n refl)
 found-has_arrow l t p q (Some i) f n = sym (has_arrow-ends l t i p q f.0 f.1 f.2)
 
 -- ---- no arrows
-module _ (nodes : Nodes) (heads : List Head) (empty : nodes ≡ fin.empty) (none : (k : ℕ) → head_at heads k ≡ no_head) where
+module _ (nodes : Nodes) (heads : List Head) (empty : nodes ≡ fin.empty)
+    (none : (k : ℕ) → head_at heads k ≡ no_head) where
   no-node : (i : ℕ) → is_node nodes i ≡ false
   unfolding is_node
   no-node i = ap (λ ns. is_some (fin.get ns i)) empty ∙ ap is_some (fin.get-empty nat_cmp i)
@@ -356,18 +436,21 @@ module _ (nodes : Nodes) (heads : List Head) (empty : nodes ≡ fin.empty) (none
       bounded = λ i l. absurd (true≢false (sym l ∙ no-node i));
       members = λ k i. ap (among i) (outs-none k) ∙ sym (ap (λ b. b && eqb (node_at nodes i).from k) (no-node i));
       distinct = λ k. subst AreDistinct (sym (outs-none k)) tt;
-      linked = λ k. subst (λ is. IsList (λ i. (node_at nodes i).next_out) (λ i. (node_at nodes i).prev_out) no_id (head_at heads k).first_out is) (sym (outs-none k)) (ap (λ (h : Head). h.first_out) (none k));
+      linked = λ k. subst (λ is. IsList (λ i. (node_at nodes i).next_out) (λ i. (node_at nodes i).prev_out) no_id
+          (head_at heads k).first_out is) (sym (outs-none k)) (ap (λ (h : Head). h.first_out) (none k));
     };
     in_lists = record {
       bounded = λ i l. absurd (true≢false (sym l ∙ no-node i));
       members = λ k i. ap (among i) (ins-none k) ∙ sym (ap (λ b. b && eqb (node_at nodes i).to k) (no-node i));
       distinct = λ k. subst AreDistinct (sym (ins-none k)) tt;
-      linked = λ k. subst (λ is. IsList (λ i. (node_at nodes i).next_in) (λ i. (node_at nodes i).prev_in) no_id (head_at heads k).first_in is) (sym (ins-none k)) (ap (λ (h : Head). h.first_in) (none k));
+      linked = λ k. subst (λ is. IsList (λ i. (node_at nodes i).next_in) (λ i. (node_at nodes i).prev_in) no_id
+          (head_at heads k).first_in is) (sym (ins-none k)) (ap (λ (h : Head). h.first_in) (none k));
     };
     simple = λ i j l m e f. absurd (true≢false (sym l ∙ no-node i));
   }
 
-pub has_arrow-none : (l : Links) → l.pool.nodes ≡ fin.empty → ((k : ℕ) → head_at l.heads.items k ≡ no_head) → (s t : ℕ) → has_arrow l s t ≡ false
+pub has_arrow-none : (l : Links) → l.pool.nodes ≡ fin.empty → ((k : ℕ) → head_at l.heads.items k ≡ no_head) → (s t : ℕ)
+    → has_arrow l s t ≡ false
 unfolding has_arrow
 has_arrow-none l empty none s t = ap (λ is. among t (tos l is)) (outs-none l.pool.nodes l.heads.items empty none s)
 

@@ -12,15 +12,19 @@ use Rattle.sparse_complex.specs.declared.links.Links.{Links}
 use Rattle.sparse_complex.specs.declared.slices.Cell.{Cell}
 use Rattle.sparse_complex.specs.Inner.Lists.{no_id, among, node_at, head_at, outs}
 use Rattle.sparse_complex.specs.Inner.Graph.{width, targets, has_arrow, no_cell, code_at}
-use Rattle.sparse_complex.specs.Inner.Kept.{no_key, key_of, is_live, maslov_at, target_codes, entry_of, entries_below, slice_of, IsLiveKey, IsStored, IsKept}
+use Rattle.sparse_complex.specs.Inner.Kept.{no_key, key_of, is_live, maslov_at, target_codes, entry_of, entries_below, slice_of, IsLiveKey, IsKeptByKey, IsKept}
 use Rattle.sparse_complex.proofs.ListLemmas.{same_test}
 use Rattle.sparse_complex.proofs.LinkLemmas.{AreInLists-same}
 use Rattle.sparse_complex.proofs.GraphLemmas.{among-map, among-of_map, has_arrow-targets, has_arrow-from, has_arrow-to}
 
 -- ---- the entries of live codes
 find-below : (keys : List ℕ) (cells : List Cell) (links : Links) (n c : ℕ)
-    → find nat_cmp c (entries_below keys cells links n) ≡ cond (ltb c n && is_live keys c) (Some (maslov_at cells (key_of keys c), target_codes cells links (key_of keys c))) None
-find-below keys cells links zero c = ap (λ b. cond (b && is_live keys c) (Some (maslov_at cells (key_of keys c), target_codes cells links (key_of keys c))) None) (sym (none c))
+    → find nat_cmp c (entries_below keys cells links n)
+    ≡ cond (ltb c n && is_live keys c)
+    (Some (maslov_at cells (key_of keys c), target_codes cells links (key_of keys c))) None
+find-below keys cells links zero c =
+    ap (λ b. cond (b && is_live keys c)
+    (Some (maslov_at cells (key_of keys c), target_codes cells links (key_of keys c))) None) (sym (none c))
   where
     none : (c : ℕ) → ltb c 0 ≡ false
     none c = grind arith
@@ -39,15 +43,22 @@ find-below keys cells links (suc n) c = by (is_live keys n) refl (eqb c n) refl 
     not_below c n e = grind arith
 
     by : (b : Bool) → is_live keys n ≡ b → (d : Bool) → eqb c n ≡ d
-        → find nat_cmp c (entries_below keys cells links n) ≡ cond (ltb c n && is_live keys c) (Some (maslov_at cells (key_of keys c), target_codes cells links (key_of keys c))) None
-        → find nat_cmp c (cond b (entry_of keys cells links n ∷ entries_below keys cells links n) (entries_below keys cells links n))
-        ≡ cond (ltb c (suc n) && is_live keys c) (Some (maslov_at cells (key_of keys c), target_codes cells links (key_of keys c))) None
+        → find nat_cmp c (entries_below keys cells links n)
+        ≡ cond (ltb c n && is_live keys c)
+        (Some (maslov_at cells (key_of keys c), target_codes cells links (key_of keys c))) None
+        → find nat_cmp c (cond b (entry_of keys cells links n ∷ entries_below keys cells links n)
+        (entries_below keys cells links n))
+        ≡ cond (ltb c (suc n) && is_live keys c)
+        (Some (maslov_at cells (key_of keys c), target_codes cells links (key_of keys c))) None
     by true l true e r =
-        ap (λ t. cond t (Some (maslov_at cells (key_of keys n), target_codes cells links (key_of keys n))) (find nat_cmp c (entries_below keys cells links n))) (unsigned_tied c n ∙ e)
-        ∙ ap (λ k. Some (maslov_at cells (key_of keys k), target_codes cells links (key_of keys k))) (sym (eqb-true c n e))
+        ap (λ t. cond t (Some (maslov_at cells (key_of keys n), target_codes cells links (key_of keys n)))
+        (find nat_cmp c (entries_below keys cells links n))) (unsigned_tied c n ∙ e)
+        ∙ ap (λ k. Some (maslov_at cells (key_of keys k), target_codes cells links (key_of keys k)))
+        (sym (eqb-true c n e))
         ∙ sym (ap (λ t. cond t value None) (ap₂ (λ a b. a && b) (here c n e) (ap (is_live keys) (eqb-true c n e) ∙ l)))
     by true l false e r =
-        ap (λ t. cond t (Some (maslov_at cells (key_of keys n), target_codes cells links (key_of keys n))) (find nat_cmp c (entries_below keys cells links n))) (unsigned_tied c n ∙ e)
+        ap (λ t. cond t (Some (maslov_at cells (key_of keys n), target_codes cells links (key_of keys n)))
+        (find nat_cmp c (entries_below keys cells links n))) (unsigned_tied c n ∙ e)
         ∙ r ∙ ap (λ t. cond (t && is_live keys c) value None) (sym (below c n e))
     by false l true e r =
         r ∙ ap (λ t. cond (t && is_live keys c) value None) (not_below c n e)
@@ -72,26 +83,40 @@ live_below keys c = by (ltb c (length keys)) refl
     by false e = sym (ap (λ k. not (eqb k no_key)) (past keys c (not_below c (length keys) e)))
 
 module _ (keys : List ℕ) (cells : List Cell) (links : Links) where
-  get-slice_of : (c : ℕ) → fin.get (slice_of keys cells links) c ≡ cond (is_live keys c) (Some (maslov_at cells (key_of keys c), target_codes cells links (key_of keys c))) None
+  get-slice_of : (c : ℕ)
+      → fin.get (slice_of keys cells links) c
+      ≡ cond (is_live keys c) (Some (maslov_at cells (key_of keys c), target_codes cells links (key_of keys c))) None
   unfolding slice_of
   get-slice_of c =
       fin.get-from_entries nat_cmp_total (entries_below keys cells links (length keys)) c
       ∙ find-below keys cells links (length keys) c
-      ∙ ap (λ b. cond b (Some (maslov_at cells (key_of keys c), target_codes cells links (key_of keys c))) None) (live_below keys c)
+      ∙ ap (λ b. cond b (Some (maslov_at cells (key_of keys c), target_codes cells links (key_of keys c))) None)
+      (live_below keys c)
 
   -- the degree of a code in the slice
-  pub degree-slice_of : (c : ℕ) → (slice_complex (slice_of keys cells links)).degree c ≡ cond (is_live keys c) (Some (maslov_at cells (key_of keys c))) None
+  pub degree-slice_of : (c : ℕ)
+      → (slice_complex (slice_of keys cells links)).degree c
+      ≡ cond (is_live keys c) (Some (maslov_at cells (key_of keys c))) None
   degree-slice_of c = ap degree_in (get-slice_of c) ∙ by (is_live keys c)
     where
-      by : (b : Bool) → degree_in (cond b (Some (maslov_at cells (key_of keys c), target_codes cells links (key_of keys c))) None) ≡ cond b (Some (maslov_at cells (key_of keys c))) None
+      by : (b : Bool)
+          → degree_in (cond b (Some (maslov_at cells (key_of keys c), target_codes cells links (key_of keys c))) None)
+          ≡ cond b (Some (maslov_at cells (key_of keys c))) None
       by true = refl
       by false = refl
 
   -- its arrows
-  pub arrow-slice_of : (c d : ℕ) → arrow (slice_complex (slice_of keys cells links)) c d ≡ (is_live keys c && among d (map (code_at cells) (targets links (key_of keys c))))
+  pub arrow-slice_of : (c d : ℕ)
+      → arrow (slice_complex (slice_of keys cells links)) c d
+      ≡ (is_live keys c && among d (map (code_at cells) (targets links (key_of keys c))))
   arrow-slice_of c d = ap (λ o. holds (targets_in o) d) (get-slice_of c) ∙ by (is_live keys c)
     where
-      by : (b : Bool) → holds (targets_in (cond b (Some (maslov_at cells (key_of keys c), target_codes cells links (key_of keys c))) None)) d ≡ (b && among d (map (code_at cells) (targets links (key_of keys c))))
+      by : (b : Bool)
+          → holds (targets_in (cond b (Some (
+            maslov_at cells (key_of keys c),
+            target_codes cells links (key_of keys c),
+          )) None)) d
+          ≡ (b && among d (map (code_at cells) (targets links (key_of keys c))))
       by true = holds-of_codes (map (code_at cells) (targets links (key_of keys c))) d
       by false = holds-nothing d
 
@@ -99,61 +124,81 @@ not-false : (b : Bool) → not b ≡ true → b ≡ false
 not-false true h = sym h
 not-false false h = refl
 
--- ---- what is stored
-module _ (keys : List ℕ) (cells : List Cell) (links : Links) (s : IsStored keys cells links) where
+-- ---- what is kept
+module _ (keys : List ℕ) (cells : List Cell) (links : Links) (s : IsKeptByKey keys cells links) where
   -- a key that leads back to itself is the key of a live code
   pub live-code : (p : ℕ) → p < width links → IsLiveKey keys cells p → is_live keys (code_at cells p) ≡ true
   live-code p l e = let sm = s.small in ap not (ap (λ k. eqb k no_key) e ∙ ne_eqb p no_key (λ h. omega arith))
 
   -- the arrows of the slice are those between the keys
-  pub arrow-stored : (c d : ℕ) → arrow (slice_complex (slice_of keys cells links)) c d ≡ ((is_live keys c && is_live keys d) && has_arrow links (key_of keys c) (key_of keys d))
-  arrow-stored c d = arrow-slice_of keys cells links c d ∙ by (is_live keys c) refl
+  pub arrow-kept : (c d : ℕ)
+      → arrow (slice_complex (slice_of keys cells links)) c d
+      ≡ ((is_live keys c && is_live keys d) && has_arrow links (key_of keys c) (key_of keys d))
+  arrow-kept c d = arrow-slice_of keys cells links c d ∙ by (is_live keys c) refl
     where
-      forth : is_live keys c ≡ true → among d (map (code_at cells) (targets links (key_of keys c))) ≡ true → (is_live keys d && has_arrow links (key_of keys c) (key_of keys d)) ≡ true
+      forth : is_live keys c ≡ true → among d (map (code_at cells) (targets links (key_of keys c))) ≡ true
+          → (is_live keys d && has_arrow links (key_of keys c) (key_of keys d)) ≡ true
       forth l m =
           let (q, in_targets, is) = among-of_map (code_at cells) (targets links (key_of keys c)) d m in
-          let h : has_arrow links (key_of keys c) q ≡ true = sym (has_arrow-targets links s.listed (key_of keys c) q) ∙ in_targets in
+          let h : has_arrow links (key_of keys c) q ≡ true =
+          sym (has_arrow-targets links s.listed (key_of keys c) q) ∙ in_targets in
           let back : key_of keys d ≡ q = ap (key_of keys) (sym is) ∙ (s.ends (key_of keys c) q h).1 in
           and_from (is_live keys d) (has_arrow links (key_of keys c) (key_of keys d))
-          (ap (is_live keys) (sym is) ∙ live-code q (has_arrow-to links s.listed (key_of keys c) q h) (s.ends (key_of keys c) q h).1)
+          (ap (is_live keys) (sym is)
+          ∙ live-code q (has_arrow-to links s.listed (key_of keys c) q h) (s.ends (key_of keys c) q h).1)
           (ap (has_arrow links (key_of keys c)) back ∙ h)
 
-      back : (is_live keys d && has_arrow links (key_of keys c) (key_of keys d)) ≡ true → among d (map (code_at cells) (targets links (key_of keys c))) ≡ true
+      back : (is_live keys d && has_arrow links (key_of keys c) (key_of keys d)) ≡ true
+          → among d (map (code_at cells) (targets links (key_of keys c))) ≡ true
       back h =
           let p = and_parts (is_live keys d) (has_arrow links (key_of keys c) (key_of keys d)) h in
           ap (λ k. among k (map (code_at cells) (targets links (key_of keys c)))) (sym (s.keyed d p.0).1)
-          ∙ among-map (code_at cells) (targets links (key_of keys c)) (key_of keys d) (has_arrow-targets links s.listed (key_of keys c) (key_of keys d) ∙ p.1)
+          ∙ among-map (code_at cells) (targets links (key_of keys c)) (key_of keys d)
+          (has_arrow-targets links s.listed (key_of keys c) (key_of keys d) ∙ p.1)
 
-      by : (b : Bool) → is_live keys c ≡ b → (b && among d (map (code_at cells) (targets links (key_of keys c)))) ≡ ((b && is_live keys d) && has_arrow links (key_of keys c) (key_of keys d))
+      by : (b : Bool) → is_live keys c ≡ b
+          → (b && among d (map (code_at cells) (targets links (key_of keys c))))
+          ≡ ((b && is_live keys d) && has_arrow links (key_of keys c) (key_of keys d))
       by true e = same_test _ _ (forth e) back
       by false e = refl
 
   -- an arrow between keys is an arrow between their codes
-  pub arrow-keys : (p q : ℕ) → has_arrow links p q ≡ true → arrow (slice_complex (slice_of keys cells links)) (code_at cells p) (code_at cells q) ≡ true
+  pub arrow-keys : (p q : ℕ) → has_arrow links p q ≡ true
+      → arrow (slice_complex (slice_of keys cells links)) (code_at cells p) (code_at cells q) ≡ true
   arrow-keys p q h =
       let e = s.ends p q h in
-      arrow-stored (code_at cells p) (code_at cells q)
-      ∙ and_from (is_live keys (code_at cells p) && is_live keys (code_at cells q)) (has_arrow links (key_of keys (code_at cells p)) (key_of keys (code_at cells q)))
-      (and_from (is_live keys (code_at cells p)) (is_live keys (code_at cells q)) (live-code p (has_arrow-from links s.listed p q h) e.0) (live-code q (has_arrow-to links s.listed p q h) e.1))
+      arrow-kept (code_at cells p) (code_at cells q)
+      ∙ and_from (is_live keys (code_at cells p) && is_live keys (code_at cells q))
+      (has_arrow links (key_of keys (code_at cells p)) (key_of keys (code_at cells q)))
+      (and_from (is_live keys (code_at cells p)) (is_live keys (code_at cells q))
+      (live-code p (has_arrow-from links s.listed p q h) e.0) (live-code q (has_arrow-to links s.listed p q h) e.1))
       (ap₂ (has_arrow links) e.0 e.1 ∙ h)
 
   -- of live codes
-  pub arrow-live : (c d : ℕ) → is_live keys c ≡ true → is_live keys d ≡ true → arrow (slice_complex (slice_of keys cells links)) c d ≡ has_arrow links (key_of keys c) (key_of keys d)
-  arrow-live c d l m = arrow-stored c d ∙ ap (λ b. b && has_arrow links (key_of keys c) (key_of keys d)) (and_from (is_live keys c) (is_live keys d) l m)
+  pub arrow-live : (c d : ℕ) → is_live keys c ≡ true → is_live keys d ≡ true
+      → arrow (slice_complex (slice_of keys cells links)) c d ≡ has_arrow links (key_of keys c) (key_of keys d)
+  arrow-live c d l m = arrow-kept c d
+      ∙ ap (λ b. b && has_arrow links (key_of keys c) (key_of keys d)) (and_from (is_live keys c) (is_live keys d) l m)
 
   -- both ends of an arrow are live
-  pub ends-live : (c d : ℕ) → arrow (slice_complex (slice_of keys cells links)) c d ≡ true → (is_live keys c ≡ true) × (is_live keys d ≡ true) × (has_arrow links (key_of keys c) (key_of keys d) ≡ true)
+  pub ends-live : (c d : ℕ) → arrow (slice_complex (slice_of keys cells links)) c d ≡ true
+      → (is_live keys c ≡ true) × (is_live keys d ≡ true) × (has_arrow links (key_of keys c) (key_of keys d) ≡ true)
   ends-live c d h =
-      let p = and_parts (is_live keys c && is_live keys d) (has_arrow links (key_of keys c) (key_of keys d)) (sym (arrow-stored c d) ∙ h) in
+      let p = and_parts (is_live keys c && is_live keys d) (has_arrow links (key_of keys c) (key_of keys d))
+      (sym (arrow-kept c d) ∙ h) in
       let q = and_parts (is_live keys c) (is_live keys d) p.0 in
       (q.0, q.1, p.1)
 
   -- a code that is not live has no arrow
   pub no_arrow-from : (c d : ℕ) → key_of keys c ≡ no_key → arrow (slice_complex (slice_of keys cells links)) c d ≡ false
-  no_arrow-from c d e = arrow-stored c d ∙ ap (λ b. (not b && is_live keys d) && has_arrow links (key_of keys c) (key_of keys d)) (eq-eqb (key_of keys c) no_key e)
+  no_arrow-from c d e = arrow-kept c d
+      ∙ ap (λ b. (not b && is_live keys d) && has_arrow links (key_of keys c) (key_of keys d))
+      (eq-eqb (key_of keys c) no_key e)
 
   pub no_arrow-to : (c d : ℕ) → key_of keys d ≡ no_key → arrow (slice_complex (slice_of keys cells links)) c d ≡ false
-  no_arrow-to c d e = arrow-stored c d ∙ ap (λ b. (is_live keys c && not b) && has_arrow links (key_of keys c) (key_of keys d)) (eq-eqb (key_of keys d) no_key e) ∙ none (is_live keys c) (has_arrow links (key_of keys c) (key_of keys d))
+  no_arrow-to c d e = arrow-kept c d
+      ∙ ap (λ b. (is_live keys c && not b) && has_arrow links (key_of keys c) (key_of keys d))
+      (eq-eqb (key_of keys d) no_key e) ∙ none (is_live keys c) (has_arrow links (key_of keys c) (key_of keys d))
     where
       none : (a b : Bool) → ((a && false) && b) ≡ false
       none true b = refl
@@ -176,7 +221,8 @@ key_read keys c k l e = e ∙ default keys c k no_key l
     default (x ∷ keys) zero d e l = refl
     default (x ∷ keys) (suc c) d e l = default keys c d e (omega arith)
 
-pub maslov_read : (cells : List Cell) (k : ℕ) (x : Cell) → k < length cells → x ≡ get_or cells k x → maslov_at cells k ≡ x.maslov
+pub maslov_read : (cells : List Cell) (k : ℕ) (x : Cell) → k < length cells → x ≡ get_or cells k x
+    → maslov_at cells k ≡ x.maslov
 unfolding maslov_at
 maslov_read cells k x l e = ap (λ (z : Cell). z.maslov) (default cells k no_cell x l ∙ sym e)
   where
@@ -186,11 +232,15 @@ maslov_read cells k x l e = ap (λ (z : Cell). z.maslov) (default cells k no_cel
     default (y ∷ cells) (suc k) d e l = default cells k d e (omega arith)
 
 -- the degree of a code that is live, and of one that is not
-pub degree-live : (keys : List ℕ) (cells : List Cell) (links : Links) (c : ℕ) → is_live keys c ≡ true → (slice_complex (slice_of keys cells links)).degree c ≡ Some (maslov_at cells (key_of keys c))
-degree-live keys cells links c l = degree-slice_of keys cells links c ∙ ap (λ b. cond b (Some (maslov_at cells (key_of keys c))) None) l
+pub degree-live : (keys : List ℕ) (cells : List Cell) (links : Links) (c : ℕ) → is_live keys c ≡ true
+    → (slice_complex (slice_of keys cells links)).degree c ≡ Some (maslov_at cells (key_of keys c))
+degree-live keys cells links c l =
+    degree-slice_of keys cells links c ∙ ap (λ b. cond b (Some (maslov_at cells (key_of keys c))) None) l
 
-pub degree-none : (keys : List ℕ) (cells : List Cell) (links : Links) (c : ℕ) → key_of keys c ≡ no_key → (slice_complex (slice_of keys cells links)).degree c ≡ None
-degree-none keys cells links c e = degree-slice_of keys cells links c ∙ ap (λ b. cond (not b) (Some (maslov_at cells (key_of keys c))) None) (eq-eqb (key_of keys c) no_key e)
+pub degree-none : (keys : List ℕ) (cells : List Cell) (links : Links) (c : ℕ) → key_of keys c ≡ no_key
+    → (slice_complex (slice_of keys cells links)).degree c ≡ None
+degree-none keys cells links c e = degree-slice_of keys cells links c
+    ∙ ap (λ b. cond (not b) (Some (maslov_at cells (key_of keys c))) None) (eq-eqb (key_of keys c) no_key e)
 
 -- ---- room for more arrows changes nothing
 module _ (old new : Links) (nodes : new.pool.nodes ≡ old.pool.nodes) (heads : new.heads.items ≡ old.heads.items) where
@@ -201,7 +251,8 @@ module _ (old new : Links) (nodes : new.pool.nodes ≡ old.pool.nodes) (heads : 
   unfolding has_arrow
   has_arrow-reserved p q = ap (among q) (targets-reserved p)
 
-pub slice_of-reserved : (keys : List ℕ) (cells : List Cell) (old new : Links) → new.pool.nodes ≡ old.pool.nodes → new.heads.items ≡ old.heads.items → slice_of keys cells new ≡ slice_of keys cells old
+pub slice_of-reserved : (keys : List ℕ) (cells : List Cell) (old new : Links) → new.pool.nodes ≡ old.pool.nodes
+    → new.heads.items ≡ old.heads.items → slice_of keys cells new ≡ slice_of keys cells old
 unfolding slice_of
 slice_of-reserved keys cells old new nodes heads = ap fin.from_entries (entries (length keys))
   where
@@ -210,23 +261,35 @@ slice_of-reserved keys cells old new nodes heads = ap fin.from_entries (entries 
     entries (suc n) = by (is_live keys n) (entries n)
       where
         by : (b : Bool) → entries_below keys cells new n ≡ entries_below keys cells old n
-            → cond b (entry_of keys cells new n ∷ entries_below keys cells new n) (entries_below keys cells new n) ≡ cond b (entry_of keys cells old n ∷ entries_below keys cells old n) (entries_below keys cells old n)
-        by true e = λ i. (n, (maslov_at cells (key_of keys n), of_codes (map (code_at cells) (targets-reserved old new nodes heads (key_of keys n) i)))) ∷ e i
+            → cond b (entry_of keys cells new n ∷ entries_below keys cells new n) (entries_below keys cells new n)
+            ≡ cond b (entry_of keys cells old n ∷ entries_below keys cells old n) (entries_below keys cells old n)
+        by true e =
+            λ i. (
+              n,
+              (
+                maslov_at cells (key_of keys n),
+                of_codes (map (code_at cells) (targets-reserved old new nodes heads (key_of keys n) i)),
+              ),
+            ) ∷ e i
         by false e = e
 
-pub kept-reserved : (keys : List ℕ) (cells : List Cell) (old new : Links) (cursor : ℕ) → new.pool.nodes ≡ old.pool.nodes → new.heads.items ≡ old.heads.items → IsKept keys cells old cursor → IsKept keys cells new cursor
+pub kept-reserved : (keys : List ℕ) (cells : List Cell) (old new : Links) (cursor : ℕ) → new.pool.nodes ≡ old.pool.nodes
+    → new.heads.items ≡ old.heads.items → IsKept keys cells old cursor → IsKept keys cells new cursor
 kept-reserved keys cells old new cursor nodes heads k = record {
-  stored = record {
-    listed = AreInLists-same _ _ _ _ nodes heads k.stored.listed;
-    small = subst (λ hs. length hs ≤ no_key) (sym heads) k.stored.small;
-    whole = k.stored.whole ∙ ap length (sym heads);
-    keyed = λ c l. subst (λ hs. (key_of keys c < length hs) × (code_at cells (key_of keys c) ≡ c)) (sym heads) (k.stored.keyed c l);
-    ends = λ p q h. k.stored.ends p q (sym (has_arrow-reserved old new nodes heads p q) ∙ h);
+  by_key = record {
+    listed = AreInLists-same _ _ _ _ nodes heads k.by_key.listed;
+    small = subst (λ hs. length hs ≤ no_key) (sym heads) k.by_key.small;
+    whole = k.by_key.whole ∙ ap length (sym heads);
+    keyed = λ c l. subst (λ hs. (key_of keys c < length hs) × (code_at cells (key_of keys c) ≡ c)) (sym heads)
+        (k.by_key.keyed c l);
+    ends = λ p q h. k.by_key.ends p q (sym (has_arrow-reserved old new nodes heads p q) ∙ h);
   };
   first = record {
     within = subst (λ hs. cursor ≤ length hs) (sym heads) k.first.within;
     none_before = λ p q l. has_arrow-reserved old new nodes heads p q ∙ k.first.none_before p q l;
-    some_here = subst (λ hs. cursor < length hs → eqb (head_at hs cursor).first_out no_id ≡ false) (sym heads) k.first.some_here;
+    some_here =
+        subst (λ hs. cursor < length hs → eqb (head_at hs cursor).first_out no_id ≡ false)
+        (sym heads) k.first.some_here;
   };
   rules = subst IsSlice (sym (slice_of-reserved keys cells old new nodes heads)) k.rules;
 }

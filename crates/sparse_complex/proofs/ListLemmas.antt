@@ -23,7 +23,8 @@ same_test false false f g = refl
 abbrev pub leave_out : ℕ → List ℕ → List ℕ
 leave_out id is = filter (λ i. not (eqb i id)) is
 
-pub IsList-at : (next prev : ℕ → ℕ) (is : List ℕ) (p q h k : ℕ) → p ≡ q → h ≡ k → IsList next prev p h is → IsList next prev q k is
+pub IsList-at : (next prev : ℕ → ℕ) (is : List ℕ) (p q h k : ℕ) → p ≡ q → h ≡ k → IsList next prev p h is
+    → IsList next prev q k is
 IsList-at next prev is p q h k a b l = subst (λ (t : ℕ × ℕ). IsList next prev t.0 t.1 is) (λ i. (a i, b i)) l
 
 pub in_head : (x : ℕ) (xs : List ℕ) → among x (x ∷ xs) ≡ true
@@ -47,22 +48,28 @@ in_cases q x xs h = by (eqb q x) refl h
 -- ---- one list
 module _ (next prev : ℕ → ℕ) where
   -- what stands after an id of the list leads back to it
-  pub follows : (is : List ℕ) (p h : ℕ) → IsList next prev p h is → (i : ℕ) → among i is ≡ true → (next i ≡ no_id) ⊎ ((among (next i) is ≡ true) × (prev (next i) ≡ i))
+  pub follows : (is : List ℕ) (p h : ℕ) → IsList next prev p h is → (i : ℕ) → among i is ≡ true
+      → (next i ≡ no_id) ⊎ ((among (next i) is ≡ true) × (prev (next i) ≡ i))
   follows [] p h l i m = absurd (false≢true m)
   follows (x ∷ is) p h l i m = elim (in_cases i x is m) [
-    | inl e ↦ subst (λ j. (next j ≡ no_id) ⊎ ((among (next j) (x ∷ is) ≡ true) × (prev (next j) ≡ j))) (sym e) (first is l.2)
+    | inl e ↦
+        subst (λ j. (next j ≡ no_id) ⊎ ((among (next j) (x ∷ is) ≡ true) × (prev (next j) ≡ j))) (sym e)
+        (first is l.2)
     | inr t ↦ elim (follows is x (next x) l.2 i t) [
       | inl none ↦ inl none
       | inr r ↦ inr (in_tail (next i) x is r.0, r.1)
     ]
   ]
     where
-      first : (is : List ℕ) → IsList next prev x (next x) is → (next x ≡ no_id) ⊎ ((among (next x) (x ∷ is) ≡ true) × (prev (next x) ≡ x))
+      first : (is : List ℕ) → IsList next prev x (next x) is
+          → (next x ≡ no_id) ⊎ ((among (next x) (x ∷ is) ≡ true) × (prev (next x) ≡ x))
       first [] l = inl l
-      first (y ∷ is) l = inr (in_tail (next x) x (y ∷ is) (ap (λ j. among j (y ∷ is)) l.0 ∙ in_head y is), ap prev l.0 ∙ l.1)
+      first (y ∷ is) l =
+          inr (in_tail (next x) x (y ∷ is) (ap (λ j. among j (y ∷ is)) l.0 ∙ in_head y is), ap prev l.0 ∙ l.1)
 
   -- what stands before an id of the list leads to it, and before the first stands p
-  pub precedes : (is : List ℕ) (p h : ℕ) → IsList next prev p h is → (i : ℕ) → among i is ≡ true → ((prev i ≡ p) × (h ≡ i)) ⊎ ((among (prev i) is ≡ true) × (next (prev i) ≡ i))
+  pub precedes : (is : List ℕ) (p h : ℕ) → IsList next prev p h is → (i : ℕ) → among i is ≡ true
+      → ((prev i ≡ p) × (h ≡ i)) ⊎ ((among (prev i) is ≡ true) × (next (prev i) ≡ i))
   precedes [] p h l i m = absurd (false≢true m)
   precedes (x ∷ is) p h l i m = elim (in_cases i x is m) [
     | inl e ↦ inl (ap prev e ∙ l.1, l.0 ∙ sym e)
@@ -78,7 +85,8 @@ module _ (next prev : ℕ → ℕ) where
   leads (x ∷ is) p h l none = (ap (λ j. among j (x ∷ is)) l.0 ∙ in_head x is, ap prev l.0 ∙ l.1)
 
   -- a list is what its chain gives
-  pub ids_from-list : (is : List ℕ) (p h : ℕ) (n : ℕ) → IsList next prev p h is → ((i : ℕ) → among i is ≡ true → eqb i no_id ≡ false) → length is ≤ n → ids_from next n h ≡ is
+  pub ids_from-list : (is : List ℕ) (p h : ℕ) (n : ℕ) → IsList next prev p h is
+      → ((i : ℕ) → among i is ≡ true → eqb i no_id ≡ false) → length is ≤ n → ids_from next n h ≡ is
   ids_from-list [] p h zero l ids b = refl
   ids_from-list [] p h (suc n) l ids b = ap (λ t. cond t [] (h ∷ ids_from next n (next h))) (eq-eqb h no_id l)
   ids_from-list (x ∷ is) p h zero l ids b = absurd (omega arith)
@@ -91,17 +99,26 @@ module _ (next prev : ℕ → ℕ) where
   pub list-unlinked : (next' prev' : ℕ → ℕ) (id : ℕ) → eqb id no_id ≡ false → (is : List ℕ) (p h : ℕ)
       → ((i : ℕ) → among i is ≡ true → eqb i id ≡ false → next' i ≡ cond (eqb (next i) id) (next id) (next i))
       → ((i : ℕ) → among i is ≡ true → eqb i id ≡ false → prev' i ≡ cond (eqb (prev i) id) (prev id) (prev i))
-      → IsList next prev p h is → IsList next' prev' (cond (eqb p id) (prev id) p) (cond (eqb h id) (next id) h) (leave_out id is)
-  list-unlinked next' prev' id ne [] p h n v l = ap (λ b. cond b (next id) h) (ap (λ j. eqb j id) l ∙ eqb_comm no_id id ∙ ne) ∙ l
-  list-unlinked next' prev' id ne (x ∷ is) p h n v l = by (eqb x id) refl (list-unlinked next' prev' id ne is x (next x) (λ i m. n i (in_tail i x is m)) (λ i m. v i (in_tail i x is m)) l.2)
+      → IsList next prev p h is
+      → IsList next' prev' (cond (eqb p id) (prev id) p) (cond (eqb h id) (next id) h) (leave_out id is)
+  list-unlinked next' prev' id ne [] p h n v l =
+      ap (λ b. cond b (next id) h) (ap (λ j. eqb j id) l ∙ eqb_comm no_id id ∙ ne) ∙ l
+  list-unlinked next' prev' id ne (x ∷ is) p h n v l =
+      by (eqb x id) refl (list-unlinked next' prev' id ne is x (next x) (λ i m. n i (in_tail i x is m))
+      (λ i m. v i (in_tail i x is m)) l.2)
     where
-      by : (b : Bool) → eqb x id ≡ b → IsList next' prev' (cond (eqb x id) (prev id) x) (cond (eqb (next x) id) (next id) (next x)) (leave_out id is)
-          → IsList next' prev' (cond (eqb p id) (prev id) p) (cond (eqb h id) (next id) h) (cond (not b) (x ∷ leave_out id is) (leave_out id is))
+      by : (b : Bool) → eqb x id ≡ b
+          → IsList next' prev' (cond (eqb x id) (prev id) x) (cond (eqb (next x) id) (next id) (next x))
+          (leave_out id is)
+          → IsList next' prev' (cond (eqb p id) (prev id) p) (cond (eqb h id) (next id) h)
+          (cond (not b) (x ∷ leave_out id is) (leave_out id is))
       by true e r =
           let x_is = eqb-true x id e in
           IsList-at next' prev' (leave_out id is) _ _ _ _
-          (ap (λ b. cond b (prev id) x) e ∙ ap prev (sym x_is) ∙ l.1 ∙ sym (ap (λ j. cond (eqb p id) j p) (ap prev (sym x_is) ∙ l.1) ∙ cond_same (eqb p id) p))
-          (ap (λ j. cond (eqb (next x) id) (next id) (next j)) x_is ∙ cond_same (eqb (next x) id) (next id) ∙ sym (ap (λ b. cond b (next id) h) (ap (λ j. eqb j id) l.0 ∙ e)))
+          (ap (λ b. cond b (prev id) x) e ∙ ap prev (sym x_is) ∙ l.1
+          ∙ sym (ap (λ j. cond (eqb p id) j p) (ap prev (sym x_is) ∙ l.1) ∙ cond_same (eqb p id) p))
+          (ap (λ j. cond (eqb (next x) id) (next id) (next j)) x_is ∙ cond_same (eqb (next x) id) (next id)
+          ∙ sym (ap (λ b. cond b (next id) h) (ap (λ j. eqb j id) l.0 ∙ e)))
           r
       by false e r = (
         ap (λ b. cond b (next id) h) (ap (λ j. eqb j id) l.0 ∙ e) ∙ l.0,
@@ -120,17 +137,21 @@ module _ (next prev : ℕ → ℕ) where
     l.0,
     v x (in_head x is) ∙ ap (λ j. cond (eqb j no_id) id j) l.1,
     IsList-at next' prev' is _ _ _ _ (ap (λ b. cond b id x) (z x (in_head x is))) (sym (n x (in_head x is)))
-        (list-linked next' prev' id is x (next x) (λ i m. n i (in_tail i x is m)) (λ i m. z i (in_tail i x is m)) (λ i m. v i (in_tail i x is m)) l.2),
+        (list-linked next' prev' id is x (next x) (λ i m. n i (in_tail i x is m)) (λ i m. z i (in_tail i x is m))
+        (λ i m. v i (in_tail i x is m)) l.2),
   )
 
 -- a list over functions that agree on it
-pub list-same : (next prev next' prev' : ℕ → ℕ) (is : List ℕ) (p h : ℕ) → ((i : ℕ) → among i is ≡ true → next' i ≡ next i) → ((i : ℕ) → among i is ≡ true → prev' i ≡ prev i)
+pub list-same : (next prev next' prev' : ℕ → ℕ) (is : List ℕ) (p h : ℕ)
+    → ((i : ℕ) → among i is ≡ true → next' i ≡ next i) → ((i : ℕ) → among i is ≡ true → prev' i ≡ prev i)
     → IsList next prev p h is → IsList next' prev' p h is
 list-same next prev next' prev' [] p h n v l = l
 list-same next prev next' prev' (x ∷ is) p h n v l = (
   l.0,
   v x (in_head x is) ∙ l.1,
-  IsList-at next' prev' is _ _ _ _ refl (sym (n x (in_head x is))) (list-same next prev next' prev' is x (next x) (λ i m. n i (in_tail i x is m)) (λ i m. v i (in_tail i x is m)) l.2),
+  IsList-at next' prev' is _ _ _ _ refl (sym (n x (in_head x is)))
+      (list-same next prev next' prev' is x (next x) (λ i m. n i (in_tail i x is m))
+      (λ i m. v i (in_tail i x is m)) l.2),
 )
 
 -- ---- apart
@@ -147,7 +168,8 @@ module _ (live : ℕ → Bool) (key next prev : ℕ → ℕ) (width : ℕ) (head
     (t : AreLists live key next prev width head lists) (ids : (i : ℕ) → live i ≡ true → eqb i no_id ≡ false) where
   -- an id of a list has its key, and is live
   pub member-live : (k i : ℕ) → among i (lists k) ≡ true → (live i ≡ true) × (key i ≡ k)
-  member-live k i m = let h = and_parts (live i) (eqb (key i) k) (sym (t.members k i) ∙ m) in (h.0, eqb-true (key i) k h.1)
+  member-live k i m = let h = and_parts (live i) (eqb (key i) k) (sym (t.members k i) ∙ m) in
+      (h.0, eqb-true (key i) k h.1)
 
   -- a live id is in the list of its key
   pub live-member : (i : ℕ) → live i ≡ true → among i (lists (key i)) ≡ true
@@ -158,19 +180,23 @@ module _ (live : ℕ → Bool) (key next prev : ℕ → ℕ) (width : ℕ) (head
 
   -- what a live id or a head leads to is live, or no id
   pub next-live : (i : ℕ) → live i ≡ true → eqb (next i) no_id ≡ false → live (next i) ≡ true
-  next-live i l e = elim (follows next prev (lists (key i)) no_id (head (key i)) (t.linked (key i)) i (live-member i l)) [
-    | inl none ↦ absurd (true≢false (sym (eq-eqb (next i) no_id none) ∙ e))
-    | inr r ↦ (member-live (key i) (next i) r.0).0
-  ]
+  next-live i l e =
+      elim (follows next prev (lists (key i)) no_id (head (key i)) (t.linked (key i)) i (live-member i l)) [
+        | inl none ↦ absurd (true≢false (sym (eq-eqb (next i) no_id none) ∙ e))
+        | inr r ↦ (member-live (key i) (next i) r.0).0
+      ]
 
   pub prev-live : (i : ℕ) → live i ≡ true → eqb (prev i) no_id ≡ false → live (prev i) ≡ true
-  prev-live i l e = elim (precedes next prev (lists (key i)) no_id (head (key i)) (t.linked (key i)) i (live-member i l)) [
-    | inl r ↦ absurd (true≢false (sym (eq-eqb (prev i) no_id r.0) ∙ e))
-    | inr r ↦ (member-live (key i) (prev i) r.0).0
-  ]
+  prev-live i l e =
+      elim (precedes next prev (lists (key i)) no_id (head (key i)) (t.linked (key i)) i (live-member i l)) [
+        | inl r ↦ absurd (true≢false (sym (eq-eqb (prev i) no_id r.0) ∙ e))
+        | inr r ↦ (member-live (key i) (prev i) r.0).0
+      ]
 
   pub head-live : (k : ℕ) → eqb (head k) no_id ≡ false → (live (head k) ≡ true) × (key (head k) ≡ k)
-  head-live k e = member-live k (head k) (leads next prev (lists k) no_id (head k) (t.linked k) (λ h. true≢false (sym (eq-eqb (head k) no_id h) ∙ e))).0
+  head-live k e =
+      member-live k (head k) (leads next prev (lists k) no_id (head k) (t.linked k)
+      (λ h. true≢false (sym (eq-eqb (head k) no_id h) ∙ e))).0
 
   -- two ids of a list are apart from no id
   pub members-ids : (k i : ℕ) → among i (lists k) ≡ true → eqb i no_id ≡ false
@@ -192,7 +218,8 @@ module _ (live : ℕ → Bool) (key next prev : ℕ → ℕ) (width : ℕ) (head
         back : eqb x (prev id) ≡ true → eqb (next x) id ≡ true
         back h =
             let is = eqb-true x (prev id) h in
-            elim (precedes next prev (lists (key id)) no_id (head (key id)) (t.linked (key id)) id (live-member id here)) [
+            elim (precedes next prev (lists (key id)) no_id (head (key id)) (t.linked (key id)) id
+            (live-member id here)) [
               | inl r ↦ absurd (not_no x l (is ∙ r.0))
               | inr r ↦ eq-eqb (next x) id (ap next is ∙ r.1)
             ]
@@ -211,7 +238,8 @@ module _ (live : ℕ → Bool) (key next prev : ℕ → ℕ) (width : ℕ) (head
         back : eqb x (next id) ≡ true → eqb (prev x) id ≡ true
         back h =
             let is = eqb-true x (next id) h in
-            elim (follows next prev (lists (key id)) no_id (head (key id)) (t.linked (key id)) id (live-member id here)) [
+            elim (follows next prev (lists (key id)) no_id (head (key id)) (t.linked (key id)) id
+            (live-member id here)) [
               | inl none ↦ absurd (not_no x l (is ∙ none))
               | inr r ↦ eq-eqb (prev x) id (ap prev is ∙ r.1)
             ]
@@ -223,13 +251,15 @@ module _ (live : ℕ → Bool) (key next prev : ℕ → ℕ) (width : ℕ) (head
         forth h =
             let is = eqb-true (head k) id h in
             let r = leads next prev (lists k) no_id (head k) (t.linked k) (λ e. not_no id here (sym is ∙ e)) in
-            and_from _ _ (eq-eqb (prev id) no_id (ap prev (sym is) ∙ r.1)) (eq-eqb k (key id) (sym (member-live k id (ap (λ i. among i (lists k)) (sym is) ∙ r.0)).1))
+            and_from _ _ (eq-eqb (prev id) no_id (ap prev (sym is) ∙ r.1))
+            (eq-eqb k (key id) (sym (member-live k id (ap (λ i. among i (lists k)) (sym is) ∙ r.0)).1))
 
         back : (eqb (prev id) no_id && eqb k (key id)) ≡ true → eqb (head k) id ≡ true
         back h =
             let p = and_parts (eqb (prev id) no_id) (eqb k (key id)) h in
             let is = eqb-true k (key id) p.1 in
-            elim (precedes next prev (lists (key id)) no_id (head (key id)) (t.linked (key id)) id (live-member id here)) [
+            elim (precedes next prev (lists (key id)) no_id (head (key id)) (t.linked (key id)) id
+            (live-member id here)) [
               | inl r ↦ eq-eqb (head k) id (ap head is ∙ r.1)
               | inr r ↦ absurd (not_no (prev id) (member-live (key id) (prev id) r.0).0 (eqb-true (prev id) no_id p.0))
             ]
@@ -244,14 +274,18 @@ module _ (live : ℕ → Bool) (key next prev : ℕ → ℕ) (width : ℕ) (head
         → AreLists live' key' next' prev' width head' (λ k. leave_out id (lists k))
     thread-unlinked live' key' next' prev' head' gone keys nexts prevs heads = record {
       bounded = λ i l. subst (λ k. k < width) (sym (keys i l)) (t.bounded i (was i l));
-      members = λ k i. any-filter i (λ j. not (eqb j id)) (lists k) ∙ ap (λ b. b && not (eqb i id)) (t.members k i) ∙ members' k i (live' i) refl;
+      members =
+          λ k i. any-filter i (λ j. not (eqb j id)) (lists k) ∙ ap (λ b. b && not (eqb i id)) (t.members k i)
+          ∙ members' k i (live' i) refl;
       distinct = λ k. AreDistinct-filter (λ j. not (eqb j id)) (lists k) (t.distinct k);
       linked = λ k. IsList-at next' prev' (leave_out id (lists k)) _ _ _ _
           (ap (λ b. cond b (prev id) no_id) (eqb_comm no_id id ∙ ids id here))
           (ap (λ b. cond b (next id) (head k)) (head-led k) ∙ sym (heads k))
           (list-unlinked next prev next' prev' id (ids id here) (lists k) no_id (head k)
-          (λ i m e. let l = (member-live k i m).0 in nexts i (is i l e) ∙ ap (λ b. cond b (next id) (next i)) (sym (next-led i l)))
-          (λ i m e. let l = (member-live k i m).0 in prevs i (is i l e) ∙ ap (λ b. cond b (prev id) (prev i)) (sym (prev-led i l)))
+          (λ i m e. let l = (member-live k i m).0 in
+          nexts i (is i l e) ∙ ap (λ b. cond b (next id) (next i)) (sym (next-led i l)))
+          (λ i m e. let l = (member-live k i m).0 in
+          prevs i (is i l e) ∙ ap (λ b. cond b (prev id) (prev i)) (sym (prev-led i l)))
           (t.linked k));
     }
       where
@@ -271,9 +305,12 @@ module _ (live : ℕ → Bool) (key next prev : ℕ → ℕ) (width : ℕ) (head
             swap false false = refl
         shift false b c = refl
 
-        members' : (k i : ℕ) (b : Bool) → live' i ≡ b → ((live i && eqb (key i) k) && not (eqb i id)) ≡ (live' i && eqb (key' i) k)
-        members' k i true l = shift (live i) (eqb (key i) k) (not (eqb i id)) ∙ ap (λ b. b && eqb (key i) k) (sym (gone i)) ∙ ap (λ j. live' i && eqb j k) (sym (keys i l))
-        members' k i false l = shift (live i) (eqb (key i) k) (not (eqb i id)) ∙ ap (λ b. b && eqb (key i) k) (sym (gone i) ∙ l) ∙ sym (ap (λ b. b && eqb (key' i) k) l)
+        members' : (k i : ℕ) (b : Bool) → live' i ≡ b
+            → ((live i && eqb (key i) k) && not (eqb i id)) ≡ (live' i && eqb (key' i) k)
+        members' k i true l = shift (live i) (eqb (key i) k) (not (eqb i id))
+            ∙ ap (λ b. b && eqb (key i) k) (sym (gone i)) ∙ ap (λ j. live' i && eqb j k) (sym (keys i l))
+        members' k i false l = shift (live i) (eqb (key i) k) (not (eqb i id))
+            ∙ ap (λ b. b && eqb (key i) k) (sym (gone i) ∙ l) ∙ sym (ap (λ b. b && eqb (key' i) k) l)
 
   -- an id put in at the head of the list of a key
   module _ (id : ℕ) (fresh : live id ≡ false) (is_id : eqb id no_id ≡ false) (at : ℕ) (at_key : at < width) where
@@ -299,34 +336,45 @@ module _ (live : ℕ → Bool) (key next prev : ℕ → ℕ) (width : ℕ) (head
         bounded' i true e l = subst (λ k. k < width) (sym (ap key' (eqb-true i id e) ∙ key_id)) at_key
         bounded' i false e l = subst (λ k. k < width) (sym (keys i l)) (t.bounded i l)
 
-        old_members : (k i : ℕ) → eqb i id ≡ false → (b : Bool) → live i ≡ b → among i (lists k) ≡ (live' i && eqb (key' i) k)
-        old_members k i e true l = t.members k i ∙ ap₂ (λ a j. a && eqb j k) (sym (more i ∙ ap (λ b. b || live i) e)) (sym (keys i l))
-        old_members k i e false l = t.members k i ∙ ap (λ a. a && eqb (key i) k) l ∙ sym (ap (λ a. a && eqb (key' i) k) (more i ∙ ap₂ (λ a b. a || b) e l))
+        old_members : (k i : ℕ) → eqb i id ≡ false → (b : Bool) → live i ≡ b
+            → among i (lists k) ≡ (live' i && eqb (key' i) k)
+        old_members k i e true l =
+            t.members k i ∙ ap₂ (λ a j. a && eqb j k) (sym (more i ∙ ap (λ b. b || live i) e)) (sym (keys i l))
+        old_members k i e false l = t.members k i ∙ ap (λ a. a && eqb (key i) k) l
+            ∙ sym (ap (λ a. a && eqb (key' i) k) (more i ∙ ap₂ (λ a b. a || b) e l))
 
         not_in : (k : ℕ) → among id (lists k) ≡ false
         not_in k = t.members k id ∙ ap (λ b. b && eqb (key id) k) fresh
 
-        members' : (k i : ℕ) (b : Bool) → eqb i id ≡ b → (c : Bool) → eqb k at ≡ c → among i (cond (eqb k at) (id ∷ lists k) (lists k)) ≡ (live' i && eqb (key' i) k)
+        members' : (k i : ℕ) (b : Bool) → eqb i id ≡ b → (c : Bool) → eqb k at ≡ c
+            → among i (cond (eqb k at) (id ∷ lists k) (lists k)) ≡ (live' i && eqb (key' i) k)
         members' k i true e true f =
             ap (λ c. among i (cond c (id ∷ lists k) (lists k))) f ∙ ap (λ b. b || among i (lists k)) e
-            ∙ sym (ap₂ (λ a j. a && eqb j k) (more i ∙ ap (λ b. b || live i) e) (ap key' (eqb-true i id e) ∙ key_id) ∙ eqb_comm at k ∙ f)
+            ∙ sym (ap₂ (λ a j. a && eqb j k) (more i ∙ ap (λ b. b || live i) e) (ap key' (eqb-true i id e) ∙ key_id)
+            ∙ eqb_comm at k ∙ f)
         members' k i true e false f =
-            ap (λ c. among i (cond c (id ∷ lists k) (lists k))) f ∙ ap (λ j. among j (lists k)) (eqb-true i id e) ∙ not_in k
-            ∙ sym (ap₂ (λ a j. a && eqb j k) (more i ∙ ap (λ b. b || live i) e) (ap key' (eqb-true i id e) ∙ key_id) ∙ eqb_comm at k ∙ f)
-        members' k i false e true f = ap (λ c. among i (cond c (id ∷ lists k) (lists k))) f ∙ ap (λ b. b || among i (lists k)) e ∙ old_members k i e (live i) refl
-        members' k i false e false f = ap (λ c. among i (cond c (id ∷ lists k) (lists k))) f ∙ old_members k i e (live i) refl
+            ap (λ c. among i (cond c (id ∷ lists k) (lists k))) f ∙ ap (λ j. among j (lists k)) (eqb-true i id e)
+            ∙ not_in k
+            ∙ sym (ap₂ (λ a j. a && eqb j k) (more i ∙ ap (λ b. b || live i) e) (ap key' (eqb-true i id e) ∙ key_id)
+            ∙ eqb_comm at k ∙ f)
+        members' k i false e true f = ap (λ c. among i (cond c (id ∷ lists k) (lists k))) f
+            ∙ ap (λ b. b || among i (lists k)) e ∙ old_members k i e (live i) refl
+        members' k i false e false f =
+            ap (λ c. among i (cond c (id ∷ lists k) (lists k))) f ∙ old_members k i e (live i) refl
 
         distinct' : (k : ℕ) (c : Bool) → eqb k at ≡ c → AreDistinct (cond (eqb k at) (id ∷ lists k) (lists k))
         distinct' k true f = subst (λ c. AreDistinct (cond c (id ∷ lists k) (lists k))) (sym f) (not_in k, t.distinct k)
         distinct' k false f = subst (λ c. AreDistinct (cond c (id ∷ lists k) (lists k))) (sym f) (t.distinct k)
 
-        linked' : (k : ℕ) (c : Bool) → eqb k at ≡ c → IsList next' prev' no_id (head' k) (cond (eqb k at) (id ∷ lists k) (lists k))
+        linked' : (k : ℕ) (c : Bool) → eqb k at ≡ c
+            → IsList next' prev' no_id (head' k) (cond (eqb k at) (id ∷ lists k) (lists k))
         linked' k true f =
             let k_is = eqb-true k at f in
             subst (λ c. IsList next' prev' no_id (head' k) (cond c (id ∷ lists k) (lists k))) (sym f) (
               heads k ∙ ap (λ b. cond b id (head k)) f,
               prev_id,
-              IsList-at next' prev' (lists k) _ _ _ _ (ap (λ b. cond b id no_id) (eq-eqb no_id no_id refl)) (ap head k_is ∙ sym next_id)
+              IsList-at next' prev' (lists k) _ _ _ _ (ap (λ b. cond b id no_id) (eq-eqb no_id no_id refl))
+                  (ap head k_is ∙ sym next_id)
                   (list-linked next prev next' prev' id (lists k) no_id (head k)
                   (λ i m. nexts i (member-live k i m).0)
                   (λ i m. ids i (member-live k i m).0)
@@ -334,7 +382,9 @@ module _ (live : ℕ → Bool) (key next prev : ℕ → ℕ) (width : ℕ) (head
                   let l = member-live k i m in
                   prevs i l.0
                   ∙ ap (λ b. cond b id (prev i))
-                  (eqb_comm i (head at) ∙ head-led i l.0 at ∙ ap (λ b. eqb (prev i) no_id && b) (eq-eqb at (key i) (sym (l.1 ∙ k_is))) ∙ and_true (eqb (prev i) no_id)))
+                  (eqb_comm i (head at) ∙ head-led i l.0 at
+                  ∙ ap (λ b. eqb (prev i) no_id && b) (eq-eqb at (key i) (sym (l.1 ∙ k_is)))
+                  ∙ and_true (eqb (prev i) no_id)))
                   (t.linked k)),
             )
           where
@@ -351,7 +401,8 @@ module _ (live : ℕ → Bool) (key next prev : ℕ → ℕ) (width : ℕ) (head
             prevs i l.0
             ∙ ap (λ b. cond b id (prev i))
             (eqb_comm i (head at) ∙ head-led i l.0 at
-            ∙ ap (λ j. eqb (prev i) no_id && eqb at j) l.1 ∙ ap (λ b. eqb (prev i) no_id && b) (eqb_comm at k ∙ f) ∙ and_false (eqb (prev i) no_id)))
+            ∙ ap (λ j. eqb (prev i) no_id && eqb at j) l.1 ∙ ap (λ b. eqb (prev i) no_id && b) (eqb_comm at k ∙ f)
+            ∙ and_false (eqb (prev i) no_id)))
             (t.linked k)))
           where
             and_false : (b : Bool) → (b && false) ≡ false
@@ -359,7 +410,8 @@ module _ (live : ℕ → Bool) (key next prev : ℕ → ℕ) (width : ℕ) (head
             and_false false = refl
 
 -- lists that are told to be others
-pub AreLists-lists : (live : ℕ → Bool) (key next prev : ℕ → ℕ) (width width' : ℕ) (head : ℕ → ℕ) (lists lists' : ℕ → List ℕ) → width ≡ width' → ((k : ℕ) → lists' k ≡ lists k)
+pub AreLists-lists : (live : ℕ → Bool) (key next prev : ℕ → ℕ) (width width' : ℕ) (head : ℕ → ℕ)
+    (lists lists' : ℕ → List ℕ) → width ≡ width' → ((k : ℕ) → lists' k ≡ lists k)
     → AreLists live key next prev width head lists → AreLists live key next prev width' head lists'
 AreLists-lists live key next prev width width' head lists lists' w same t = record {
   bounded = λ i l. subst (λ n. key i < n) w (t.bounded i l);

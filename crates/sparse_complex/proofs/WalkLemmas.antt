@@ -28,7 +28,8 @@ list-first next prev [] p h l = l
 list-first next prev (x ∷ is) p h l = l.0
 
 -- the rest of a list is a list
-list-rest : (next prev : ℕ → ℕ) (done is : List ℕ) (p h : ℕ) → IsList next prev p h (done ++ is) → (q : ℕ) × IsList next prev q (first is) is
+list-rest : (next prev : ℕ → ℕ) (done is : List ℕ) (p h : ℕ) → IsList next prev p h (done ++ is)
+    → (q : ℕ) × IsList next prev q (first is) is
 list-rest next prev [] is p h l = (p, IsList-at next prev is p p h (first is) refl (list-first next prev is p h l) l)
 list-rest next prev (x ∷ done) is p h l = list-rest next prev done is x (next x) l.2
 
@@ -46,39 +47,61 @@ module _ (next prev : ℕ → ℕ) (ahead : ℕ → List ℕ) (list : List ℕ) 
       record { passed = []; whole = sym all; here = h_is ∙ ap first (sym all) }
 
   -- a step from one place to the next
-  pub on-step : (i : ℕ) → IsOn ahead list i → eqb i no_id ≡ false → (ahead i ≡ i ∷ ahead (next i)) × IsOn ahead list (next i) × (among i list ≡ true)
+  pub on-step : (i : ℕ) → IsOn ahead list i → eqb i no_id ≡ false
+      → (ahead i ≡ i ∷ ahead (next i)) × IsOn ahead list (next i) × (among i list ≡ true)
   on-step i on ne = by (ahead i) refl
     where
-      by : (is : List ℕ) → ahead i ≡ is → (ahead i ≡ i ∷ ahead (next i)) × IsOn ahead list (next i) × (among i list ≡ true)
+      by : (is : List ℕ) → ahead i ≡ is
+          → (ahead i ≡ i ∷ ahead (next i)) × IsOn ahead list (next i) × (among i list ≡ true)
       by [] e = absurd (true≢false (sym (eq-eqb i no_id (on.here ∙ ap first e)) ∙ ne))
       by (x ∷ is) e =
           let i_is : i ≡ x = on.here ∙ ap first e in
           let whole : list ≡ on.passed ++ (x ∷ is) = on.whole ∙ ap (λ js. on.passed ++ js) e in
-          let rest = list-rest next prev on.passed (x ∷ is) no_id h (subst (λ js. IsList next prev no_id h js) whole l) in
+          let rest =
+          list-rest next prev on.passed (x ∷ is) no_id h (subst (λ js. IsList next prev no_id h js) whole l) in
           let next_is : next x ≡ first is = list-first next prev is x (next x) rest.1.2 in
           let further : list ≡ (on.passed ++ x ∷ []) ++ is = whole ∙ sym (append_assoc on.passed (x ∷ []) is) in
-          let after : ahead (next i) ≡ is = ap ahead (ap next i_is ∙ next_is) ∙ gives (on.passed ++ x ∷ []) is further in (
+          let after : ahead (next i) ≡ is =
+          ap ahead (ap next i_is ∙ next_is) ∙ gives (on.passed ++ x ∷ []) is further in (
             e ∙ (λ k. sym i_is k ∷ sym after k),
-            record { passed = on.passed ++ x ∷ []; whole = further ∙ ap (λ js. (on.passed ++ x ∷ []) ++ js) (sym after); here = ap next i_is ∙ next_is ∙ ap first (sym after) },
-            ap (among i) whole ∙ any-append i on.passed (x ∷ is) ∙ ap (λ b. among i on.passed || b) (ap (λ j. among j (x ∷ is)) i_is ∙ in_head x is) ∙ or_true (among i on.passed),
+            record {
+              passed = on.passed ++ x ∷ [];
+              whole = further ∙ ap (λ js. (on.passed ++ x ∷ []) ++ js) (sym after);
+              here = ap next i_is ∙ next_is ∙ ap first (sym after);
+            },
+            ap (among i) whole ∙ any-append i on.passed (x ∷ is)
+                ∙ ap (λ b. among i on.passed || b) (ap (λ j. among j (x ∷ is)) i_is ∙ in_head x is)
+                ∙ or_true (among i on.passed),
           )
 
   -- a place in a list that is the same elsewhere
-  pub on-moved : (ahead' : ℕ → List ℕ) (list' : List ℕ) → list ≡ list' → (i : ℕ) → IsOn ahead' list' i → IsOn ahead list i × (ahead i ≡ ahead' i)
+  pub on-moved : (ahead' : ℕ → List ℕ) (list' : List ℕ) → list ≡ list' → (i : ℕ) → IsOn ahead' list' i
+      → IsOn ahead list i × (ahead i ≡ ahead' i)
   on-moved ahead' list' same i on =
       let whole : list ≡ on.passed ++ ahead' i = same ∙ on.whole in
-      let there : ahead i ≡ ahead' i = ap ahead on.here ∙ gives on.passed (ahead' i) whole in
-      (record { passed = on.passed; whole = whole ∙ ap (λ js. on.passed ++ js) (sym there); here = on.here ∙ ap first (sym there) }, there)
+      let there : ahead i ≡ ahead' i = ap ahead on.here ∙ gives on.passed (ahead' i) whole in (
+        record {
+          passed = on.passed;
+          whole = whole ∙ ap (λ js. on.passed ++ js) (sym there);
+          here = on.here ∙ ap first (sym there);
+        },
+        there,
+      )
 
 -- what a chain gives from a place on
 ids_from-gives : (nodes : Nodes) (key next prev : ℕ → ℕ) (width : ℕ) (head : ℕ → ℕ) (lists : ℕ → List ℕ)
-    (t : AreLists (is_node nodes) key next prev width head lists) (ids : (i : ℕ) → is_node nodes i ≡ true → eqb i no_id ≡ false)
+    (t : AreLists (is_node nodes) key next prev width head lists)
+    (ids : (i : ℕ) → is_node nodes i ≡ true → eqb i no_id ≡ false)
     (k : ℕ) (done is : List ℕ) → lists k ≡ done ++ is → ids_from next (fin.len nodes) (first is) ≡ is
 ids_from-gives nodes key next prev width head lists t ids k done is e =
-    let rest = list-rest next prev done is no_id (head k) (subst (λ js. IsList next prev no_id (head k) js) e (t.linked k)) in
+    let rest =
+    list-rest next prev done is no_id (head k) (subst (λ js. IsList next prev no_id (head k) js) e (t.linked k)) in
     let all : length (lists k) ≤ fin.len nodes = distinct_length (lists k) nodes (t.distinct k) (λ i m. live i m) in
     let some : length (lists k) ≡ length done + length is = ap length e ∙ length-append done is in
-    ids_from-list next prev is rest.0 (first is) (fin.len nodes) rest.1 (λ i m. members-ids (is_node nodes) key next prev width head lists t ids k i (ap (among i) e ∙ any-append i done is ∙ ap (λ b. among i done || b) m ∙ or_true (among i done))) (omega arith)
+    ids_from-list next prev is rest.0 (first is) (fin.len nodes) rest.1
+    (λ i m. members-ids (is_node nodes) key next prev width head lists t ids k i
+    (ap (among i) e ∙ any-append i done is ∙ ap (λ b. among i done || b) m ∙ or_true (among i done)))
+    (omega arith)
   where
     live : (i : ℕ) → among i (lists k) ≡ true → is_node nodes i ≡ true
     live i m = both (is_node nodes i) (sym (t.members k i) ∙ m)
@@ -108,12 +131,16 @@ module _ (l : Links) (t : AreListed l) where
   out-start k = on-start _ _ (outs_from l.pool.nodes) (outs_of l k) _ (t.out_lists.linked k) (out-gives k)
 
   pub out-step : (k i : ℕ) → IsOn (outs_from l.pool.nodes) (outs_of l k) i → eqb i no_id ≡ false
-      → (outs_from l.pool.nodes i ≡ i ∷ outs_from l.pool.nodes (node_at l.pool.nodes i).next_out) × IsOn (outs_from l.pool.nodes) (outs_of l k) (node_at l.pool.nodes i).next_out × (among i (outs_of l k) ≡ true)
+      → (outs_from l.pool.nodes i ≡ i ∷ outs_from l.pool.nodes (node_at l.pool.nodes i).next_out)
+      × IsOn (outs_from l.pool.nodes) (outs_of l k) (node_at l.pool.nodes i).next_out × (among i (outs_of l k) ≡ true)
   out-step k i on ne = on-step _ _ (outs_from l.pool.nodes) (outs_of l k) _ (t.out_lists.linked k) (out-gives k) i on ne
 
-  pub out-moved : (k : ℕ) (m : Links) → outs_of l k ≡ outs_of m k → (i : ℕ) → IsOn (outs_from m.pool.nodes) (outs_of m k) i
+  pub out-moved : (k : ℕ) (m : Links) → outs_of l k ≡ outs_of m k → (i : ℕ)
+      → IsOn (outs_from m.pool.nodes) (outs_of m k) i
       → IsOn (outs_from l.pool.nodes) (outs_of l k) i × (outs_from l.pool.nodes i ≡ outs_from m.pool.nodes i)
-  out-moved k m same i on = on-moved _ _ (outs_from l.pool.nodes) (outs_of l k) _ (t.out_lists.linked k) (out-gives k) (outs_from m.pool.nodes) (outs_of m k) same i on
+  out-moved k m same i on =
+      on-moved _ _ (outs_from l.pool.nodes) (outs_of l k) _ (t.out_lists.linked k) (out-gives k)
+      (outs_from m.pool.nodes) (outs_of m k) same i on
 
   -- ---- along the arrows into a key
   in-gives : (k : ℕ) (done is : List ℕ) → ins_of l k ≡ done ++ is → ins_from l.pool.nodes (first is) ≡ is
@@ -128,12 +155,15 @@ module _ (l : Links) (t : AreListed l) where
   in-start k = on-start _ _ (ins_from l.pool.nodes) (ins_of l k) _ (t.in_lists.linked k) (in-gives k)
 
   pub in-step : (k i : ℕ) → IsOn (ins_from l.pool.nodes) (ins_of l k) i → eqb i no_id ≡ false
-      → (ins_from l.pool.nodes i ≡ i ∷ ins_from l.pool.nodes (node_at l.pool.nodes i).next_in) × IsOn (ins_from l.pool.nodes) (ins_of l k) (node_at l.pool.nodes i).next_in × (among i (ins_of l k) ≡ true)
+      → (ins_from l.pool.nodes i ≡ i ∷ ins_from l.pool.nodes (node_at l.pool.nodes i).next_in)
+      × IsOn (ins_from l.pool.nodes) (ins_of l k) (node_at l.pool.nodes i).next_in × (among i (ins_of l k) ≡ true)
   in-step k i on ne = on-step _ _ (ins_from l.pool.nodes) (ins_of l k) _ (t.in_lists.linked k) (in-gives k) i on ne
 
   pub in-moved : (k : ℕ) (m : Links) → ins_of l k ≡ ins_of m k → (i : ℕ) → IsOn (ins_from m.pool.nodes) (ins_of m k) i
       → IsOn (ins_from l.pool.nodes) (ins_of l k) i × (ins_from l.pool.nodes i ≡ ins_from m.pool.nodes i)
-  in-moved k m same i on = on-moved _ _ (ins_from l.pool.nodes) (ins_of l k) _ (t.in_lists.linked k) (in-gives k) (ins_from m.pool.nodes) (ins_of m k) same i on
+  in-moved k m same i on =
+      on-moved _ _ (ins_from l.pool.nodes) (ins_of l k) _ (t.in_lists.linked k) (in-gives k) (ins_from m.pool.nodes)
+      (ins_of m k) same i on
 
 -- ---- what a step tells
 -- the node at a place of the list of the arrows out of k
@@ -167,7 +197,8 @@ module _ (l : Links) (t : AreListed l) (k i : ℕ) where
   pub in-live : IsOn (ins_from l.pool.nodes) (ins_of l k) i → (i ≡ no_id → ⊥) → is_node l.pool.nodes i ≡ true
   in-live on ne = (in_member l t k i (in-step l t k i on (ne_eqb i no_id ne)).2).0
 
-  pub out-facts : (n : Node) → IsOn (outs_from l.pool.nodes) (outs_of l k) i → (i ≡ no_id → ⊥) → fin.get l.pool.nodes i ≡ Some n → OutStep l k i n
+  pub out-facts : (n : Node) → IsOn (outs_from l.pool.nodes) (outs_of l k) i → (i ≡ no_id → ⊥)
+      → fin.get l.pool.nodes i ≡ Some n → OutStep l k i n
   out-facts n on ne got =
       let (a, o, m) = out-step l t k i on (ne_eqb i no_id ne) in
       let (live, from) = out_member l t k i m in
@@ -182,7 +213,8 @@ module _ (l : Links) (t : AreListed l) (k i : ℕ) where
         arrow = has_arrow-ends l t i k (node_at l.pool.nodes i).to live from refl;
       })
 
-  pub in-facts : (n : Node) → IsOn (ins_from l.pool.nodes) (ins_of l k) i → (i ≡ no_id → ⊥) → fin.get l.pool.nodes i ≡ Some n → InStep l k i n
+  pub in-facts : (n : Node) → IsOn (ins_from l.pool.nodes) (ins_of l k) i → (i ≡ no_id → ⊥)
+      → fin.get l.pool.nodes i ≡ Some n → InStep l k i n
   in-facts n on ne got =
       let (a, o, m) = in-step l t k i on (ne_eqb i no_id ne) in
       let (live, to) = in_member l t k i m in
@@ -206,8 +238,16 @@ module _ (l : Links) (t : AreListed l) (k : ℕ) where
   in-length = distinct_length (ins_of l k) l.pool.nodes (t.in_lists.distinct k) (λ j m. (in_member l t k j m).0)
 
   -- the place at which a walk begins, as the code reads it
-  pub out-begin : (h : Head) → head_at l.heads.items k ≡ h → IsOn (outs_from l.pool.nodes) (outs_of l k) h.first_out × (outs_from l.pool.nodes h.first_out ≡ outs_of l k)
-  out-begin h e = (subst (λ (g : Head). IsOn (outs_from l.pool.nodes) (outs_of l k) g.first_out) e (out-start l t k), ap (λ (g : Head). outs_from l.pool.nodes g.first_out) (sym e))
+  pub out-begin : (h : Head) → head_at l.heads.items k ≡ h
+      → IsOn (outs_from l.pool.nodes) (outs_of l k) h.first_out × (outs_from l.pool.nodes h.first_out ≡ outs_of l k)
+  out-begin h e = (
+    subst (λ (g : Head). IsOn (outs_from l.pool.nodes) (outs_of l k) g.first_out) e (out-start l t k),
+    ap (λ (g : Head). outs_from l.pool.nodes g.first_out) (sym e),
+  )
 
-  pub in-begin : (h : Head) → head_at l.heads.items k ≡ h → IsOn (ins_from l.pool.nodes) (ins_of l k) h.first_in × (ins_from l.pool.nodes h.first_in ≡ ins_of l k)
-  in-begin h e = (subst (λ (g : Head). IsOn (ins_from l.pool.nodes) (ins_of l k) g.first_in) e (in-start l t k), ap (λ (g : Head). ins_from l.pool.nodes g.first_in) (sym e))
+  pub in-begin : (h : Head) → head_at l.heads.items k ≡ h
+      → IsOn (ins_from l.pool.nodes) (ins_of l k) h.first_in × (ins_from l.pool.nodes h.first_in ≡ ins_of l k)
+  in-begin h e = (
+    subst (λ (g : Head). IsOn (ins_from l.pool.nodes) (ins_of l k) g.first_in) e (in-start l t k),
+    ap (λ (g : Head). ins_from l.pool.nodes g.first_in) (sym e),
+  )

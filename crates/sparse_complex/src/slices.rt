@@ -6,7 +6,7 @@ ghost use Rattle.f2_algebra.specs.Slice.{slice_complex, IsSlice};
 ghost use Rattle.sparse_complex.specs.Slices.{ListsOnce, ListsSome, ListsCells, fill};
 ghost use Rattle.sparse_complex.specs.Inner.Lists.{no_id, head_at};
 ghost use Rattle.sparse_complex.specs.Inner.Graph.{width};
-ghost use Rattle.sparse_complex.specs.Inner.Kept.{key_of, no_key, slice_of, IsStored, ListsLive};
+ghost use Rattle.sparse_complex.specs.Inner.Kept.{key_of, no_key, slice_of, IsKeptByKey, ListsLive};
 
 use crate::links::Links;
 use grid_ports::NoMemory;
@@ -65,7 +65,7 @@ impl Model for AlexSlice {
 impl AlexSlice {
     // The slice of these parts.
     pub(crate) fn of_parts(keys: Vec<u32>, cells: Vec<Cell>, links: Links) -> AlexSlice
-        requires stored { IsStored keys.items cells.items links }
+        requires by_key { IsKeptByKey keys.items cells.items links }
         requires rules { IsSlice (slice_of keys.items cells.items links) }
         ensures { result.slice ≡ slice_of keys.items cells.items links }
     {

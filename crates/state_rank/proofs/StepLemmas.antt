@@ -17,7 +17,8 @@ use Rattle.state_rank.proofs.RankLemmas.{IsBijection-unrank, rank-unrank, rank-b
 -- ---- the two loops
 
 -- one place more
-pub falls_more : (x : List ℕ) (c : ℕ) → FallsFrom (c - 1) x → 1 < c → slice_index x (c - 1) ≤ slice_index x (c - 1 - 1) → FallsFrom (c - 1 - 1) x
+pub falls_more : (x : List ℕ) (c : ℕ) → FallsFrom (c - 1) x → 1 < c → slice_index x (c - 1) ≤ slice_index x (c - 1 - 1)
+    → FallsFrom (c - 1 - 1) x
 falls_more x c h some step i j l m n = elim (cases_eq i (c - 1 - 1)) [
   | inl e ↦ elim (cases_eq j (c - 1)) [
     | inl f ↦ let a = ap (slice_index x) e in let b = ap (slice_index x) f in omega arith
@@ -31,7 +32,8 @@ abbrev pub AreLowFrom : List ℕ → ℕ → ℕ → Type 0
 AreLowFrom x p c = (i : ℕ) → c ≤ i → i < length x → slice_index x i ≤ slice_index x p
 
 -- one place more
-pub low_more : (x : List ℕ) (p c : ℕ) → AreLowFrom x p c → 0 < c → slice_index x (c - 1) ≤ slice_index x p → AreLowFrom x p (c - 1)
+pub low_more : (x : List ℕ) (p c : ℕ) → AreLowFrom x p c → 0 < c → slice_index x (c - 1) ≤ slice_index x p
+    → AreLowFrom x p (c - 1)
 low_more x p c h some step i l m = elim (cases_eq i (c - 1)) [
   | inl e ↦ let a = ap (slice_index x) e in omega arith
   | inr q ↦ h i (omega arith) m
@@ -50,7 +52,8 @@ differ [] y e h = absurd (true≢false (sym h))
 differ (r ∷ x) [] e h = absurd (omega arith)
 differ (r ∷ x) (s ∷ y) e h = elim (cases_order r s) [
   | inl i ↦
-      let k = differ x y (omega arith) (sym (is_before-equal s x y) ∙ ap (λ t. is_before (t ∷ x) (s ∷ y)) (sym i) ∙ h) in
+      let k = differ x y (omega arith)
+      (sym (is_before-equal s x y) ∙ ap (λ t. is_before (t ∷ x) (s ∷ y)) (sym i) ∙ h) in
       let l = k.1 in
       (suc k.0, omega arith, later i k.0 k.2)
   | inr o ↦ elim o [
@@ -78,7 +81,8 @@ before-differ (r ∷ x) (s ∷ y) (suc q) l m d =
 -- ---- between two states
 
 -- where two states agree before the place q, the row of one there is a row of the other from q on
-pub row_from : (n : ℕ) (x z : List ℕ) → IsBijection n x → IsBijection n z → (q : ℕ) → q < n → ((i : ℕ) → i < q → slice_index x i ≡ slice_index z i)
+pub row_from : (n : ℕ) (x z : List ℕ) → IsBijection n x → IsBijection n z → (q : ℕ) → q < n
+    → ((i : ℕ) → i < q → slice_index x i ≡ slice_index z i)
     → (j : ℕ) × ((q ≤ j) × (j < n)) × (slice_index x j ≡ slice_index z q)
 row_from n x z s t q l same =
     let h = onto n (slice_index x) s.small s.apart (slice_index z q) (t.small q l) in
@@ -88,7 +92,8 @@ row_from n x z s t q l same =
     ]
 
 -- x and a later state do not first differ where the rows of x fall
-pub not_where_falling : (n : ℕ) (x z : List ℕ) → IsBijection n x → IsBijection n z → (a q : ℕ) → FallsFrom a x → a ≤ q → q < n → FirstDiffer x z q → ⊥
+pub not_where_falling : (n : ℕ) (x z : List ℕ) → IsBijection n x → IsBijection n z → (a q : ℕ) → FallsFrom a x → a ≤ q
+    → q < n → FirstDiffer x z q → ⊥
 not_where_falling n x z s t a q falls l m d =
     let h = row_from n x z s t q m d.same in
     let long = s.long in
@@ -107,7 +112,8 @@ pub record IsStep (n : ℕ) (x y : List ℕ) (p : ℕ) : Type 0 where
   pub least : (i : ℕ) → p < i → i < n → slice_index x p < slice_index x i → slice_index y p ≤ slice_index x i
 
 -- an earlier state and y do not first differ behind p
-not_where_rising : (n : ℕ) (x y z : List ℕ) (p q : ℕ) → IsStep n x y p → IsBijection n y → IsBijection n z → p < q → q < n → FirstDiffer z y q → ⊥
+not_where_rising : (n : ℕ) (x y z : List ℕ) (p q : ℕ) → IsStep n x y p → IsBijection n y → IsBijection n z → p < q
+    → q < n → FirstDiffer z y q → ⊥
 not_where_rising n x y z p q k t u l m d =
     let h = row_from n y z t u q m (λ i g. sym (d.same i g)) in
     let high : slice_index y q ≤ slice_index y h.0 = elim (cases_eq h.0 q) [
@@ -117,7 +123,8 @@ not_where_rising n x y z p q k t u l m d =
     let e = h.2 in let u = d.up in absurd (omega arith)
 
 -- no state lies between
-pub none_between : (n : ℕ) (x y z : List ℕ) (p : ℕ) → IsStep n x y p → IsBijection n x → IsBijection n y → IsBijection n z → (q r : ℕ) → q < n → r < n → FirstDiffer x z q → FirstDiffer z y r → ⊥
+pub none_between : (n : ℕ) (x y z : List ℕ) (p : ℕ) → IsStep n x y p → IsBijection n x → IsBijection n y
+    → IsBijection n z → (q r : ℕ) → q < n → r < n → FirstDiffer x z q → FirstDiffer z y r → ⊥
 none_between n x y z p k s t u q r lq lr d e = elim (cases_order q p) [
   | inl i ↦ elim (cases_order r p) [
     | inl j ↦
@@ -141,14 +148,18 @@ none_between n x y z p k s t u q r lq lr d e = elim (cases_order q p) [
 ]
   where
     before_p : q < p → (q ≡ r) ⊎ ((q < r) ⊎ (r < q)) → ⊥
-    before_p l (inl i) = let a = k.first.same q l in let b = d.up in let c : slice_index z q < slice_index y q = subst (λ c. slice_index z c < slice_index y c) (sym i) e.up in absurd (omega arith)
+    before_p l (inl i) = let a = k.first.same q l in let b = d.up in
+        let c : slice_index z q < slice_index y q = subst (λ c. slice_index z c < slice_index y c) (sym i) e.up in
+        absurd (omega arith)
     before_p l (inr (inl m)) = let a = k.first.same q l in let b = d.up in let c = e.same q m in absurd (omega arith)
-    before_p l (inr (inr m)) = let a = k.first.same r (omega arith) in let b = d.same r m in let c = e.up in absurd (omega arith)
+    before_p l (inr (inr m)) = let a = k.first.same r (omega arith) in let b = d.same r m in let c = e.up in
+        absurd (omega arith)
 
 -- ---- ranks
 
 -- the state of rank k is later than x where k is above its rank
-differ_unrank : (n : ℕ) (x : List ℕ) → IsBijection n x → (k : ℕ) → rank x < k → k < factorial n → (q : ℕ) × (q < n) × FirstDiffer x (unrank n k) q
+differ_unrank : (n : ℕ) (x : List ℕ) → IsBijection n x → (k : ℕ) → rank x < k → k < factorial n
+    → (q : ℕ) × (q < n) × FirstDiffer x (unrank n k) q
 differ_unrank n x s k l m =
     let z : List ℕ = unrank n k in
     let t : IsBijection n z = IsBijection-unrank n k m in
@@ -159,7 +170,8 @@ differ_unrank n x s k l m =
     (d.0, omega arith, d.2)
 
 -- the step goes to the next rank
-pub rank-step : (n : ℕ) (x y : List ℕ) (p : ℕ) → IsStep n x y p → IsBijection n x → IsBijection n y → rank y ≡ rank x + 1
+pub rank-step : (n : ℕ) (x y : List ℕ) (p : ℕ) → IsStep n x y p → IsBijection n x → IsBijection n y
+    → rank y ≡ rank x + 1
 rank-step n x y p k s t =
     let ex = s.long in let ey = t.long in let w = k.within in
     let up = (rank_order n x y s t).0 (before-differ x y p (omega arith) (omega arith) k.first) in
@@ -179,7 +191,8 @@ rank-step n x y p k s t =
     ]
 
 -- so it goes to the state of the next rank
-pub step-unrank : (n : ℕ) (x y : List ℕ) (p : ℕ) → IsStep n x y p → IsBijection n x → IsBijection n y → y ≡ unrank n (rank x + 1)
+pub step-unrank : (n : ℕ) (x y : List ℕ) (p : ℕ) → IsStep n x y p → IsBijection n x → IsBijection n y
+    → y ≡ unrank n (rank x + 1)
 step-unrank n x y p k s t = sym (unrank-rank n y t) ∙ ap (unrank n) (rank-step n x y p k s t)
 
 -- a state whose rows fall is the last one
@@ -189,7 +202,8 @@ rank-last n x s falls =
     elim (cases_lt (rank x + 1) (factorial n)) [
       | inl m ↦
           let d = differ_unrank n x s (rank x + 1) (omega arith) m in
-          absurd (not_where_falling n x (unrank n (rank x + 1)) s (IsBijection-unrank n (rank x + 1) m) 0 d.0 falls (omega arith) d.1 d.2)
+          absurd (not_where_falling n x (unrank n (rank x + 1)) s (IsBijection-unrank n (rank x + 1) m) 0 d.0 falls
+          (omega arith) d.1 d.2)
       | inr m ↦ omega arith
     ]
 
@@ -211,7 +225,8 @@ pub record IsTurned (n : ℕ) (w y : List ℕ) (p : ℕ) : Type 0 where
 
 module _ (n : ℕ) (w y : List ℕ) (p : ℕ) (t : IsTurned n w y p) (within : p < n) (s : IsBijection n w) where
   -- a place of y is a place of w, others for others
-  turned_at : (i : ℕ) → i < n → (j : ℕ) × (j < n) × (((i ≤ p) × (j ≡ i)) ⊎ ((p < i) × (j ≡ p + n - i))) × (slice_index y i ≡ slice_index w j)
+  turned_at : (i : ℕ) → i < n
+      → (j : ℕ) × (j < n) × (((i ≤ p) × (j ≡ i)) ⊎ ((p < i) × (j ≡ p + n - i))) × (slice_index y i ≡ slice_index w j)
   turned_at i l = elim (cases_lt p i) [
     | inl m ↦ (p + n - i, omega arith, inr (m, refl), t.back i m l)
     | inr m ↦ (i, l, inl (m, refl), t.front i m)
@@ -226,13 +241,19 @@ module _ (n : ℕ) (w y : List ℕ) (p : ℕ) (t : IsTurned n w y p) (within : p
         s.apart g.0 h.0 g.1 h.1 (other b c g.0 h.0 lb lc o g.2 h.2) (sym g.3 ∙ e ∙ h.3);
   }
     where
-      other : (b c i j : ℕ) → b < n → c < n → b ≢ c → ((b ≤ p) × (i ≡ b)) ⊎ ((p < b) × (i ≡ p + n - b)) → ((c ≤ p) × (j ≡ c)) ⊎ ((p < c) × (j ≡ p + n - c)) → i ≢ j
-      other b c i j lb lc o (inl g) (inl h) = let g0 = g.0 in let g1 = g.1 in let h0 = h.0 in let h1 = h.1 in omega arith
-      other b c i j lb lc o (inl g) (inr h) = let g0 = g.0 in let g1 = g.1 in let h0 = h.0 in let h1 = h.1 in omega arith
-      other b c i j lb lc o (inr g) (inl h) = let g0 = g.0 in let g1 = g.1 in let h0 = h.0 in let h1 = h.1 in omega arith
-      other b c i j lb lc o (inr g) (inr h) = let g0 = g.0 in let g1 = g.1 in let h0 = h.0 in let h1 = h.1 in omega arith
+      other : (b c i j : ℕ) → b < n → c < n → b ≢ c → ((b ≤ p) × (i ≡ b)) ⊎ ((p < b) × (i ≡ p + n - b))
+          → ((c ≤ p) × (j ≡ c)) ⊎ ((p < c) × (j ≡ p + n - c)) → i ≢ j
+      other b c i j lb lc o (inl g) (inl h) = let g0 = g.0 in let g1 = g.1 in let h0 = h.0 in let h1 = h.1 in
+          omega arith
+      other b c i j lb lc o (inl g) (inr h) = let g0 = g.0 in let g1 = g.1 in let h0 = h.0 in let h1 = h.1 in
+          omega arith
+      other b c i j lb lc o (inr g) (inl h) = let g0 = g.0 in let g1 = g.1 in let h0 = h.0 in let h1 = h.1 in
+          omega arith
+      other b c i j lb lc o (inr g) (inr h) = let g0 = g.0 in let g1 = g.1 in let h0 = h.0 in let h1 = h.1 in
+          omega arith
 
-module _ (n : ℕ) (x y : List ℕ) (p m : ℕ) (s : IsBijection n x) (k : IsChosen x x p m) (t : IsTurned n (swap x p m) y p) where
+module _ (n : ℕ) (x y : List ℕ) (p m : ℕ) (s : IsBijection n x) (k : IsChosen x x p m)
+    (t : IsTurned n (swap x p m) y p) where
   long : length x ≡ n
   long = s.long
 
@@ -293,7 +314,8 @@ module _ (n : ℕ) (x y : List ℕ) (p m : ℕ) (s : IsBijection n x) (k : IsCho
       }
 
   pub IsBijection-chosen : IsBijection n y
-  IsBijection-chosen = let b = k.behind in let w = within in IsBijection-turned n (swap x p m) y p t (omega arith) (IsBijection-swap n x p m (omega arith) w s)
+  IsBijection-chosen = let b = k.behind in let w = within in
+      IsBijection-turned n (swap x p m) y p t (omega arith) (IsBijection-swap n x p m (omega arith) w s)
 
 -- ---- the rows in their array
 
@@ -301,7 +323,8 @@ module _ (n : ℕ) (x y : List ℕ) (p m : ℕ) (s : IsBijection n x) (k : IsCho
 abbrev pub rewritten : ℕ → ℕ → List ℕ → List ℕ → List ℕ
 rewritten a n w ys = take a w ++ (ys ++ drop (n - a) (drop a w))
 
-module _ (a n : ℕ) (w ys : List ℕ) (turned : ys ≡ reverse (take (n - a) (drop a w))) (ordered : a ≤ n) (fits : n ≤ length w) where
+module _ (a n : ℕ) (w ys : List ℕ) (turned : ys ≡ reverse (take (n - a) (drop a w))) (ordered : a ≤ n)
+    (fits : n ≤ length w) where
   length-part : length (take (n - a) (drop a w)) ≡ n - a
   length-part = let e = length-drop a w in length-take-le (n - a) (drop a w) (omega arith)
 
@@ -319,9 +342,11 @@ module _ (a n : ℕ) (w ys : List ℕ) (turned : ys ≡ reverse (take (n - a) (d
       let h = length-turned in let i = length-front in omega arith
 
   pub rewritten-front : (i : ℕ) → i < a → slice_index (rewritten a n w ys) i ≡ slice_index w i
-  rewritten-front i l = let e = length-front in get_or_append_left (take a w) (ys ++ drop (n - a) (drop a w)) 0 i (omega arith) ∙ get_or-take a w i 0 l
+  rewritten-front i l = let e = length-front in
+      get_or_append_left (take a w) (ys ++ drop (n - a) (drop a w)) 0 i (omega arith) ∙ get_or-take a w i 0 l
 
-  pub rewritten-back : (i : ℕ) → a ≤ i → i < n → slice_index (rewritten a n w ys) i ≡ slice_index w (a + (n - a - 1 - (i - a)))
+  pub rewritten-back : (i : ℕ) → a ≤ i → i < n
+      → slice_index (rewritten a n w ys) i ≡ slice_index w (a + (n - a - 1 - (i - a)))
   rewritten-back i l m =
       let e = length-front in let f = length-turned in let g = length-part in
       let place : length (take (n - a) (drop a w)) - 1 - (i - a) ≡ n - a - 1 - (i - a) = omega arith in
@@ -344,16 +369,20 @@ module _ (a n : ℕ) (w ys : List ℕ) (turned : ys ≡ reverse (take (n - a) (d
       ∙ ap (slice_index w) place
 
 -- the first n rows, after an exchange and a reversal behind p
-pub turned_rows : (n : ℕ) (rows w ys : List ℕ) (p m : ℕ) → p < m → m < n → n ≤ length rows → w ≡ swap rows p m → ys ≡ reverse (take (n - (p + 1)) (drop (p + 1) w))
+pub turned_rows : (n : ℕ) (rows w ys : List ℕ) (p m : ℕ) → p < m → m < n → n ≤ length rows → w ≡ swap rows p m
+    → ys ≡ reverse (take (n - (p + 1)) (drop (p + 1) w))
     → IsTurned n (swap (take n rows) p m) (take n (rewritten (p + 1) n w ys)) p
 turned_rows n rows w ys p m b l fits is turned =
     let lw : length w ≡ length rows = ap length is ∙ length-swap rows p m in
-    let lz : length (rewritten (p + 1) n w ys) ≡ length w = length-rewritten (p + 1) n w ys turned (omega arith) (omega arith) in
+    let lz : length (rewritten (p + 1) n w ys) ≡ length w =
+    length-rewritten (p + 1) n w ys turned (omega arith) (omega arith) in
     let at : (c : ℕ) → c < n → slice_index w c ≡ slice_index (swap (take n rows) p m) c =
-    λ c k. sym (get_or-take n w c 0 k) ∙ ap (λ v. slice_index v c) (ap (take n) is ∙ take-swap n rows p m fits (omega arith) l) in
+    λ c k. sym (get_or-take n w c 0 k)
+    ∙ ap (λ v. slice_index v c) (ap (take n) is ∙ take-swap n rows p m fits (omega arith) l) in
     record {
       long = length-take-le n (rewritten (p + 1) n w ys) (omega arith);
-      front = λ i k. get_or-take n (rewritten (p + 1) n w ys) i 0 (omega arith) ∙ rewritten-front (p + 1) n w ys turned (omega arith) (omega arith) i (omega arith) ∙ at i (omega arith);
+      front = λ i k. get_or-take n (rewritten (p + 1) n w ys) i 0 (omega arith)
+          ∙ rewritten-front (p + 1) n w ys turned (omega arith) (omega arith) i (omega arith) ∙ at i (omega arith);
       back = λ i k o.
           let place : p + 1 + (n - (p + 1) - 1 - (i - (p + 1))) ≡ p + n - i = omega arith in
           get_or-take n (rewritten (p + 1) n w ys) i 0 o
@@ -363,7 +392,8 @@ turned_rows n rows w ys p m b l fits is turned =
     }
 
 -- the array of a state, after an exchange and a reversal behind p
-module _ (size : ℕ) (rows : List ℕ) (s : IsStoredByPlace size rows) (p m : ℕ) (k : IsChosen (take size rows) (take size rows) p m)
+module _ (size : ℕ) (rows : List ℕ) (s : IsStoredByPlace size rows) (p m : ℕ)
+    (k : IsChosen (take size rows) (take size rows) p m)
     (w ys : List ℕ) (is : w ≡ swap rows p m) (turned : ys ≡ reverse (take (size - (p + 1)) (drop (p + 1) w))) where
   long_now : length (take size rows) ≡ size
   long_now = length-stored size rows s
@@ -372,7 +402,8 @@ module _ (size : ℕ) (rows : List ℕ) (s : IsStoredByPlace size rows) (p m : �
   was = subst (λ n. IsBijection n (take size rows)) long_now s.state.bijection
 
   turned_is : IsTurned size (swap (take size rows) p m) (take size (rewritten (p + 1) size w ys)) p
-  turned_is = let e = long_now in let l = k.within in let a = s.long in let b = s.fits in turned_rows size rows w ys p m k.behind (omega arith) (omega arith) is turned
+  turned_is = let e = long_now in let l = k.within in let a = s.long in let b = s.fits in
+      turned_rows size rows w ys p m k.behind (omega arith) (omega arith) is turned
 
   pub now : IsBijection size (take size (rewritten (p + 1) size w ys))
   now = IsBijection-chosen size (take size rows) (take size (rewritten (p + 1) size w ys)) p m was k turned_is
@@ -399,4 +430,6 @@ module _ (size : ℕ) (rows : List ℕ) (s : IsStoredByPlace size rows) (p m : �
 
   -- of the next rank
   pub next_rank : rank (take size (rewritten (p + 1) size w ys)) ≡ rank (take size rows) + 1
-  next_rank = rank-step size (take size rows) (take size (rewritten (p + 1) size w ys)) p (step_chosen size (take size rows) (take size (rewritten (p + 1) size w ys)) p m was k turned_is) was now
+  next_rank =
+      rank-step size (take size rows) (take size (rewritten (p + 1) size w ys)) p
+      (step_chosen size (take size rows) (take size (rewritten (p + 1) size w ys)) p m was k turned_is) was now

@@ -24,8 +24,10 @@ stored_from {size = size} {rows = rows} s =
     let l = s.long in
     let f = s.fits in
     let tail : List ℕ = replicate (MAX_SIZE - length (take size rows)) 0 in
-    let t : length tail ≡ MAX_SIZE - length (take size rows) = length-replicate (MAX_SIZE - length (take size rows)) 0 in
-    let whole : length rows ≡ length (padded (take size rows)) = sym (length-append (take size rows) tail ∙ omega arith) in
+    let t : length tail ≡ MAX_SIZE - length (take size rows) =
+    length-replicate (MAX_SIZE - length (take size rows)) 0 in
+    let whole : length rows ≡ length (padded (take size rows)) =
+    sym (length-append (take size rows) tail ∙ omega arith) in
     record {
       within = omega arith;
       state = s.state;
@@ -45,7 +47,8 @@ by_place {size = size} {rows = rows} s =
     let e : length (take size rows) ≡ size = length-take-le size rows within in
     let fits = s.state.size.greatest in
     let tail : List ℕ = replicate (MAX_SIZE - length (take size rows)) 0 in
-    let t : length tail ≡ MAX_SIZE - length (take size rows) = length-replicate (MAX_SIZE - length (take size rows)) 0 in
+    let t : length tail ≡ MAX_SIZE - length (take size rows) =
+    length-replicate (MAX_SIZE - length (take size rows)) 0 in
     let whole = ap length s.zeros ∙ length-append (take size rows) tail in
     record {
       long = omega arith;

@@ -62,7 +62,9 @@ unfolding maslov components alexander
 trefoil-alexander = refl
 
 -- 012, 021, 102, 120, 201, 210
-small-states : states 3 ≡ (0 ∷ 1 ∷ 2 ∷ []) ∷ (0 ∷ 2 ∷ 1 ∷ []) ∷ (1 ∷ 0 ∷ 2 ∷ []) ∷ (1 ∷ 2 ∷ 0 ∷ []) ∷ (2 ∷ 0 ∷ 1 ∷ []) ∷ (2 ∷ 1 ∷ 0 ∷ []) ∷ []
+small-states : states 3
+    ≡ (0 ∷ 1 ∷ 2 ∷ []) ∷ (0 ∷ 2 ∷ 1 ∷ []) ∷ (1 ∷ 0 ∷ 2 ∷ []) ∷ (1 ∷ 2 ∷ 0 ∷ []) ∷ (2 ∷ 0 ∷ 1 ∷ []) ∷ (2 ∷ 1 ∷ 0 ∷ [])
+    ∷ []
 unfolding states arrangements
 small-states = refl
 
@@ -79,10 +81,12 @@ unfolding states arrangements maslov components alexander
 small-alexanders = refl
 
 -- an odd number of rectangles lead from 012 to 102 alone, and an even number from 021 to each state
-small-border : filter (λ y. is_odd (length (filter (is_step small (0 ∷ 1 ∷ 2 ∷ []) y) (rectangles 3)))) (states 3) ≡ (1 ∷ 0 ∷ 2 ∷ []) ∷ []
+small-border : filter (λ y. is_odd (length (filter (is_step small (0 ∷ 1 ∷ 2 ∷ []) y) (rectangles 3)))) (states 3)
+    ≡ (1 ∷ 0 ∷ 2 ∷ []) ∷ []
 unfolding states arrangements
 small-border = refl
 
-small-border-empty : filter (λ y. is_odd (length (filter (is_step small (0 ∷ 2 ∷ 1 ∷ []) y) (rectangles 3)))) (states 3) ≡ []
+small-border-empty : filter (λ y. is_odd (length (filter (is_step small (0 ∷ 2 ∷ 1 ∷ []) y) (rectangles 3)))) (states 3)
+    ≡ []
 unfolding states arrangements
 small-border-empty = refl

@@ -11,9 +11,11 @@ use Rattle.torus_geom.proofs.Sums.TabulateLemmas.{slice_index-tabulate}
 pub length-transpose : (rows : List ℕ) → length (transpose rows) ≡ length rows
 length-transpose rows = length-tabulate (length rows) (column_of (length rows) (slice_index rows))
 
-pub slice_index-transpose : (n : ℕ) (rows : List ℕ) (r : ℕ) → length rows ≡ n → r < n → slice_index (transpose rows) r ≡ column_of n (slice_index rows) r
+pub slice_index-transpose : (n : ℕ) (rows : List ℕ) (r : ℕ) → length rows ≡ n → r < n
+    → slice_index (transpose rows) r ≡ column_of n (slice_index rows) r
 slice_index-transpose n rows r e l =
-    slice_index-tabulate (length rows) (column_of (length rows) (slice_index rows)) r (omega arith) ∙ ap (λ m. column_of m (slice_index rows) r) e
+    slice_index-tabulate (length rows) (column_of (length rows) (slice_index rows)) r (omega arith)
+    ∙ ap (λ m. column_of m (slice_index rows) r) e
 
 pub IsBijection-transposed : (n : ℕ) (rows : List ℕ) → IsBijection n rows → IsBijection n (transpose rows)
 IsBijection-transposed n rows b =
@@ -21,14 +23,17 @@ IsBijection-transposed n rows b =
     record {
       long = length-transpose rows ∙ b.long;
       small = λ r l. let e = slice_index-transpose n rows r b.long l in let k = columns.small r l in omega arith;
-      apart = λ r q lr lq p e. columns.apart r q lr lq p (sym (slice_index-transpose n rows r b.long lr) ∙ e ∙ slice_index-transpose n rows q b.long lq);
+      apart = λ r q lr lq p e. columns.apart r q lr lq p
+          (sym (slice_index-transpose n rows r b.long lr) ∙ e ∙ slice_index-transpose n rows q b.long lq);
     }
 
 pub IsGrid-transposed : (g : Marks) → IsGrid g → IsGrid (transposed g)
 IsGrid-transposed g grid = record {
   is_size = let P : ℕ → Type 0 = IsSize in subst P (sym long) grid.is_size;
-  o = let P : ℕ → Type 0 = λ n. IsBijection n (transpose g.o) in subst P (sym long) (IsBijection-transposed (size g) g.o grid.o);
-  x = let P : ℕ → Type 0 = λ n. IsBijection n (transpose g.x) in subst P (sym long) (IsBijection-transposed (size g) g.x grid.x);
+  o = let P : ℕ → Type 0 = λ n. IsBijection n (transpose g.o) in
+      subst P (sym long) (IsBijection-transposed (size g) g.o grid.o);
+  x = let P : ℕ → Type 0 = λ n. IsBijection n (transpose g.x) in
+      subst P (sym long) (IsBijection-transposed (size g) g.x grid.x);
   apart = λ r l e. differ r (let k = long in omega arith) e;
 }
   where
@@ -43,10 +48,12 @@ IsGrid-transposed g grid = record {
         let same : column_of (size g) (slice_index g.o) r ≡ column_of (size g) (slice_index g.x) r =
         sym (slice_index-transpose (size g) g.o r refl l) ∙ e ∙ slice_index-transpose (size g) g.x r grid.x.long l in
         grid.apart (column_of (size g) (slice_index g.o) r) (column_of-below (size g) (slice_index g.o) o_one r l)
-        (row-column_of (size g) (slice_index g.o) o_one r l ∙ sym (row-column_of (size g) (slice_index g.x) x_one r l) ∙ ap (slice_index g.x) (sym same))
+        (row-column_of (size g) (slice_index g.o) o_one r l ∙ sym (row-column_of (size g) (slice_index g.x) x_one r l)
+        ∙ ap (slice_index g.x) (sym same))
 
 -- the transposed marks, from those of each kind
-pub transposed_marks : (g h : Marks) (o x : List ℕ) → h ≡ g → o ≡ transpose h.o → x ≡ transpose h.x → record { o = o; x = x } ≡ transposed g
+pub transposed_marks : (g h : Marks) (o x : List ℕ) → h ≡ g → o ≡ transpose h.o → x ≡ transpose h.x
+    → record { o = o; x = x } ≡ transposed g
 transposed_marks g h o x e at_o at_x = (λ i. record { o = at_o i; x = at_x i }) ∙ ap transposed e
 
 -- the column of a row has its mark there, where the rows were read from a state

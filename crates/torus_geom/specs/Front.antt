@@ -6,11 +6,13 @@
 -- the SW corners.
 --     o_column g r, x_column g r the columns of the O and of the X in row r
 --     is_up g c r, is_down g c r the vertical segment of column c passes row r on its way up, or down
---     is_right g c r, is_left g c r   the horizontal segment of row r passes column c on its way to the right, or to the left
+--     is_right g c r, is_left g c r   the horizontal segment of row r passes column c on its way to the right, or to
+--                                     the left
 --     sign g c r                 the sign of the crossing at column c and row r, 0 where there is none
 --     writhe g                   the sum of the signs
 --     north_east g, south_west g the numbers of NE and of SW corners
---     is_north_east_x g c and so on   the X, or the O, of column c is a NE, or a SW, corner: is_north_east_o, is_south_west_x,
+--     is_north_east_x g c and so on   the X, or the O, of column c is a NE, or a SW, corner: is_north_east_o,
+--                                     is_south_west_x,
 --                                is_south_west_o
 --     thurston_bennequin g       tb = - writhe - NE
 --     doubled_rotation g         NE at X + SW at O - NE at O - SW at X, which is even

@@ -1,5 +1,6 @@
 -- The fully blocked grid complex (Ozsváth, Stipsicz and Szabó, "Grid Homology for Knots and Links", chapter 4).
---     grid_complex g     all states of the grid, each by its rank and with its bidegree, and from each state an arrow to
+--     grid_complex g     all states of the grid, each by its rank and with its bidegree, and from each state an arrow
+--                        to
 --                        those of its border
 use Rattle.std.specs.Prelude.{ℤ, nat_lt, if◌then◌else◌}
 use Rattle.std.specs.declared.option.Option.TheVariants.{None, Some}

@@ -9,8 +9,9 @@
 --                                subset a boundary
 --     IsHomologyTable g rows     the rows are all (m, a, d) with such a rank d above 0, by a descending, then
 --                                m descending
-use Rattle.std.specs.Prelude.{◌≡◌, ◌⊎◌, ◌↔◌, ℕ, ◌<◌, ℤ, ◌<ℤ◌, List}
+use Rattle.std.specs.Prelude.{◌↔◌, ℕ, ◌<◌, ℤ, List}
 use Rattle.std.specs.List.{Contains, AllPairs}
+use Rattle.f2_algebra.specs.Bigraded as bigraded
 use Rattle.f2_algebra.specs.Complex.{IsRank}
 use Rattle.torus_geom.specs.Marks.{Marks}
 use Rattle.torus_geom.specs.GridComplex.{grid_complex}
@@ -24,7 +25,7 @@ Row = ℤ × ℤ × ℕ
 
 -- the Alexander degree of p is higher than that of q, or that is the same and the Maslov degree is higher
 abbrev pub StandsBefore : Row → Row → Type 0
-StandsBefore p q = (q.1 <ℤ p.1) ⊎ ((q.1 ≡ p.1) × (q.0 <ℤ p.0))
+StandsBefore p q = bigraded.StandsBefore (p.0, p.1) (q.0, q.1)
 
 pub record IsHomologyTable (g : Marks) (rows : List Row) : Type 0 where
   pub ordered : AllPairs StandsBefore rows

@@ -19,10 +19,13 @@ lift-sum log z = ap (lift log) (sym (sum_over-singles z)) ∙ linear-sum_over (l
 -- each log that stands has the laws
 pub log_laws : {G : Type 0} (C : Complex G) → IsComplex C → (log : List Entry) → IsLog C log → LogLaws C log
 log_laws C laws log stands = record {
-  border_lift = λ s live. border-lift C laws log stands (single s) (cell_of_single (after C log) s live) ∙ ap (lift log) (border-single (after C log) s);
+  border_lift =
+      λ s live. border-lift C laws log stands (single s) (cell_of_single (after C log) s live)
+      ∙ ap (lift log) (border-single (after C log) s);
   rest_border = rest_border C laws log stands;
   rest_lift = rest_lift C laws log stands;
-  cycle = λ z c. cycle_law C laws log stands z c ∙ ap₂ (λ a b. a ⊕ border C b) (lift-sum log (rest log z)) (sym (correction-by log z));
+  cycle = λ z c. cycle_law C laws log stands z c
+      ∙ ap₂ (λ a b. a ⊕ border C b) (lift-sum log (rest log z)) (sym (correction-by log z));
   lift_degree = λ s live t h.
       let (u, in_s, same) = lift_degrees C laws log stands (single s) (cell_of_single (after C log) s live) t h in
       same ∙ ap (after C log).degree (eqb-true u s (sym (holds-single s u) ∙ in_s));
@@ -32,5 +35,6 @@ log_laws C laws log stands = record {
       let live : is_some ((after C log).degree s) ≡ true = ap is_some (sym same) ∙ cells t in_z in
       let first = live_at_first C laws log stands s live in
       (live, first, (t, in_z, sym first ∙ sym same));
-  correction_degree = λ z s h. correction_degrees C laws log stands z s (ap (λ c. holds c s) (sym (correction-by log z)) ∙ h);
+  correction_degree =
+      λ z s h. correction_degrees C laws log stands z s (ap (λ c. holds c s) (sym (correction-by log z)) ∙ h);
 }

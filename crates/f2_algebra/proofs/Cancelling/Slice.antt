@@ -12,15 +12,26 @@ use Rattle.f2_algebra.proofs.Chains.Sets.{same_chain, holds-nothing}
 use Rattle.f2_algebra.proofs.Cancelling.Cancellation.{arrow-cancelled, border-nothing}
 
 -- two complexes are equal where their degrees and their arrows are
-pub same_complex : {G : Type 0} (C D : Complex G) → C.up ≡ D.up → ((s : ℕ) → C.degree s ≡ D.degree s) → ((s t : ℕ) → arrow C s t ≡ arrow D s t) → C ≡ D
-same_complex C D up degrees arrows = λ i. record { up = up i; degree = λ s. degrees s i; targets = λ s. same_chain (C.targets s) (D.targets s) (arrows s) i }
+pub same_complex : {G : Type 0} (C D : Complex G) → C.up ≡ D.up → ((s : ℕ) → C.degree s ≡ D.degree s)
+    → ((s t : ℕ) → arrow C s t ≡ arrow D s t) → C ≡ D
+same_complex C D up degrees arrows =
+    λ i. record {
+      up = up i;
+      degree = λ s. degrees s i;
+      targets = λ s. same_chain (C.targets s) (D.targets s) (arrows s) i;
+    }
 
 -- a slice in which each arrow is as after the toggle is the one without x and y
 pub toggled : (old new : Slice) → IsSlice old → (e : Entry) → IsEntry (slice_complex old) e
     → ((s : ℕ) → (slice_complex new).degree s ≡ cond (is_one_of e.x e.y s) None ((slice_complex old).degree s))
-    → ((s t : ℕ) → arrow (slice_complex new) s t ≡ (not (is_one_of e.x e.y s) && ((arrow (slice_complex old) s t ⊻ (arrow (slice_complex old) s e.y && arrow (slice_complex old) e.x t)) && not (is_one_of e.x e.y t))))
+    → ((s t : ℕ)
+    → arrow (slice_complex new) s t
+    ≡ (not (is_one_of e.x e.y s)
+    && ((arrow (slice_complex old) s t ⊻ (arrow (slice_complex old) s e.y && arrow (slice_complex old) e.x t))
+    && not (is_one_of e.x e.y t))))
     → slice_complex new ≡ cancelled (slice_complex old) e.x e.y
-toggled old new laws e fits degrees arrows = same_complex _ _ refl degrees (λ s t. arrows s t ∙ sym (arrow-cancelled (slice_complex old) laws e fits s t))
+toggled old new laws e fits degrees arrows =
+    same_complex _ _ refl degrees (λ s t. arrows s t ∙ sym (arrow-cancelled (slice_complex old) laws e fits s t))
 
 -- a slice with no live code keeps the rules
 pub slice_none : IsSlice fin.empty

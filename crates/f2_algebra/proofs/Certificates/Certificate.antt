@@ -47,33 +47,50 @@ pub pairs_tail : {X : Type 0} (R : X → X → Type 0) (x : X) (xs : List X) →
 pairs_tail R x xs h i j d p q = h (suc i) (suc j) d (omega arith) (omega arith)
 
 -- ---- triangular rows
-IsTriangular-map : {X : Type 0} (row : X → Row) (xs : List X) → Every (λ x. (row x).test (row x).vector ≡ true) xs → AllPairs (λ x y. (row x).test (row y).vector ≡ false) xs → IsTriangular (map row xs)
+IsTriangular-map : {X : Type 0} (row : X → Row) (xs : List X) → Every (λ x. (row x).test (row x).vector ≡ true) xs
+    → AllPairs (λ x y. (row x).test (row y).vector ≡ false) xs → IsTriangular (map row xs)
 IsTriangular-map row [] own later = tt
 IsTriangular-map row (x ∷ xs) own later = (
   own.0,
-  every_map _ row xs (every (λ y. (row x).test (row y).vector ≡ false) xs (pairs_head (λ x y. (row x).test (row y).vector ≡ false) x xs later)),
+  every_map _ row xs (every (λ y. (row x).test (row y).vector ≡ false) xs
+      (pairs_head (λ x y. (row x).test (row y).vector ≡ false) x xs later)),
   IsTriangular-map row xs own.1 (pairs_tail (λ x y. (row x).test (row y).vector ≡ false) x xs later),
 )
 
-IsTriangular-append : (xs ys : List Row) → IsTriangular xs → IsTriangular ys → Every (λ r. Every (λ s. r.test s.vector ≡ false) ys) xs → IsTriangular (xs ++ ys)
+IsTriangular-append : (xs ys : List Row) → IsTriangular xs → IsTriangular ys
+    → Every (λ r. Every (λ s. r.test s.vector ≡ false) ys) xs → IsTriangular (xs ++ ys)
 IsTriangular-append [] ys tx ty cross = ty
-IsTriangular-append (x ∷ xs) ys tx ty cross = (tx.0, every_append _ xs ys tx.1 cross.0, IsTriangular-append xs ys tx.2 ty cross.1)
+IsTriangular-append (x ∷ xs) ys tx ty cross =
+    (tx.0, every_append _ xs ys tx.1 cross.0, IsTriangular-append xs ys tx.2 ty cross.1)
 
 -- ---- the rows of a certificate
 module _ {G : Type 0} (C : Complex G) where
   abbrev step_row : StepPair → Row
-  step_row p = record { vector = p.step; test = λ z. pairs_oddly (border C z) p.probe; linear = λ z w. ap (λ c. pairs_oddly c p.probe) (border-add C z w) ∙ pairs_oddly-add (border C z) (border C w) p.probe }
+  step_row p =
+      record {
+        vector = p.step;
+        test = λ z. pairs_oddly (border C z) p.probe;
+        linear = λ z w. ap (λ c. pairs_oddly c p.probe) (border-add C z w)
+            ∙ pairs_oddly-add (border C z) (border C w) p.probe;
+      }
 
   abbrev boundary_row : StepPair → Row
-  boundary_row p = record { vector = border C p.step; test = λ z. pairs_oddly z p.probe; linear = λ z w. pairs_oddly-add z w p.probe }
+  boundary_row p =
+      record {
+        vector = border C p.step;
+        test = λ z. pairs_oddly z p.probe;
+        linear = λ z w. pairs_oddly-add z w p.probe;
+      }
 
 abbrev cycle_row : CyclePair → Row
-cycle_row p = record { vector = p.cycle; test = λ z. pairs_oddly z p.cocycle; linear = λ z w. pairs_oddly-add z w p.cocycle }
+cycle_row p =
+    record { vector = p.cycle; test = λ z. pairs_oddly z p.cocycle; linear = λ z w. pairs_oddly-add z w p.cocycle }
 
 pairs-nothing : (f : Chain) → pairs_oddly nothing f ≡ false
 pairs-nothing f = pairs_oddly-weight nothing f ∙ weight-nothing (holds f)
 
-border-pick : {G : Type 0} (C : Complex G) (ps : List Bool) (xs : List StepPair) → border C (pick ps (vectors (map (step_row C) xs))) ≡ pick ps (vectors (map (boundary_row C) xs))
+border-pick : {G : Type 0} (C : Complex G) (ps : List Bool) (xs : List StepPair)
+    → border C (pick ps (vectors (map (step_row C) xs))) ≡ pick ps (vectors (map (boundary_row C) xs))
 border-pick C [] xs = border-nothing C
 border-pick C (p ∷ ps) [] = border-nothing C
 border-pick C (true ∷ ps) (x ∷ xs) = border-add C x.step _ ∙ ap (λ c. border C x.step ⊕ c) (border-pick C ps xs)
@@ -84,16 +101,24 @@ vectors-append [] ys = refl
 vectors-append (x ∷ xs) ys = ap (λ vs. x.vector ∷ vs) (vectors-append xs ys)
 
 abbrev Split : List Bool → List Row → List Row → Type 0
-Split ps xs ys = (bs : List Bool) × (cs : List Bool) × (length bs ≡ length xs) × (length cs ≡ length ys) × (pick ps (vectors (xs ++ ys)) ≡ pick bs (vectors xs) ⊕ pick cs (vectors ys))
+Split ps xs ys = (bs : List Bool) × (cs : List Bool) × (length bs ≡ length xs) × (length cs ≡ length ys)
+    × (pick ps (vectors (xs ++ ys)) ≡ pick bs (vectors xs) ⊕ pick cs (vectors ys))
 
 split : (ps : List Bool) (xs ys : List Row) → length ps ≡ length (xs ++ ys) → Split ps xs ys
 split ps [] ys l = ([], ps, refl, l, sym (nothing-add _))
 split [] (x ∷ xs) ys l = absurd (omega arith)
 split (p ∷ ps) (x ∷ xs) ys l =
-    let (bs, cs, lb, lc, e) = split ps xs ys (omega arith) in
-    (p ∷ bs, cs, ap suc lb, lc, pick-cons p ps x.vector _ ∙ ap (λ c. cond p x.vector nothing ⊕ c) e ∙ sym (add_assoc _ _ _) ∙ ap (λ c. c ⊕ pick cs (vectors ys)) (sym (pick-cons p bs x.vector (vectors xs))))
+    let (bs, cs, lb, lc, e) = split ps xs ys (omega arith) in (
+      p ∷ bs,
+      cs,
+      ap suc lb,
+      lc,
+      pick-cons p ps x.vector _ ∙ ap (λ c. cond p x.vector nothing ⊕ c) e ∙ sym (add_assoc _ _ _)
+          ∙ ap (λ c. c ⊕ pick cs (vectors ys)) (sym (pick-cons p bs x.vector (vectors xs))),
+    )
 
-degree-pick : {G : Type 0} (C : Complex G) (m : G) (rs : List Row) → Every (λ r. AllOfDegree C m r.vector) rs → (ps : List Bool) → AllOfDegree C m (pick ps (vectors rs))
+degree-pick : {G : Type 0} (C : Complex G) (m : G) (rs : List Row) → Every (λ r. AllOfDegree C m r.vector) rs
+    → (ps : List Bool) → AllOfDegree C m (pick ps (vectors rs))
 degree-pick C m [] h [] = degree-nothing C m
 degree-pick C m [] h (p ∷ ps) = degree-nothing C m
 degree-pick C m (r ∷ rs) h [] = degree-nothing C m
@@ -120,20 +145,29 @@ module _ {G : Type 0} (C : Complex G) (laws : IsComplex C) (m : G) (cells : Chai
   every_cocycle = every (λ (q : CyclePair). (s : ℕ) → pairs_oddly (C.targets s) q.cocycle ≡ false) cycles cp.cocycles
 
   tri_cycles : IsTriangular (map cycle_row cycles)
-  tri_cycles = IsTriangular-map cycle_row cycles (every (λ (p : CyclePair). pairs_oddly p.cycle p.cocycle ≡ true) cycles cp.own) (λ i j d l k. (cp.others i j d l k).1)
+  tri_cycles =
+      IsTriangular-map cycle_row cycles (every (λ (p : CyclePair). pairs_oddly p.cycle p.cocycle ≡ true) cycles cp.own)
+      (λ i j d l k. (cp.others i j d l k).1)
 
   tri_boundaries : (m' : G) (xs : List StepPair) → AreStepPairs C m' xs → IsTriangular (map (boundary_row C) xs)
-  tri_boundaries m' xs x = IsTriangular-map (boundary_row C) xs (every (λ (p : StepPair). pairs_oddly (border C p.step) p.probe ≡ true) xs x.own) x.later
+  tri_boundaries m' xs x =
+      IsTriangular-map (boundary_row C) xs
+      (every (λ (p : StepPair). pairs_oddly (border C p.step) p.probe ≡ true) xs x.own) x.later
 
   tri : IsTriangular rows
   tri = IsTriangular-append (map (step_row C) steps) (map cycle_row cycles ++ map (boundary_row C) above)
-      (IsTriangular-map (step_row C) steps (every (λ (p : StepPair). pairs_oddly (border C p.step) p.probe ≡ true) steps sp.own) sp.later)
-      (IsTriangular-append (map cycle_row cycles) (map (boundary_row C) above) tri_cycles (tri_boundaries (C.up m) above ap')
-      (every_map _ cycle_row cycles (every_weaker (λ (q : CyclePair). (s : ℕ) → pairs_oddly (C.targets s) q.cocycle ≡ false) _ cycles
-      (λ q c. every_map _ (boundary_row C) above (every_all _ above (λ p. even_with_borders C q.cocycle c p.step))) every_cocycle)))
+      (IsTriangular-map (step_row C) steps
+      (every (λ (p : StepPair). pairs_oddly (border C p.step) p.probe ≡ true) steps sp.own) sp.later)
+      (IsTriangular-append (map cycle_row cycles) (map (boundary_row C) above) tri_cycles
+      (tri_boundaries (C.up m) above ap')
+      (every_map _ cycle_row cycles (every_weaker (λ (q : CyclePair). (s : ℕ)
+      → pairs_oddly (C.targets s) q.cocycle ≡ false) _ cycles
+      (λ q c. every_map _ (boundary_row C) above (every_all _ above (λ p. even_with_borders C q.cocycle c p.step)))
+      every_cocycle)))
       (every_map _ (step_row C) steps (every_all _ steps (λ p.
       every_append _ (map cycle_row cycles) (map (boundary_row C) above)
-      (every_map _ cycle_row cycles (every_weaker (λ (q : CyclePair). IsCycle C m q.cycle) _ cycles (λ q c. closed_by p q c) every_cycle))
+      (every_map _ cycle_row cycles (every_weaker (λ (q : CyclePair). IsCycle C m q.cycle) _ cycles
+      (λ q c. closed_by p q c) every_cycle))
       (every_map _ (boundary_row C) above (every_all _ above (λ q. twice_by p q))))))
 
   border_degree : (z : Chain) → AllOfDegree C (C.up m) z → AllOfDegree C m (border C z)
@@ -142,7 +176,8 @@ module _ {G : Type 0} (C : Complex G) (laws : IsComplex C) (m : G) (cells : Chai
       let (k, above_k, below) = laws.lowers t s t_to_s in
       below ∙ ap Some (laws.up_one k m (same_some _ _ (sym above_k ∙ of t in_z)))
 
-  every_step : (m' : G) (xs : List StepPair) → AreStepPairs C m' xs → Every (λ (p : StepPair). AllOfDegree C m' p.step) xs
+  every_step : (m' : G) (xs : List StepPair) → AreStepPairs C m' xs
+      → Every (λ (p : StepPair). AllOfDegree C m' p.step) xs
   every_step m' xs x = every (λ (p : StepPair). AllOfDegree C m' p.step) xs x.steps
 
   row_degrees : Every (λ r. AllOfDegree C m r.vector) rows
@@ -150,8 +185,11 @@ module _ {G : Type 0} (C : Complex G) (laws : IsComplex C) (m : G) (cells : Chai
       every_append _ (map (step_row C) steps) (map cycle_row cycles ++ map (boundary_row C) above)
       (every_map _ (step_row C) steps (every_step m steps sp))
       (every_append _ (map cycle_row cycles) (map (boundary_row C) above)
-      (every_map _ cycle_row cycles (every_weaker (λ (q : CyclePair). IsCycle C m q.cycle) _ cycles (λ q c. c.0) every_cycle))
-      (every_map _ (boundary_row C) above (every_weaker (λ (p : StepPair). AllOfDegree C (C.up m) p.step) _ above (λ p of. border_degree p.step of) (every_step (C.up m) above ap'))))
+      (every_map _ cycle_row cycles (every_weaker (λ (q : CyclePair). IsCycle C m q.cycle) _ cycles
+      (λ q c. c.0) every_cycle))
+      (every_map _ (boundary_row C) above
+      (every_weaker (λ (p : StepPair). AllOfDegree C (C.up m) p.step) _ above (λ p of. border_degree p.step of)
+      (every_step (C.up m) above ap'))))
 
   inside : Every (λ r. IsInside cells r.vector) rows
   inside = every_weaker (λ r. AllOfDegree C m r.vector) _ rows (λ r of s h. (all s).1 (of s h)) row_degrees
@@ -174,19 +212,23 @@ module _ {G : Type 0} (C : Complex G) (laws : IsComplex C) (m : G) (cells : Chai
   unmarked [] = refl
   unmarked (x ∷ xs) = unmarked xs
 
-  closed_pick : (xs : List CyclePair) → Every (λ (q : CyclePair). IsCycle C m q.cycle) xs → (ps : List Bool) → border C (pick ps (vectors (map cycle_row xs))) ≡ nothing
+  closed_pick : (xs : List CyclePair) → Every (λ (q : CyclePair). IsCycle C m q.cycle) xs → (ps : List Bool)
+      → border C (pick ps (vectors (map cycle_row xs))) ≡ nothing
   closed_pick xs h [] = border-nothing C
   closed_pick [] h (p ∷ ps) = border-nothing C
   closed_pick (x ∷ xs) h (true ∷ ps) = border-add C x.cycle _ ∙ ap₂ ◌⊕◌ h.0.1 (closed_pick xs h.1 ps) ∙ add_self nothing
   closed_pick (x ∷ xs) h (false ∷ ps) = closed_pick xs h.1 ps
 
   cancel : (z st h b : Chain) → z ≡ st ⊕ (h ⊕ b) → st ≡ nothing → z ⊕ h ≡ b
-  cancel z st h b e none = ap (λ c. c ⊕ h) (e ∙ ap (λ c. c ⊕ (h ⊕ b)) none ∙ nothing-add _) ∙ add_comm (h ⊕ b) h ∙ add_back h b
+  cancel z st h b e none =
+      ap (λ c. c ⊕ h) (e ∙ ap (λ c. c ⊕ (h ⊕ b)) none ∙ nothing-add _) ∙ add_comm (h ⊕ b) h ∙ add_back h b
 
-  found : (z : Chain) → IsCycle C m z → (ps : List Bool) × (length ps ≡ length (map cycle_row cycles)) × IsBoundary C m (z ⊕ pick ps basis)
+  found : (z : Chain) → IsCycle C m z
+      → (ps : List Bool) × (length ps ≡ length (map cycle_row cycles)) × IsBoundary C m (z ⊕ pick ps basis)
   found z c =
       let (ps, l, e) = spans rows tri cells row_count inside z (λ s h. (all s).1 (c.0 s h)) in
-      let (ss, bcs, la, lbc, e1) = split ps (map (step_row C) steps) (map cycle_row cycles ++ map (boundary_row C) above) l in
+      let (ss, bcs, la, lbc, e1) =
+      split ps (map (step_row C) steps) (map cycle_row cycles ++ map (boundary_row C) above) l in
       let (bs, cs, lb, lc, e2) = split bcs (map cycle_row cycles) (map (boundary_row C) above) lbc in
       let sum_s = pick ss (vectors (map (step_row C) steps)) in
       let sum_h = pick bs basis in
@@ -195,18 +237,26 @@ module _ {G : Type 0} (C : Complex G) (laws : IsComplex C) (m : G) (cells : Chai
       let is_b : border C w ≡ sum_b = border-pick C cs above in
       let parts : z ≡ sum_s ⊕ (sum_h ⊕ sum_b) = sym e ∙ e1 ∙ ap (λ u. sum_s ⊕ u) e2 in
       let rest_closed : border C (sum_h ⊕ sum_b) ≡ nothing =
-      border-add C sum_h sum_b ∙ ap₂ ◌⊕◌ (closed_pick cycles every_cycle bs) (ap (border C) (sym is_b) ∙ border-border C laws w) ∙ add_self nothing
+      border-add C sum_h sum_b
+      ∙ ap₂ ◌⊕◌ (closed_pick cycles every_cycle bs) (ap (border C) (sym is_b) ∙ border-border C laws w)
+      ∙ add_self nothing
       in
       let no_s : border C sum_s ≡ nothing =
-      sym (add-nothing _) ∙ ap (λ u. border C sum_s ⊕ u) (sym rest_closed) ∙ sym (border-add C sum_s _) ∙ ap (border C) (sym parts) ∙ c.1
+      sym (add-nothing _) ∙ ap (λ u. border C sum_s ⊕ u) (sym rest_closed) ∙ sym (border-add C sum_s _)
+      ∙ ap (border C) (sym parts) ∙ c.1
       in
-      let none = independent (map (boundary_row C) steps) (tri_boundaries m steps sp) ss (la ∙ length-map steps (step_row C) ∙ sym (length-map steps (boundary_row C))) (sym (border-pick C ss steps) ∙ no_s) in (
+      let none =
+      independent (map (boundary_row C) steps) (tri_boundaries m steps sp) ss
+      (la ∙ length-map steps (step_row C) ∙ sym (length-map steps (boundary_row C)))
+      (sym (border-pick C ss steps) ∙ no_s) in (
         bs,
         lb,
         (
           w,
-          degree-pick C (C.up m) (map (step_row C) above) (every_map _ (step_row C) above (every_step (C.up m) above ap')) cs,
-          is_b ∙ sym (cancel z sum_s sum_h sum_b parts (ap (λ ms. pick ms (vectors (map (step_row C) steps))) none ∙ unmarked steps)),
+          degree-pick C (C.up m) (map (step_row C) above)
+              (every_map _ (step_row C) above (every_step (C.up m) above ap')) cs,
+          is_b ∙ sym (cancel z sum_s sum_h sum_b parts (ap (λ ms. pick ms (vectors (map (step_row C) steps))) none
+              ∙ unmarked steps)),
         ),
       )
 
@@ -216,16 +266,21 @@ module _ {G : Type 0} (C : Complex G) (laws : IsComplex C) (m : G) (cells : Chai
   from_basis : (ps : List Bool) → length ps ≡ length basis → length ps ≡ length (map cycle_row cycles)
   from_basis ps l = l ∙ length-map (map cycle_row cycles) (λ (r : Row). r.vector)
 
-  one : (z : Chain) (ps qs : List Bool) → length ps ≡ length (map cycle_row cycles) → length qs ≡ length (map cycle_row cycles) → IsBoundary C m (z ⊕ pick ps basis) → IsBoundary C m (z ⊕ pick qs basis) → ps ≡ qs
+  one : (z : Chain) (ps qs : List Bool) → length ps ≡ length (map cycle_row cycles)
+      → length qs ≡ length (map cycle_row cycles) → IsBoundary C m (z ⊕ pick ps basis)
+      → IsBoundary C m (z ⊕ pick qs basis) → ps ≡ qs
   one z ps qs lp lq bp bq =
       let u = border C (bp.0 ⊕ bq.0) in
       let twice : pick (xor_picks ps qs) basis ≡ u =
       pick-xor basis ps qs (to_basis ps lp) (to_basis qs lq)
-      ∙ sym (border-add C bp.0 bq.0 ∙ ap₂ ◌⊕◌ bp.2 bq.2 ∙ add_swap z (pick ps basis) z (pick qs basis) ∙ ap (λ c. c ⊕ (pick ps basis ⊕ pick qs basis)) (add_self z) ∙ nothing-add _)
+      ∙ sym (border-add C bp.0 bq.0 ∙ ap₂ ◌⊕◌ bp.2 bq.2 ∙ add_swap z (pick ps basis) z (pick qs basis)
+      ∙ ap (λ c. c ⊕ (pick ps basis ⊕ pick qs basis)) (add_self z) ∙ nothing-add _)
       in
       same_of_xor (map cycle_row cycles) ps qs lp lq
       (independent_mod (map cycle_row cycles) tri_cycles u
-      (every_map _ cycle_row cycles (every_weaker (λ (q : CyclePair). (s : ℕ) → pairs_oddly (C.targets s) q.cocycle ≡ false) _ cycles (λ q even. even_with_borders C q.cocycle even (bp.0 ⊕ bq.0)) every_cocycle))
+      (every_map _ cycle_row cycles (every_weaker (λ (q : CyclePair). (s : ℕ)
+      → pairs_oddly (C.targets s) q.cocycle ≡ false) _ cycles
+      (λ q even. even_with_borders C q.cocycle even (bp.0 ⊕ bq.0)) every_cocycle))
       (xor_picks ps qs) (length-xor_picks (length (map cycle_row cycles)) ps qs lp lq) twice)
 
   -- the number of cycle pairs is the rank
@@ -233,7 +288,9 @@ module _ {G : Type 0} (C : Complex G) (laws : IsComplex C) (m : G) (cells : Chai
   rank_of_certificate = (
     basis,
     record {
-      cycles = all_from (IsCycle C m) basis (every_map (IsCycle C m) (λ (r : Row). r.vector) (map cycle_row cycles) (every_map _ cycle_row cycles every_cycle));
+      cycles = all_from (IsCycle C m) basis
+          (every_map (IsCycle C m) (λ (r : Row). r.vector) (map cycle_row cycles)
+          (every_map _ cycle_row cycles every_cycle));
       one_subset = λ z c.
           let (ps, l, b) = found z c in
           (ps, (to_basis ps l, b), λ qs f. one z qs ps (from_basis qs f.0) l f.1 b);

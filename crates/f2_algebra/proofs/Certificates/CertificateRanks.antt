@@ -24,7 +24,12 @@ rank_none C m none = (
   [],
   record {
     cycles = All-nil (IsCycle C m);
-    one_subset = λ z c. ([], (refl, (nothing, degree-nothing C (C.up m), border-nothing C ∙ sym (add-nothing z ∙ empty z c.0))), λ ps f. no_picks ps f.0);
+    one_subset =
+        λ z c. (
+          [],
+          (refl, (nothing, degree-nothing C (C.up m), border-nothing C ∙ sym (add-nothing z ∙ empty z c.0))),
+          λ ps f. no_picks ps f.0,
+        );
   },
   refl,
 )
@@ -45,32 +50,40 @@ no_steps {G} C m = record {
   later = λ i j d k l. absurd (omega arith);
 }
 
-module _ {G : Type 0} (eq : G → G → Bool) (eq_is : (m n : G) → (eq m n ≡ true) ↔ (m ≡ n)) (C : Complex G) (laws : IsComplex C) where
-  pick_steps : (m : G) (c : CertCell G) (rest : List StepPair) (b : Bool) → eq c.at m ≡ b → AreStepPairs C c.at c.steps → AreStepPairs C m rest → AreStepPairs C m (cond b c.steps rest)
+module _ {G : Type 0} (eq : G → G → Bool) (eq_is : (m n : G) → (eq m n ≡ true) ↔ (m ≡ n)) (C : Complex G)
+    (laws : IsComplex C) where
+  pick_steps : (m : G) (c : CertCell G) (rest : List StepPair) (b : Bool) → eq c.at m ≡ b → AreStepPairs C c.at c.steps
+      → AreStepPairs C m rest → AreStepPairs C m (cond b c.steps rest)
   pick_steps m c rest true is here later = subst (λ n. AreStepPairs C n c.steps) ((eq_is c.at m).0 is) here
   pick_steps m c rest false is here later = later
 
-  steps_at_pass : (cert : List (CertCell G)) → Every (λ (c : CertCell G). AreStepPairs C c.at c.steps) cert → (m : G) → AreStepPairs C m (steps_at eq cert m)
+  steps_at_pass : (cert : List (CertCell G)) → Every (λ (c : CertCell G). AreStepPairs C c.at c.steps) cert → (m : G)
+      → AreStepPairs C m (steps_at eq cert m)
   steps_at_pass [] h m = no_steps C m
   steps_at_pass (c ∷ cert) h m = pick_steps m c (steps_at eq cert m) (eq c.at m) refl h.0 (steps_at_pass cert h.1 m)
 
-  cell_steps : (whole cert : List (CertCell G)) → Every (IsCertCell eq C whole) cert → Every (λ (c : CertCell G). AreStepPairs C c.at c.steps) cert
+  cell_steps : (whole cert : List (CertCell G)) → Every (IsCertCell eq C whole) cert
+      → Every (λ (c : CertCell G). AreStepPairs C c.at c.steps) cert
   cell_steps whole [] h = tt
   cell_steps whole (c ∷ cert) h = (h.0.step_pairs, cell_steps whole cert h.1)
 
   -- each cell of a certificate that passes tells the rank in its degree
-  pub rank_of_cell : (cert : List (CertCell G)) → Passes eq C cert → (c : CertCell G) → IsCertCell eq C cert c → IsRank C c.at (length c.cycles)
+  pub rank_of_cell : (cert : List (CertCell G)) → Passes eq C cert → (c : CertCell G) → IsCertCell eq C cert c
+      → IsRank C c.at (length c.cycles)
   rank_of_cell cert passes c is =
       let (cells, all, _, count) = is.count in
       let above = steps_at_pass cert (cell_steps cert cert (every (IsCertCell eq C cert) cert passes.0)) (C.up c.at) in
-      rank_of_certificate C laws c.at cells all c.cycles c.steps (steps_at eq cert (C.up c.at)) is.cycle_pairs is.step_pairs above (omega (arith, count))
+      rank_of_certificate C laws c.at cells all c.cycles c.steps
+      (steps_at eq cert (C.up c.at)) is.cycle_pairs is.step_pairs above (omega (arith, count))
 
   -- and in a degree that has no cell in it the rank is 0
-  pub rank_elsewhere : (cert : List (CertCell G)) → Passes eq C cert → (m : G) → (Any (λ (c : CertCell G). c.at ≡ m) cert → ⊥) → IsRank C m 0
+  pub rank_elsewhere : (cert : List (CertCell G)) → Passes eq C cert → (m : G)
+      → (Any (λ (c : CertCell G). c.at ≡ m) cert → ⊥) → IsRank C m 0
   rank_elsewhere cert passes m none = rank_none C m (λ s is. none (passes.1 s m is))
 
   -- ---- the certificate that a log makes, for a list of degrees
-  module _ (xs : List ℕ) (in_xs : IsWithin C xs) (log : List Entry) (stands : IsLog C log) (bare : (s : ℕ) → (after C log).targets s ≡ nothing) where
+  module _ (xs : List ℕ) (in_xs : IsWithin C xs) (log : List Entry) (stands : IsLog C log)
+      (bare : (s : ℕ) → (after C log).targets s ≡ nothing) where
     abbrev test_of : G → ℕ → Bool
     test_of m s = has_degree eq m (C.degree s)
 
@@ -79,7 +92,12 @@ module _ {G : Type 0} (eq : G → G → Bool) (eq_is : (m n : G) → (eq m n ≡
 
     -- the cell of a degree that a log makes
     abbrev pub cert_cell_of_log : G → CertCell G
-    cert_cell_of_log m = record { at = m; cycles = map (cycle_pair log) (codes (cells_of eq eq_is (after C log) xs m)); steps = step_pairs (test_of m) log }
+    cert_cell_of_log m =
+        record {
+          at = m;
+          cycles = map (cycle_pair log) (codes (cells_of eq eq_is (after C log) xs m));
+          steps = step_pairs (test_of m) log;
+        }
 
     -- the cells of a list of degrees that a log makes
     abbrev pub cert_of_log : List G → List (CertCell G)
@@ -95,34 +113,49 @@ module _ {G : Type 0} (eq : G → G → Bool) (eq_is : (m n : G) → (eq m n ≡
 
     steps_none : (p : ℕ → Bool) → ((s : ℕ) → p s ≡ false) → (es : List Entry) → step_pairs p es ≡ []
     steps_none p none [] = refl
-    steps_none p none (e ∷ es) = ap₂ (λ b qs. cond b (own_pair e ∷ map (lifted_pair e) qs) (map (lifted_pair e) qs)) (none e.x) (steps_none p none es)
+    steps_none p none (e ∷ es) =
+        ap₂ (λ b qs. cond b (own_pair e ∷ map (lifted_pair e) qs) (map (lifted_pair e) qs)) (none e.x)
+        (steps_none p none es)
 
     not_head : (n m : G) (ns : List G) → eq n m ≡ false → In m (n ∷ ns) → In m ns
     not_head n m ns is (inl e) = absurd (true≢false (sym ((eq_is n m).1 e) ∙ is))
     not_head n m ns is (inr i) = i
 
-    steps_at_made : (ms : List G) (m : G) → ((s : ℕ) → C.degree s ≡ Some m → In m ms) → steps_at eq (cert_of_log ms) m ≡ step_pairs (test_of m) log
-    steps_at_made [] m listed = sym (steps_none (test_of m) (λ s. none_where (test_of m s) (λ h. listed s ((has_degree-is eq eq_is m (C.degree s)).0 h))) log)
+    steps_at_made : (ms : List G) (m : G) → ((s : ℕ) → C.degree s ≡ Some m → In m ms)
+        → steps_at eq (cert_of_log ms) m ≡ step_pairs (test_of m) log
+    steps_at_made [] m listed =
+        sym (steps_none (test_of m) (λ s. none_where (test_of m s)
+        (λ h. listed s ((has_degree-is eq eq_is m (C.degree s)).0 h))) log)
     steps_at_made (n ∷ ns) m listed = by_test (eq n m) refl (steps_at_made ns m)
       where
-        by_test : (b : Bool) → eq n m ≡ b → (((s : ℕ) → C.degree s ≡ Some m → In m ns) → steps_at eq (cert_of_log ns) m ≡ step_pairs (test_of m) log)
+        by_test : (b : Bool) → eq n m ≡ b
+            → (((s : ℕ) → C.degree s ≡ Some m → In m ns) → steps_at eq (cert_of_log ns) m ≡ step_pairs (test_of m) log)
             → cond b (step_pairs (test_of n) log) (steps_at eq (cert_of_log ns) m) ≡ step_pairs (test_of m) log
         by_test true is later = ap (λ k. step_pairs (test_of k) log) ((eq_is n m).0 is)
         by_test false is later = later (λ s e. not_head n m ns is (listed s e))
 
-    made_cell_passes : (ms : List G) → ((s : ℕ) (m : G) → C.degree s ≡ Some m → In m ms) → (m : G) (s : ℕ) → C.degree s ≡ Some m → IsCertCell eq C (cert_of_log ms) (cert_cell_of_log m)
+    made_cell_passes : (ms : List G) → ((s : ℕ) (m : G) → C.degree s ≡ Some m → In m ms) → (m : G) (s : ℕ)
+        → C.degree s ≡ Some m → IsCertCell eq C (cert_of_log ms) (cert_cell_of_log m)
     made_cell_passes ms listed m s is =
         let z = cells_of eq eq_is C xs m in
         let w = cells_of eq eq_is (after C log) xs m in
         let all = cells_of-all eq eq_is C xs in_xs m in
         let all_w = cells_of-all eq eq_is (after C log) xs in_after m in
-        let n = count_log C laws log stands m (test_of m) (test_of (C.up m)) (is_test m) (is_test (C.up m)) z w all all_w in
+        let n = count_log C laws log stands m (test_of m) (test_of (C.up m)) (is_test m)
+        (is_test (C.up m)) z w all all_w in
         record {
           count = (
             z,
             all,
             some_codes z s ((all s).1 is),
-            omega (arith, n, cardinality-length z, cardinality-length w, length-map (codes w) (cycle_pair log), ap length (steps_at_made ms (C.up m) (λ t e. listed t (C.up m) e))),
+            omega (
+              arith,
+              n,
+              cardinality-length z,
+              cardinality-length w,
+              length-map (codes w) (cycle_pair log),
+              ap length (steps_at_made ms (C.up m) (λ t e. listed t (C.up m) e)),
+            ),
           );
           cycle_pairs = cycle_pairs_pass C laws log stands bare m w all_w;
           step_pairs = step_pairs_pass C laws log stands m (test_of m) (is_test m);
@@ -140,10 +173,16 @@ module _ {G : Type 0} (eq : G → G → Bool) (eq_is : (m n : G) → (eq m n ≡
     any_of (n ∷ ns) m (inl e) = (0, cert_cell_of_log n, omega arith, refl, e)
     any_of (n ∷ ns) m (inr i) = let (k, x, l, is, at) = any_of ns m i in (suc k, x, omega arith, is, at)
 
-    made_all : (ms : List G) → ((s : ℕ) (m : G) → C.degree s ≡ Some m → In m ms) → (ns : List G) → Every (λ (n : G). (s : ℕ) × (C.degree s ≡ Some n)) ns → Every (IsCertCell eq C (cert_of_log ms)) (cert_of_log ns)
+    made_all : (ms : List G) → ((s : ℕ) (m : G) → C.degree s ≡ Some m → In m ms) → (ns : List G)
+        → Every (λ (n : G). (s : ℕ) × (C.degree s ≡ Some n)) ns
+        → Every (IsCertCell eq C (cert_of_log ms)) (cert_of_log ns)
     made_all ms listed [] h = tt
     made_all ms listed (n ∷ ns) h = (made_cell_passes ms listed n h.0.0 h.0.1, made_all ms listed ns h.1)
 
     -- it passes, where the list has exactly the degrees of the cells
-    pub made_passes : (ms : List G) → ((s : ℕ) (m : G) → C.degree s ≡ Some m → In m ms) → Every (λ (n : G). (s : ℕ) × (C.degree s ≡ Some n)) ms → Passes eq C (cert_of_log ms)
-    made_passes ms listed real = (all_from (IsCertCell eq C (cert_of_log ms)) (cert_of_log ms) (made_all ms listed ms real), λ s m is. any_of ms m (listed s m is))
+    pub made_passes : (ms : List G) → ((s : ℕ) (m : G) → C.degree s ≡ Some m → In m ms)
+        → Every (λ (n : G). (s : ℕ) × (C.degree s ≡ Some n)) ms → Passes eq C (cert_of_log ms)
+    made_passes ms listed real = (
+      all_from (IsCertCell eq C (cert_of_log ms)) (cert_of_log ms) (made_all ms listed ms real),
+      λ s m is. any_of ms m (listed s m is),
+    )

@@ -15,7 +15,8 @@ abbrev pub pick : List Bool → List Chain → Chain
 pick ps vs = total (items_where_true ps vs)
 
 -- the first mark adds the first chain or nothing
-pub pick-cons : (b : Bool) (ps : List Bool) (v : Chain) (vs : List Chain) → pick (b ∷ ps) (v ∷ vs) ≡ cond b v nothing ⊕ pick ps vs
+pub pick-cons : (b : Bool) (ps : List Bool) (v : Chain) (vs : List Chain)
+    → pick (b ∷ ps) (v ∷ vs) ≡ cond b v nothing ⊕ pick ps vs
 pick-cons true ps v vs = refl
 pick-cons false ps v vs = sym (nothing-add _)
 
@@ -39,7 +40,8 @@ length-xor_picks zero (p ∷ ps) (q ∷ qs) lp lq = absurd (omega arith)
 length-xor_picks (suc n) (p ∷ ps) (q ∷ qs) lp lq = ap suc (length-xor_picks n ps qs (omega arith) (omega arith))
 
 -- the sum of what two lists of truth values pick is what their exclusive or picks
-pub pick-xor : (vs : List Chain) (ps qs : List Bool) → length ps ≡ length vs → length qs ≡ length vs → pick (xor_picks ps qs) vs ≡ pick ps vs ⊕ pick qs vs
+pub pick-xor : (vs : List Chain) (ps qs : List Bool) → length ps ≡ length vs → length qs ≡ length vs
+    → pick (xor_picks ps qs) vs ≡ pick ps vs ⊕ pick qs vs
 pick-xor [] [] [] lp lq = sym (add_self nothing)
 pick-xor [] [] (q ∷ qs) lp lq = absurd (omega arith)
 pick-xor [] (p ∷ ps) qs lp lq = absurd (omega arith)
@@ -52,7 +54,8 @@ pick-xor (v ∷ vs) (p ∷ ps) (q ∷ qs) lp lq =
     ∙ sym (ap₂ ◌⊕◌ (pick-cons p ps v vs) (pick-cons q qs v vs))
 
 -- lists of truth values whose exclusive or is false throughout are equal
-pub same_of_xor : {X : Type 0} (vs : List X) (ps qs : List Bool) → length ps ≡ length vs → length qs ≡ length vs → xor_picks ps qs ≡ no_picks vs → ps ≡ qs
+pub same_of_xor : {X : Type 0} (vs : List X) (ps qs : List Bool) → length ps ≡ length vs → length qs ≡ length vs
+    → xor_picks ps qs ≡ no_picks vs → ps ≡ qs
 same_of_xor [] [] [] lp lq e = refl
 same_of_xor [] [] (q ∷ qs) lp lq e = absurd (omega arith)
 same_of_xor [] (p ∷ ps) qs lp lq e = absurd (omega arith)
@@ -95,7 +98,8 @@ test-when : (r : Row) (b : Bool) (z : Chain) → r.test (cond b z nothing) ≡ (
 test-when r true z = refl
 test-when r false z = test-nothing r
 
-even_pick : (r : Row) (rs : List Row) (ps : List Bool) → Every (λ s. r.test s.vector ≡ false) rs → r.test (pick ps (vectors rs)) ≡ false
+even_pick : (r : Row) (rs : List Row) (ps : List Bool) → Every (λ s. r.test s.vector ≡ false) rs
+    → r.test (pick ps (vectors rs)) ≡ false
 even_pick r [] [] even = test-nothing r
 even_pick r [] (p ∷ ps) even = test-nothing r
 even_pick r (s ∷ rs) [] even = test-nothing r
@@ -108,7 +112,8 @@ even_pick r (s ∷ rs) (p ∷ ps) even =
     neither false = refl
 
 -- where the tests are even on what the truth values pick, nothing is marked
-pub independent_mod : (rs : List Row) → IsTriangular rs → (u : Chain) → Every (λ r. r.test u ≡ false) rs → (ps : List Bool) → length ps ≡ length rs → pick ps (vectors rs) ≡ u → ps ≡ no_picks rs
+pub independent_mod : (rs : List Row) → IsTriangular rs → (u : Chain) → Every (λ r. r.test u ≡ false) rs
+    → (ps : List Bool) → length ps ≡ length rs → pick ps (vectors rs) ≡ u → ps ≡ no_picks rs
 independent_mod [] tri u even [] l e = refl
 independent_mod [] tri u even (p ∷ ps) l e = absurd (omega arith)
 independent_mod (r ∷ rs) tri u even [] l e = absurd (omega arith)
@@ -118,7 +123,8 @@ independent_mod (r ∷ rs) tri u even (p ∷ ps) l e =
     ∙ sym (r.linear _ _) ∙ sym (ap r.test (pick-cons p ps r.vector (vectors rs))) ∙ ap r.test e ∙ even.0
     in
     ap₂ ◌∷◌ unmarked (independent_mod rs tri.2 u even.1 ps (omega arith)
-    (sym (nothing-add _) ∙ ap (λ b. cond b r.vector nothing ⊕ pick ps (vectors rs)) (sym unmarked) ∙ sym (pick-cons p ps r.vector (vectors rs)) ∙ e))
+    (sym (nothing-add _) ∙ ap (λ b. cond b r.vector nothing ⊕ pick ps (vectors rs)) (sym unmarked)
+    ∙ sym (pick-cons p ps r.vector (vectors rs)) ∙ e))
   where
     only : (b : Bool) → ((b && true) ⊻ false) ≡ b
     only true = refl
@@ -130,7 +136,8 @@ every_all P [] h = tt
 every_all P (x ∷ xs) h = (h x, every_all P xs h)
 
 -- only no picks at all pick the empty chain
-pub independent : (rs : List Row) → IsTriangular rs → (ps : List Bool) → length ps ≡ length rs → pick ps (vectors rs) ≡ nothing → ps ≡ no_picks rs
+pub independent : (rs : List Row) → IsTriangular rs → (ps : List Bool) → length ps ≡ length rs
+    → pick ps (vectors rs) ≡ nothing → ps ≡ no_picks rs
 independent rs tri ps l e = independent_mod rs tri nothing (every_all _ rs test-nothing) ps l e
 
 -- each code of z is one of cells
@@ -139,14 +146,17 @@ IsInside cells z = (s : ℕ) → holds z s ≡ true → holds cells s ≡ true
 
 -- the sum of two chains of the cells is one of the cells
 pub inside-add : (cells z w : Chain) → IsInside cells z → IsInside cells w → IsInside cells (z ⊕ w)
-inside-add cells z w a b s h = elim (xor-true (holds z s) (holds w s) (sym (holds-add z w s) ∙ h)) [ inl i ↦ a s i | inr i ↦ b s i ]
+inside-add cells z w a b s h =
+    elim (xor-true (holds z s) (holds w s) (sym (holds-add z w s) ∙ h)) [ inl i ↦ a s i | inr i ↦ b s i ]
 
 -- and so are the sums of rows
-pub inside-pick : (cells : Chain) (rs : List Row) → Every (λ r. IsInside cells r.vector) rs → (ps : List Bool) → IsInside cells (pick ps (vectors rs))
+pub inside-pick : (cells : Chain) (rs : List Row) → Every (λ r. IsInside cells r.vector) rs → (ps : List Bool)
+    → IsInside cells (pick ps (vectors rs))
 inside-pick cells [] inside [] s h = absurd (false≢true (sym (holds-nothing s) ∙ h))
 inside-pick cells [] inside (p ∷ ps) s h = absurd (false≢true (sym (holds-nothing s) ∙ h))
 inside-pick cells (r ∷ rs) inside [] s h = absurd (false≢true (sym (holds-nothing s) ∙ h))
-inside-pick cells (r ∷ rs) inside (true ∷ ps) s h = inside-add cells r.vector _ inside.0 (inside-pick cells rs inside.1 ps) s h
+inside-pick cells (r ∷ rs) inside (true ∷ ps) s h =
+    inside-add cells r.vector _ inside.0 (inside-pick cells rs inside.1 ps) s h
 inside-pick cells (r ∷ rs) inside (false ∷ ps) s h = inside-pick cells rs inside.1 ps s h
 
 kept : (c h : Bool) → (h ≡ true → c ≡ true) → (c && h) ≡ h
@@ -161,7 +171,8 @@ same_by_picks cells z inside = same_chain _ _ (λ q.
     ∙ ap (λ b. b && holds z q) (sym (holds-codes cells q))
     ∙ kept (holds cells q) (holds z q) (inside q))
 
-module _ (rs : List Row) (tri : IsTriangular rs) (cells : Chain) (count : length (codes cells) ≡ length rs) (inside : Every (λ r. IsInside cells r.vector) rs) where
+module _ (rs : List Row) (tri : IsTriangular rs) (cells : Chain) (count : length (codes cells) ≡ length rs)
+    (inside : Every (λ r. IsInside cells r.vector) rs) where
   picks_at : List Bool → List Bool
   picks_at ps = map (holds (pick ps (vectors rs))) (codes cells)
 
@@ -178,11 +189,15 @@ module _ (rs : List Row) (tri : IsTriangular rs) (cells : Chain) (count : length
 
   picks-one : (ps qs : List Bool) → length ps ≡ length rs → length qs ≡ length rs → picks_at ps ≡ picks_at qs → ps ≡ qs
   picks-one ps qs lp lq same =
-      let sums : pick ps (vectors rs) ≡ pick qs (vectors rs) = sym (chosen-picks_at ps) ∙ ap (λ ms. chosen ms (codes cells)) same ∙ chosen-picks_at qs in
+      let sums : pick ps (vectors rs) ≡ pick qs (vectors rs) =
+      sym (chosen-picks_at ps) ∙ ap (λ ms. chosen ms (codes cells)) same ∙ chosen-picks_at qs in
       same_of_xor rs ps qs lp lq (independent rs tri (xor_picks ps qs) (length-xor_picks (length rs) ps qs lp lq)
-      (pick-xor (vectors rs) ps qs (to_vectors ps lp) (to_vectors qs lq) ∙ ap (λ c. c ⊕ pick qs (vectors rs)) sums ∙ add_self _))
+      (pick-xor (vectors rs) ps qs (to_vectors ps lp) (to_vectors qs lq) ∙ ap (λ c. c ⊕ pick qs (vectors rs)) sums
+      ∙ add_self _))
 
   pub spans : (z : Chain) → IsInside cells z → (ps : List Bool) × (length ps ≡ length rs) × (pick ps (vectors rs) ≡ z)
   spans z in_cells =
-      let (ps, l, e) = bits_onto (length rs) picks_at picks-length picks-one (map (holds z) (codes cells)) (length-map (codes cells) (holds z) ∙ count) in
+      let (ps, l, e) =
+      bits_onto (length rs) picks_at picks-length picks-one (map (holds z) (codes cells))
+      (length-map (codes cells) (holds z) ∙ count) in
       (ps, l, sym (chosen-picks_at ps) ∙ ap (λ ms. chosen ms (codes cells)) e ∙ same_by_picks cells z in_cells)

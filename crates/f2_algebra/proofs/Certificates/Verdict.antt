@@ -13,20 +13,27 @@ use Rattle.f2_algebra.proofs.Ranks.Existence.{IsWithin, some_code, reduce}
 
 -- ---- no two verdicts
 -- a cochain that pairs evenly with the border of each code pairs evenly with each border
-pub even_with_borders : {G : Type 0} (C : Complex G) (f : Chain) → ((s : ℕ) → pairs_oddly (C.targets s) f ≡ false) → (w : Chain) → pairs_oddly (border C w) f ≡ false
-even_with_borders C f even w = pairs_oddly-weight (border C w) f ∙ weight-sum_over (holds f) w C.targets ∙ weight-same _ (λ s. false) w (λ s _. sym (pairs_oddly-weight (C.targets s) f) ∙ even s) ∙ weight-none w
+pub even_with_borders : {G : Type 0} (C : Complex G) (f : Chain) → ((s : ℕ) → pairs_oddly (C.targets s) f ≡ false)
+    → (w : Chain) → pairs_oddly (border C w) f ≡ false
+even_with_borders C f even w = pairs_oddly-weight (border C w) f ∙ weight-sum_over (holds f) w C.targets
+    ∙ weight-same _ (λ s. false) w (λ s _. sym (pairs_oddly-weight (C.targets s) f) ∙ even s) ∙ weight-none w
 
 -- a border is a cycle
-pub not_cycle-null : {G : Type 0} (C : Complex G) → IsComplex C → (z : Chain) (s : ℕ) (b : Chain) → IsNotCycleBy C z s → IsNullBy C z b → ⊥
-not_cycle-null C laws z s b a n = false≢true (sym (holds-nothing s) ∙ ap (λ c. holds c s) (sym (ap (border C) (sym n.0) ∙ border-border C laws b)) ∙ a.0)
+pub not_cycle-null : {G : Type 0} (C : Complex G) → IsComplex C → (z : Chain) (s : ℕ) (b : Chain) → IsNotCycleBy C z s
+    → IsNullBy C z b → ⊥
+not_cycle-null C laws z s b a n =
+    false≢true (sym (holds-nothing s) ∙ ap (λ c. holds c s) (sym (ap (border C) (sym n.0) ∙ border-border C laws b))
+    ∙ a.0)
 
 -- a chain that is alive is a cycle
-pub not_cycle-alive : {G : Type 0} (C : Complex G) (z : Chain) (s : ℕ) (f : Chain) → IsNotCycleBy C z s → IsAliveBy C z f → ⊥
+pub not_cycle-alive : {G : Type 0} (C : Complex G) (z : Chain) (s : ℕ) (f : Chain) → IsNotCycleBy C z s
+    → IsAliveBy C z f → ⊥
 not_cycle-alive C z s f a alive = false≢true (sym (holds-nothing s) ∙ ap (λ c. holds c s) (sym alive.cycle) ∙ a.0)
 
 -- a border is not alive
 pub null-alive : {G : Type 0} (C : Complex G) (z b f : Chain) → IsNullBy C z b → IsAliveBy C z f → ⊥
-null-alive C z b f n alive = false≢true (sym (even_with_borders C f alive.cocycle b) ∙ ap (λ c. pairs_oddly c f) n.0 ∙ alive.odd)
+null-alive C z b f n alive =
+    false≢true (sym (even_with_borders C f alive.cocycle b) ∙ ap (λ c. pairs_oddly c f) n.0 ∙ alive.odd)
 
 -- ---- one verdict
 abbrev IsLeast : Chain → ℕ → Type 0
@@ -44,12 +51,24 @@ le_either s t x true m e l h i = let same = eqb-true t x e in omega arith
 le_either s t x false m e l h i = h i
 
 least_of : (x : ℕ) (xs : List ℕ) → (s : ℕ) × IsLeastOf (x ∷ xs) s
-least_of x [] = (x, (ap (λ b. b || false) (eq-eqb x x refl), λ t i. le_either x t x (eqb t x) false refl (omega arith) (λ f. absurd (false≢true f)) i))
+least_of x [] = (
+  x,
+  (
+    ap (λ b. b || false) (eq-eqb x x refl),
+    λ t i. le_either x t x (eqb t x) false refl (omega arith) (λ f. absurd (false≢true f)) i,
+  ),
+)
 least_of x (y ∷ ys) =
     let (s, (in_ys, low)) = least_of y ys in
     elim (cases_lt s x) [
       | inl l ↦ (s, (in_tail (eqb s x) in_ys, λ t i. le_either s t x (eqb t x) _ refl (omega arith) (low t) i))
-      | inr l ↦ (x, (ap (λ b. b || any x (y ∷ ys)) (eq-eqb x x refl), λ t i. le_either x t x (eqb t x) _ refl (omega arith) (λ j. let k = low t j in omega arith) i))
+      | inr l ↦ (
+        x,
+        (
+          ap (λ b. b || any x (y ∷ ys)) (eq-eqb x x refl),
+          λ t i. le_either x t x (eqb t x) _ refl (omega arith) (λ j. let k = low t j in omega arith) i,
+        ),
+      )
     ]
 
 least : (z : Chain) → ((s : ℕ) × IsLeast z s) ⊎ (z ≡ nothing)
@@ -66,11 +85,14 @@ pub value_of : {G : Type 0} (d : Option G) → is_some d ≡ true → (m : G) ×
 value_of None h = absurd (false≢true h)
 value_of (Some m) h = (m, refl)
 
-module _ {G : Type 0} (C : Complex G) (laws : IsComplex C) (log : List Entry) (stands : IsLog C log) (bare : (s : ℕ) → (after C log).targets s ≡ nothing) (z : Chain) (cycle : border C z ≡ nothing) where
+module _ {G : Type 0} (C : Complex G) (laws : IsComplex C) (log : List Entry) (stands : IsLog C log)
+    (bare : (s : ℕ) → (after C log).targets s ≡ nothing) (z : Chain) (cycle : border C z ≡ nothing) where
   -- a cycle of which nothing is left is the border of its correction
   pub null_by_correction : rest log z ≡ nothing → IsNullBy C z (correction_by log z)
   null_by_correction none = (
-    sym (cycle_law C laws log stands z cycle ∙ ap (λ u. u ⊕ border C (correction_by log z)) (ap (lift log) none ∙ linear-nothing (lift log) (lift-linear log)) ∙ nothing-add _),
+    sym (cycle_law C laws log stands z cycle
+        ∙ ap (λ u. u ⊕ border C (correction_by log z))
+        (ap (lift log) none ∙ linear-nothing (lift log) (lift-linear log)) ∙ nothing-add _),
     correction_degrees C laws log stands z,
   )
 
@@ -83,14 +105,20 @@ module _ {G : Type 0} (C : Complex G) (laws : IsComplex C) (log : List Entry) (s
         cycle = cycle;
         cocycle = λ u.
             pairs-pull_single log s (C.targets u)
-            ∙ ap (λ c. holds c s) (ap (rest log) (sym (border-single C u)) ∙ rest_border C laws log stands (single u) ∙ border-no_arrow (after C log) bare _)
+            ∙ ap (λ c. holds c s) (ap (rest log) (sym (border-single C u)) ∙ rest_border C laws log stands (single u)
+            ∙ border-no_arrow (after C log) bare _)
             ∙ holds-nothing s;
         odd = pairs-pull_single log s z ∙ h;
-        degree = (m, (λ u i. pull_degrees C laws log stands s (pull log (single s)) (pull_IsPull log s) u i ∙ sym same ∙ is), (t, in_z, is));
+        degree = (
+          m,
+          (λ u i. pull_degrees C laws log stands s (pull log (single s)) (pull_IsPull log s) u i ∙ sym same ∙ is),
+          (t, in_z, is),
+        );
       }
 
 -- each chain of cells of a finite complex has a verdict
-pub exists_verdict : {G : Type 0} (C : Complex G) → IsComplex C → (xs : List ℕ) → IsWithin C xs → (z : Chain) → AllCells C z
+pub exists_verdict : {G : Type 0} (C : Complex G) → IsComplex C → (xs : List ℕ) → IsWithin C xs → (z : Chain)
+    → AllCells C z
     → ((s : ℕ) × IsNotCycleBy C z s) ⊎ (((b : Chain) × IsNullBy C z b) ⊎ ((f : Chain) × IsAliveBy C z f))
 exists_verdict C laws xs in_xs z cells = elim (least (border C z)) [
   | inl a ↦ inl a

@@ -24,7 +24,8 @@ Each-all P (x ∷ xs) h = (h x, Each-all P xs h)
 -- ---- over a list
 module _ {A : Type 0} where
   -- tests that agree where P holds have one parity on a list of such elements
-  pub parity-same_on : (P : A → Type 0) (f g : A → Bool) (xs : List A) → Each P xs → ((x : A) → P x → f x ≡ g x) → parity f xs ≡ parity g xs
+  pub parity-same_on : (P : A → Type 0) (f g : A → Bool) (xs : List A) → Each P xs → ((x : A) → P x → f x ≡ g x)
+      → parity f xs ≡ parity g xs
   parity-same_on P f g [] e h = refl
   parity-same_on P f g (x ∷ xs) e h = ap₂ (λ a b. a ⊻ b) (h x e.0) (parity-same_on P f g xs e.1 h)
 
@@ -41,7 +42,8 @@ module _ {A : Type 0} where
   -- the parity of an exclusive or is the exclusive or of the parities
   pub parity-xor : (f g : A → Bool) (xs : List A) → parity (λ x. f x ⊻ g x) xs ≡ parity f xs ⊻ parity g xs
   parity-xor f g [] = refl
-  parity-xor f g (x ∷ xs) = ap (λ b. (f x ⊻ g x) ⊻ b) (parity-xor f g xs) ∙ xor_middle (f x) (g x) (parity f xs) (parity g xs)
+  parity-xor f g (x ∷ xs) =
+      ap (λ b. (f x ⊻ g x) ⊻ b) (parity-xor f g xs) ∙ xor_middle (f x) (g x) (parity f xs) (parity g xs)
 
   -- a condition that is free of the element comes out of the sum
   pub parity-and : (b : Bool) (f : A → Bool) (xs : List A) → parity (λ x. b && f x) xs ≡ (b && parity f xs)
@@ -51,7 +53,8 @@ module _ {A : Type 0} where
   -- the parity over two lists together is the exclusive or of the parities
   pub parity-append : (f : A → Bool) (xs ys : List A) → parity f (xs ++ ys) ≡ parity f xs ⊻ parity f ys
   parity-append f [] ys = refl
-  parity-append f (x ∷ xs) ys = ap (λ b. f x ⊻ b) (parity-append f xs ys) ∙ sym (xor_assoc (f x) (parity f xs) (parity f ys))
+  parity-append f (x ∷ xs) ys =
+      ap (λ b. f x ⊻ b) (parity-append f xs ys) ∙ sym (xor_assoc (f x) (parity f xs) (parity f ys))
 
   odd-cond : (a : Bool) (x : A) (xs : List A) → is_odd (length (cond a (x ∷ xs) xs)) ≡ a ⊻ is_odd (length xs)
   odd-cond true x xs = refl
@@ -72,28 +75,34 @@ module _ {A : Type 0} where
       by false = refl
 
 -- the parity over images
-pub parity-map : {A B : Type 0} (p : B → Bool) (f : A → B) (xs : List A) → parity p (map f xs) ≡ parity (λ x. p (f x)) xs
+pub parity-map : {A B : Type 0} (p : B → Bool) (f : A → B) (xs : List A)
+    → parity p (map f xs) ≡ parity (λ x. p (f x)) xs
 parity-map p f [] = refl
 parity-map p f (x ∷ xs) = ap (λ b. p (f x) ⊻ b) (parity-map p f xs)
 
 -- the parity over lists end to end is a sum of parities
-pub parity-flat_map : {A B : Type 0} (p : B → Bool) (f : A → List B) (xs : List A) → parity p (flat_map f xs) ≡ parity (λ x. parity p (f x)) xs
+pub parity-flat_map : {A B : Type 0} (p : B → Bool) (f : A → List B) (xs : List A)
+    → parity p (flat_map f xs) ≡ parity (λ x. parity p (f x)) xs
 parity-flat_map p f [] = refl
-parity-flat_map p f (x ∷ xs) = parity-append p (f x) (flat_map f xs) ∙ ap (λ b. parity p (f x) ⊻ b) (parity-flat_map p f xs)
+parity-flat_map p f (x ∷ xs) =
+    parity-append p (f x) (flat_map f xs) ∙ ap (λ b. parity p (f x) ⊻ b) (parity-flat_map p f xs)
 
 -- two sums change order
 pub parity_swap : {A B : Type 0} (f : A → B → Bool) (xs : List A) (ys : List B)
     → parity (λ x. parity (f x) ys) xs ≡ parity (λ y. parity (λ x. f x y) xs) ys
 parity_swap f [] ys = sym (parity-false ys)
-parity_swap f (x ∷ xs) ys = ap (λ b. parity (f x) ys ⊻ b) (parity_swap f xs ys) ∙ sym (parity-xor (f x) (λ y. parity (λ x. f x y) xs) ys)
+parity_swap f (x ∷ xs) ys =
+    ap (λ b. parity (f x) ys ⊻ b) (parity_swap f xs ys) ∙ sym (parity-xor (f x) (λ y. parity (λ x. f x y) xs) ys)
 
 -- off the diagonal a symmetric double sum cancels
-pub parity_symmetric : {A : Type 0} (P : A → Type 0) (f : A → A → Bool) (xs : List A) → Each P xs → ((x y : A) → P x → P y → f x y ≡ f y x)
+pub parity_symmetric : {A : Type 0} (P : A → Type 0) (f : A → A → Bool) (xs : List A) → Each P xs
+    → ((x y : A) → P x → P y → f x y ≡ f y x)
     → parity (λ x. parity (f x) xs) xs ≡ parity (λ x. f x x) xs
 parity_symmetric P f [] e h = refl
 parity_symmetric P f (x ∷ xs) e h =
     ap (λ b. (f x x ⊻ parity (f x) xs) ⊻ b) (parity-xor (λ y. f y x) (λ y. parity (f y) xs) xs)
-    ∙ ap₂ (λ a b. (f x x ⊻ parity (f x) xs) ⊻ (a ⊻ b)) (parity-same_on P (λ y. f y x) (f x) xs e.1 (λ y k. h y x k e.0)) (parity_symmetric P f xs e.1 h)
+    ∙ ap₂ (λ a b. (f x x ⊻ parity (f x) xs) ⊻ (a ⊻ b)) (parity-same_on P (λ y. f y x) (f x) xs e.1 (λ y k. h y x k e.0))
+    (parity_symmetric P f xs e.1 h)
     ∙ same 3 (λ a b c. (a ⊻ b) ⊻ (b ⊻ c)) (λ a b c. a ⊻ c) refl (f x x) (parity (f x) xs) (parity (λ x. f x x) xs)
 
 -- ---- over the numbers below n
@@ -129,12 +138,14 @@ parity_below-first (suc n) f =
 -- a sum whose one term is at n or above
 pub parity_below-past : (n a : ℕ) (f : ℕ → Bool) → n < a + 1 → parity_below n (λ t. eqb t a && f t) ≡ false
 parity_below-past zero a f h = refl
-parity_below-past (suc n) a f h = ap₂ (λ p q. (p && f n) ⊻ q) (ne_eqb n a (omega arith)) (parity_below-past n a f (omega arith))
+parity_below-past (suc n) a f h =
+    ap₂ (λ p q. (p && f n) ⊻ q) (ne_eqb n a (omega arith)) (parity_below-past n a f (omega arith))
 
 -- a sum with one term
 pub parity_below-one : (n a : ℕ) (f : ℕ → Bool) → a < n → parity_below n (λ t. eqb t a && f t) ≡ f a
 parity_below-one zero a f h = absurd (omega arith)
 parity_below-one (suc n) a f h = elim (cases_eq n a) [
-  | inl e ↦ ap₂ (λ p q. (p && f n) ⊻ q) (eq-eqb n a e) (parity_below-past n a f (omega arith)) ∙ xor-false (f n) ∙ ap f e
+  | inl e ↦
+      ap₂ (λ p q. (p && f n) ⊻ q) (eq-eqb n a e) (parity_below-past n a f (omega arith)) ∙ xor-false (f n) ∙ ap f e
   | inr p ↦ ap₂ (λ p q. (p && f n) ⊻ q) (ne_eqb n a p) (parity_below-one n a f (omega arith))
 ]

@@ -60,7 +60,8 @@ holds-codes z q = fin.contains_key-keys z q ∙ any-is q _
 -- the chain of a list holds the elements of the list
 pub holds-of_codes : (xs : List ℕ) (q : ℕ) → holds (of_codes xs) q ≡ any q xs
 unfolding holds of_codes
-holds-of_codes xs q = ap is_some (fin.get-from_entries nat_cmp_total (map (λ s. (s, tt)) xs) q) ∙ is_some-find nat_cmp q (map (λ s. (s, tt)) xs) ∙ ap (list_any (eq_by_cmp nat_cmp q)) (keys-units xs) ∙ any-is q xs
+holds-of_codes xs q = ap is_some (fin.get-from_entries nat_cmp_total (map (λ s. (s, tt)) xs) q)
+    ∙ is_some-find nat_cmp q (map (λ s. (s, tt)) xs) ∙ ap (list_any (eq_by_cmp nat_cmp q)) (keys-units xs) ∙ any-is q xs
 
 same_mark : (x y : Option (Unit {0})) → is_some x ≡ is_some y → x ≡ y
 same_mark None None e = refl
@@ -90,7 +91,8 @@ pub holds-add : (z w : Chain) (q : ℕ) → holds (z ⊕ w) q ≡ (holds z q ⊻
 unfolding ◌⊕◌
 holds-add z w q =
     holds-of_codes _ q ∙ any-append q _ _
-    ∙ ap₂ ◌||◌ (any-filter q _ (codes z) ∙ ap (λ b. b && not (holds w q)) (sym (holds-codes z q))) (any-filter q _ (codes w) ∙ ap (λ b. b && not (holds z q)) (sym (holds-codes w q)))
+    ∙ ap₂ ◌||◌ (any-filter q _ (codes z) ∙ ap (λ b. b && not (holds w q)) (sym (holds-codes z q)))
+    (any-filter q _ (codes w) ∙ ap (λ b. b && not (holds z q)) (sym (holds-codes w q)))
     ∙ xor_or _ _
 
 -- a part by a test holds the codes that pass it
@@ -142,17 +144,20 @@ or-right : (a : Bool) {b : Bool} → b ≡ true → (a || b) ≡ true
 or-right true e = refl
 or-right false e = e
 
-parity-parity_below : (p : ℕ → Bool) (xs : List ℕ) (n : ℕ) → IsApart xs → ((s : ℕ) → any s xs ≡ true → s < n) → parity p xs ≡ parity_below n (λ k. any k xs && p k)
+parity-parity_below : (p : ℕ → Bool) (xs : List ℕ) (n : ℕ) → IsApart xs → ((s : ℕ) → any s xs ≡ true → s < n)
+    → parity p xs ≡ parity_below n (λ k. any k xs && p k)
 parity-parity_below p [] n d l = sym (parity-false (below n))
 parity-parity_below p (x ∷ xs) n d l =
-    ap₂ ◌⊻◌ (sym (parity_below-one n x p (l x (ap (λ b. b || any x xs) (eq-eqb x x refl))))) (parity-parity_below p xs n d.1 (λ s a. l s (or-right (eqb s x) a)))
+    ap₂ ◌⊻◌ (sym (parity_below-one n x p (l x (ap (λ b. b || any x xs) (eq-eqb x x refl)))))
+    (parity-parity_below p xs n d.1 (λ s a. l s (or-right (eqb s x) a)))
     ∙ sym (parity-xor _ _ (below n))
     ∙ parity_below-same n _ _ (λ k _. sym (or-apart (eqb k x) (any k xs) (p k) (any-moved k x xs d.0)))
 
 -- tests that agree on a list have one parity there
 pub parity-same : (p r : ℕ → Bool) (xs : List ℕ) → ((s : ℕ) → any s xs ≡ true → p s ≡ r s) → parity p xs ≡ parity r xs
 parity-same p r [] e = refl
-parity-same p r (x ∷ xs) e = ap₂ ◌⊻◌ (e x (ap (λ b. b || any x xs) (eq-eqb x x refl))) (parity-same p r xs (λ s a. e s (or-right (eqb s x) a)))
+parity-same p r (x ∷ xs) e =
+    ap₂ ◌⊻◌ (e x (ap (λ b. b || any x xs) (eq-eqb x x refl))) (parity-same p r xs (λ s a. e s (or-right (eqb s x) a)))
 
 -- ---- a number above each code of a list
 above : List ℕ → ℕ
@@ -172,7 +177,8 @@ above-lt (x ∷ xs) s a = above-by s x (above xs) (eqb s x) (any s xs) refl (abo
 pub weight : (ℕ → Bool) → Chain → Bool
 weight p z = parity p (codes z)
 
-weight-parity_below : (p : ℕ → Bool) (z : Chain) (n : ℕ) → ((s : ℕ) → holds z s ≡ true → s < n) → weight p z ≡ parity_below n (λ k. holds z k && p k)
+weight-parity_below : (p : ℕ → Bool) (z : Chain) (n : ℕ) → ((s : ℕ) → holds z s ≡ true → s < n)
+    → weight p z ≡ parity_below n (λ k. holds z k && p k)
 unfolding weight
 weight-parity_below p z n l =
     parity-parity_below p (codes z) n (IsApart-codes z) (λ s a. l s (holds-codes z s ∙ a))
@@ -192,7 +198,11 @@ weight-add p z w =
     let n = above (codes z) + above (codes w) in
     let in_z : (s : ℕ) → holds z s ≡ true → s < n = λ s h. let k = bound z s h in omega arith in
     let in_w : (s : ℕ) → holds w s ≡ true → s < n = λ s h. let k = bound w s h in omega arith in
-    weight-parity_below p (z ⊕ w) n (λ s h. elim (xor-true (holds z s) (holds w s) (sym (holds-add z w s) ∙ h)) [ inl a ↦ in_z s a | inr a ↦ in_w s a ])
+    weight-parity_below p (z ⊕ w) n
+    (λ s h. elim (xor-true (holds z s) (holds w s) (sym (holds-add z w s) ∙ h)) [
+      | inl a ↦ in_z s a
+      | inr a ↦ in_w s a
+    ])
     ∙ parity_below-same n _ _ (λ k _. ap (λ b. b && p k) (holds-add z w k) ∙ xor-and (holds z k) (holds w k) (p k))
     ∙ parity-xor _ _ (below n)
     ∙ sym (ap₂ ◌⊻◌ (weight-parity_below p z n in_z) (weight-parity_below p w n in_w))
@@ -250,7 +260,9 @@ parity-some : (p : ℕ → Bool) (xs : List ℕ) → parity p xs ≡ true → (s
 parity-some p [] h = absurd (false≢true h)
 parity-some p (x ∷ xs) h = at_test (p x) refl h (parity-some p xs)
   where
-    at_test : (b : Bool) → p x ≡ b → (b ⊻ parity p xs) ≡ true → (parity p xs ≡ true → (s : ℕ) × (any s xs ≡ true) × (p s ≡ true)) → (s : ℕ) × (any s (x ∷ xs) ≡ true) × (p s ≡ true)
+    at_test : (b : Bool) → p x ≡ b → (b ⊻ parity p xs) ≡ true
+        → (parity p xs ≡ true → (s : ℕ) × (any s xs ≡ true) × (p s ≡ true))
+        → (s : ℕ) × (any s (x ∷ xs) ≡ true) × (p s ≡ true)
     at_test true e h rest = (x, ap (λ b. b || any x xs) (eq-eqb x x refl), e)
     at_test false e h rest = let r = rest h in (r.0, or-right (eqb r.0 x) r.1, r.2)
 
@@ -276,7 +288,8 @@ and-true false b h = h
 pub weight-where : (p r : ℕ → Bool) (z : Chain) → weight r (where_code p z) ≡ weight (λ s. p s && r s) z
 weight-where p r z =
     let n = above (codes z) in
-    weight-parity_below r (where_code p z) n (λ s h. bound z s (and-true (holds z s) (p s) (sym (holds-where_code p z s) ∙ h)))
+    weight-parity_below r (where_code p z) n
+    (λ s h. bound z s (and-true (holds z s) (p s) (sym (holds-where_code p z s) ∙ h)))
     ∙ parity_below-same n _ _ (λ k _. ap (λ b. b && r k) (holds-where_code p z k) ∙ and_assoc (holds z k) (p k) (r k))
     ∙ sym (weight-parity_below (λ s. p s && r s) z n (λ s h. bound z s h))
 
@@ -302,7 +315,8 @@ tally-more (suc n) x g h l = elim (cases_eq x n) [
   | inl e ↦
       let new : g n ≡ false = ap g (sym e) ∙ h in
       let mid : 1 + tally n g ≡ suc (0 + tally n g) = omega arith in
-      ap₂ (λ a b. cond (a || g n) 1 0 + b) (eq-eqb n x (sym e)) (tally-same n _ g (λ k m. ap (λ a. a || g k) (ne_eqb k x (λ s. omega arith))))
+      ap₂ (λ a b. cond (a || g n) 1 0 + b) (eq-eqb n x (sym e))
+      (tally-same n _ g (λ k m. ap (λ a. a || g k) (ne_eqb k x (λ s. omega arith))))
       ∙ mid ∙ ap (λ a. suc (cond a 1 0 + tally n g)) (sym new)
   | inr d ↦
       let rest = tally-more n x g h (omega arith) in
@@ -310,7 +324,8 @@ tally-more (suc n) x g h l = elim (cases_eq x n) [
       ap₂ (λ a b. cond (a || g n) 1 0 + b) old rest ∙ omega arith
 ]
 
-length-tally : (xs : List ℕ) (n : ℕ) → IsApart xs → ((s : ℕ) → any s xs ≡ true → s < n) → length xs ≡ tally n (λ k. any k xs)
+length-tally : (xs : List ℕ) (n : ℕ) → IsApart xs → ((s : ℕ) → any s xs ≡ true → s < n)
+    → length xs ≡ tally n (λ k. any k xs)
 length-tally [] n d l = sym (tally-none n)
 length-tally (x ∷ xs) n d l =
     ap suc (length-tally xs n d.1 (λ s a. l s (or-right (eqb s x) a)))
@@ -327,7 +342,8 @@ cardinality-length z = refl
 
 cardinality-tally : (z : Chain) (n : ℕ) → ((s : ℕ) → holds z s ≡ true → s < n) → cardinality z ≡ tally n (holds z)
 unfolding cardinality
-cardinality-tally z n l = length-tally (codes z) n (IsApart-codes z) (λ s a. l s (holds-codes z s ∙ a)) ∙ tally-same n _ _ (λ k _. sym (holds-codes z k))
+cardinality-tally z n l = length-tally (codes z) n (IsApart-codes z) (λ s a. l s (holds-codes z s ∙ a))
+    ∙ tally-same n _ _ (λ k _. sym (holds-codes z k))
 
 -- the set of a list of distinct codes has as many codes as the list
 pub cardinality-of_codes : (xs : List ℕ) → IsApart xs → cardinality (of_codes xs) ≡ length xs
@@ -348,7 +364,8 @@ kept_all false e f = refl
 kept_all true false f = refl
 
 -- without the code s there is one code less, if it was there
-pub cardinality-without : (z : Chain) (s : ℕ) → cardinality z ≡ cardinality (where_code (λ t. not (eqb t s)) z) + cond (holds z s) 1 0
+pub cardinality-without : (z : Chain) (s : ℕ)
+    → cardinality z ≡ cardinality (where_code (λ t. not (eqb t s)) z) + cond (holds z s) 1 0
 cardinality-without z s = by_test (holds z s) refl
   where
     by_test : (b : Bool) → holds z s ≡ b → cardinality z ≡ cardinality (where_code (λ t. not (eqb t s)) z) + cond b 1 0
@@ -358,13 +375,19 @@ cardinality-without z s = by_test (holds z s) refl
         let in_w : (t : ℕ) → holds w t ≡ (holds z t && not (eqb t s)) = λ t. holds-where_code _ z t in
         let up : cardinality z ≡ suc (cardinality w) =
         cardinality-tally z n (bound z)
-        ∙ tally-same n (holds z) (λ k. eqb k s || holds w k) (λ k _. sym (ap (λ b. eqb k s || b) (in_w k) ∙ back_in (holds z k) (eqb k s) (λ e. ap (holds z) (eqb-true k s e) ∙ h)))
-        ∙ tally-more n s (holds w) (in_w s ∙ ap (λ b. holds z s && not b) (eq-eqb s s refl) ∙ and-false (holds z s)) (bound z s h)
-        ∙ ap suc (sym (cardinality-tally w n (λ t i. bound z t (and-true (holds z t) (not (eqb t s)) (sym (in_w t) ∙ i)))))
+        ∙ tally-same n (holds z) (λ k. eqb k s || holds w k)
+        (λ k _. sym (ap (λ b. eqb k s || b) (in_w k) ∙ back_in (holds z k) (eqb k s)
+        (λ e. ap (holds z) (eqb-true k s e) ∙ h)))
+        ∙ tally-more n s (holds w) (in_w s ∙ ap (λ b. holds z s && not b) (eq-eqb s s refl) ∙ and-false (holds z s))
+        (bound z s h)
+        ∙ ap suc (sym (cardinality-tally w n (λ t i. bound z t
+        (and-true (holds z t) (not (eqb t s)) (sym (in_w t) ∙ i)))))
         in
         omega arith
     by_test false h =
-        ap cardinality (same_chain z (where_code (λ t. not (eqb t s)) z) (λ q. sym (holds-where_code _ z q ∙ kept_all (holds z q) (eqb q s) (λ e. ap (holds z) (eqb-true q s e) ∙ h))))
+        ap cardinality (same_chain z (where_code (λ t. not (eqb t s)) z)
+        (λ q. sym (holds-where_code _ z q ∙ kept_all (holds z q) (eqb q s)
+        (λ e. ap (holds z) (eqb-true q s e) ∙ h))))
         ∙ omega arith
 
 -- ---- the pairing
@@ -389,7 +412,8 @@ weight-of_codes p xs apart =
 
 -- with the set of a list of distinct codes a chain pairs as the parity of those of the list that it holds
 pub pairs_oddly-list : (z : Chain) (xs : List ℕ) → IsApart xs → pairs_oddly z (of_codes xs) ≡ parity (holds z) xs
-pairs_oddly-list z xs apart = pairs_oddly-comm z (of_codes xs) ∙ pairs_oddly-weight (of_codes xs) z ∙ weight-of_codes (holds z) xs apart
+pairs_oddly-list z xs apart =
+    pairs_oddly-comm z (of_codes xs) ∙ pairs_oddly-weight (of_codes xs) z ∙ weight-of_codes (holds z) xs apart
 
 -- one more element at the end
 pub parity-push : (p : ℕ → Bool) (xs : List ℕ) (x : ℕ) → parity p (xs ++ x ∷ []) ≡ (parity p xs ⊻ p x)

@@ -23,7 +23,8 @@ add_self z = same_chain _ _ (λ q. holds-add z z q ∙ xor_self (holds z q) ∙ 
 
 -- the empty chain adds nothing
 pub add-nothing : (z : Chain) → z ⊕ nothing ≡ z
-add-nothing z = same_chain _ _ (λ q. holds-add z nothing q ∙ ap (λ b. holds z q ⊻ b) (holds-nothing q) ∙ xor-false (holds z q))
+add-nothing z =
+    same_chain _ _ (λ q. holds-add z nothing q ∙ ap (λ b. holds z q ⊻ b) (holds-nothing q) ∙ xor-false (holds z q))
 
 -- nor from the left
 pub nothing-add : (z : Chain) → nothing ⊕ z ≡ z
@@ -31,7 +32,9 @@ nothing-add z = add_comm nothing z ∙ add-nothing z
 
 -- the middle two of four change places
 pub add_swap : (z w u v : Chain) → (z ⊕ w) ⊕ (u ⊕ v) ≡ (z ⊕ u) ⊕ (w ⊕ v)
-add_swap z w u v = add_assoc z w (u ⊕ v) ∙ ap (λ c. z ⊕ c) (sym (add_assoc w u v) ∙ ap (λ c. c ⊕ v) (add_comm w u) ∙ add_assoc u w v) ∙ sym (add_assoc z u (w ⊕ v))
+add_swap z w u v = add_assoc z w (u ⊕ v)
+    ∙ ap (λ c. z ⊕ c) (sym (add_assoc w u v) ∙ ap (λ c. c ⊕ v) (add_comm w u) ∙ add_assoc u w v)
+    ∙ sym (add_assoc z u (w ⊕ v))
 
 -- z ⊕ (z ⊕ w) is w
 pub add_back : (z w : Chain) → z ⊕ (z ⊕ w) ≡ w
@@ -73,7 +76,8 @@ pub linear-nothing : (f : Chain → Chain) → IsLinear f → f nothing ≡ noth
 linear-nothing f l = ap f (sym (add_self nothing)) ∙ l nothing nothing ∙ add_self (f nothing)
 
 -- a linear map of a chain taken once or not at all
-pub linear-when : (f : Chain → Chain) → IsLinear f → (b : Bool) (z : Chain) → f (cond b z nothing) ≡ cond b (f z) nothing
+pub linear-when : (f : Chain → Chain) → IsLinear f → (b : Bool) (z : Chain)
+    → f (cond b z nothing) ≡ cond b (f z) nothing
 linear-when f l true z = refl
 linear-when f l false z = linear-nothing f l
 
@@ -82,18 +86,21 @@ linear-total f l [] = linear-nothing f l
 linear-total f l (z ∷ zs) = l z (total zs) ∙ ap (λ c. f z ⊕ c) (linear-total f l zs)
 
 -- ---- sums over the codes of a chain
-weight-total : (p : ℕ → Bool) (f : ℕ → Chain) (xs : List ℕ) → weight p (total (map f xs)) ≡ parity (λ s. weight p (f s)) xs
+weight-total : (p : ℕ → Bool) (f : ℕ → Chain) (xs : List ℕ)
+    → weight p (total (map f xs)) ≡ parity (λ s. weight p (f s)) xs
 weight-total p f [] = weight-nothing p
 weight-total p f (x ∷ xs) = weight-add p (f x) (total (map f xs)) ∙ ap (λ b. weight p (f x) ⊻ b) (weight-total p f xs)
 
 -- the weight of a sum is the weight of the weights
-pub weight-sum_over : (p : ℕ → Bool) (z : Chain) (f : ℕ → Chain) → weight p (sum_over z f) ≡ weight (λ s. weight p (f s)) z
+pub weight-sum_over : (p : ℕ → Bool) (z : Chain) (f : ℕ → Chain)
+    → weight p (sum_over z f) ≡ weight (λ s. weight p (f s)) z
 unfolding sum_over
 weight-sum_over p z f = weight-total p f (codes z) ∙ sym (weight-list _ z)
 
 -- a sum holds q where an odd number of its terms do
 pub holds-sum_over : (z : Chain) (f : ℕ → Chain) (q : ℕ) → holds (sum_over z f) q ≡ weight (λ s. holds (f s) q) z
-holds-sum_over z f q = sym (weight-at (sum_over z f) q) ∙ weight-sum_over (λ s. eqb q s) z f ∙ weight-same _ _ z (λ s _. weight-at (f s) q)
+holds-sum_over z f q =
+    sym (weight-at (sum_over z f) q) ∙ weight-sum_over (λ s. eqb q s) z f ∙ weight-same _ _ z (λ s _. weight-at (f s) q)
 
 -- the sum over a sum of chains
 pub sum_over-add : (z w : Chain) (f : ℕ → Chain) → sum_over (z ⊕ w) f ≡ sum_over z f ⊕ sum_over w f
@@ -106,20 +113,26 @@ pub sum_over-single : (s : ℕ) (f : ℕ → Chain) → sum_over (single s) f �
 sum_over-single s f = same_chain _ _ (λ q. holds-sum_over (single s) f q ∙ weight-single _ s)
 
 -- terms that agree on a chain have one sum over it
-pub sum_over-same : (z : Chain) (f g : ℕ → Chain) → ((s : ℕ) → holds z s ≡ true → f s ≡ g s) → sum_over z f ≡ sum_over z g
-sum_over-same z f g e = same_chain _ _ (λ q. holds-sum_over z f q ∙ weight-same _ _ z (λ s h. ap (λ c. holds c q) (e s h)) ∙ sym (holds-sum_over z g q))
+pub sum_over-same : (z : Chain) (f g : ℕ → Chain) → ((s : ℕ) → holds z s ≡ true → f s ≡ g s)
+    → sum_over z f ≡ sum_over z g
+sum_over-same z f g e =
+    same_chain _ _ (λ q. holds-sum_over z f q ∙ weight-same _ _ z (λ s h. ap (λ c. holds c q) (e s h))
+    ∙ sym (holds-sum_over z g q))
 
 -- a chain is the sum of its codes
 pub sum_over-singles : (z : Chain) → sum_over z single ≡ z
-sum_over-singles z = same_chain _ _ (λ q. holds-sum_over z single q ∙ weight-same _ _ z (λ s _. holds-single s q) ∙ weight-at z q)
+sum_over-singles z =
+    same_chain _ _ (λ q. holds-sum_over z single q ∙ weight-same _ _ z (λ s _. holds-single s q) ∙ weight-at z q)
 
 -- a linear map of a sum is the sum of its values
-pub linear-sum_over : (f : Chain → Chain) → IsLinear f → (z : Chain) (g : ℕ → Chain) → f (sum_over z g) ≡ sum_over z (λ s. f (g s))
+pub linear-sum_over : (f : Chain → Chain) → IsLinear f → (z : Chain) (g : ℕ → Chain)
+    → f (sum_over z g) ≡ sum_over z (λ s. f (g s))
 unfolding sum_over
 linear-sum_over f l z g = linear-total f l (map g (codes z)) ∙ ap total (map-map f g (codes z))
 
 -- two linear maps that agree at the codes of a chain agree at the chain
-pub linear-agree : (f g : Chain → Chain) → IsLinear f → IsLinear g → (z : Chain) → ((s : ℕ) → holds z s ≡ true → f (single s) ≡ g (single s)) → f z ≡ g z
+pub linear-agree : (f g : Chain → Chain) → IsLinear f → IsLinear g → (z : Chain)
+    → ((s : ℕ) → holds z s ≡ true → f (single s) ≡ g (single s)) → f z ≡ g z
 linear-agree f g lf lg z e =
     ap f (sym (sum_over-singles z)) ∙ linear-sum_over f lf z single
     ∙ sum_over-same z _ _ e
@@ -134,7 +147,8 @@ where_code-add p z w = same_chain _ _ (λ q.
 
 -- a cochain pairs with a sum as with each of the two, by exclusive or
 pub pairs_oddly-add : (z w f : Chain) → pairs_oddly (z ⊕ w) f ≡ (pairs_oddly z f ⊻ pairs_oddly w f)
-pairs_oddly-add z w f = pairs_oddly-weight (z ⊕ w) f ∙ weight-add (holds f) z w ∙ sym (ap₂ ◌⊻◌ (pairs_oddly-weight z f) (pairs_oddly-weight w f))
+pairs_oddly-add z w f = pairs_oddly-weight (z ⊕ w) f ∙ weight-add (holds f) z w
+    ∙ sym (ap₂ ◌⊻◌ (pairs_oddly-weight z f) (pairs_oddly-weight w f))
 
 -- the weight of being the code s
 pub weight-singles : (s : ℕ) (z : Chain) → weight (λ t. holds (single s) t) z ≡ holds z s
@@ -159,4 +173,5 @@ pub sum_over-list : (xs : List ℕ) → IsApart xs → (f : ℕ → Chain) → s
 sum_over-list xs apart f =
     same_chain _ _ (λ q.
     holds-sum_over (of_codes xs) f q ∙ weight-of_codes (λ s. holds (f s) q) xs apart
-    ∙ sym (sym (weight-at (total (map f xs)) q) ∙ weight-total (λ s. eqb q s) f xs ∙ parity-same _ _ xs (λ s _. weight-at (f s) q)))
+    ∙ sym (sym (weight-at (total (map f xs)) q) ∙ weight-total (λ s. eqb q s) f xs
+    ∙ parity-same _ _ xs (λ s _. weight-at (f s) q)))

@@ -35,7 +35,11 @@ beq_same false false h = refl
 -- functions that agree in each row are equal
 pub same : (n : ℕ) (f g : Table n) → agree n f g ≡ true → Same n f g
 same zero a b h = beq_same a b h
-same (suc n) f g h = elim [ true ↦ same n (f true) (g true) (and_parts _ _ h).0 | false ↦ same n (f false) (g false) (and_parts _ _ h).1 ]
+same (suc n) f g h =
+    elim [
+      | true ↦ same n (f true) (g true) (and_parts _ _ h).0
+      | false ↦ same n (f false) (g false) (and_parts _ _ h).1
+    ]
 
 -- ---- the laws of the exclusive or
 -- it is associative

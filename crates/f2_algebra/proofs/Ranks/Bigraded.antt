@@ -40,7 +40,8 @@ some_if false m n e = absurd (false≢true (ap is_some e))
 first_at-is : (a : ℤ) (d : Option (ℤ × ℤ)) (m : ℤ) → (first_at a d ≡ Some m) ↔ (d ≡ Some (m, a))
 first_at-is a None m = (λ e. absurd (false≢true (ap is_some e)), λ e. absurd (false≢true (ap is_some e)))
 first_at-is a (Some d) m = (
-  λ e. let (at, same) = some_if (int_eq d.1 a) d.0 m e in let last = (Decides-int_eq d.1 a).0 at in λ i. Some (same i, last i),
+  λ e. let (at, same) = some_if (int_eq d.1 a) d.0 m e in let last = (Decides-int_eq d.1 a).0 at in
+      λ i. Some (same i, last i),
   λ e. let same : d ≡ (m, a) = same_some d (m, a) e in
       ap (λ b. cond b (Some d.0) None) ((Decides-int_eq d.1 a).1 (ap (λ p. p.1) same)) ∙ ap (λ p. Some p.0) same,
 )
@@ -67,4 +68,7 @@ module _ (a : ℤ) (C : Complex (ℤ × ℤ)) (up : C.up ≡ up_m) where
 
   -- its ranks are those of the whole at that second degree
   pub rank_at_second : (m : ℤ) (d : ℕ) → IsRank (at_second a C) m d ↔ IsRank C (m, a) d
-  rank_at_second m d = (rank_of_part C (with_second a) (at_second a C) at_second_IsPartOf m d, rank_to_part C (with_second a) (at_second a C) at_second_IsPartOf m d)
+  rank_at_second m d = (
+    rank_of_part C (with_second a) (at_second a C) at_second_IsPartOf m d,
+    rank_to_part C (with_second a) (at_second a C) at_second_IsPartOf m d,
+  )

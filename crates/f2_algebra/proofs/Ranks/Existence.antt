@@ -27,7 +27,8 @@ some_code z = at_list (codes z) refl
 abbrev HasArrow : {G : Type 0} → Complex G → Type 0
 HasArrow C = (x : ℕ) × (y : ℕ) × (arrow C x y ≡ true)
 
-find_arrow : {G : Type 0} (C : Complex G) (xs : List ℕ) → HasArrow C ⊎ ((s : ℕ) → any s xs ≡ true → C.targets s ≡ nothing)
+find_arrow : {G : Type 0} (C : Complex G) (xs : List ℕ)
+    → HasArrow C ⊎ ((s : ℕ) → any s xs ≡ true → C.targets s ≡ nothing)
 find_arrow C [] = inr (λ s i. absurd (false≢true i))
 find_arrow C (x ∷ xs) =
     let later = find_arrow C xs in
@@ -39,12 +40,17 @@ find_arrow C (x ∷ xs) =
       ]
     ]
   where
-    at_head : (s : ℕ) (b : Bool) → eqb s x ≡ b → C.targets x ≡ nothing → ((t : ℕ) → any t xs ≡ true → C.targets t ≡ nothing) → (b || any s xs) ≡ true → C.targets s ≡ nothing
+    at_head : (s : ℕ) (b : Bool) → eqb s x ≡ b → C.targets x ≡ nothing
+        → ((t : ℕ) → any t xs ≡ true → C.targets t ≡ nothing) → (b || any s xs) ≡ true → C.targets s ≡ nothing
     at_head s true e none bare i = ap C.targets (eqb-true s x e) ∙ none
     at_head s false e none bare i = bare s i
 
-no_arrow_within : {G : Type 0} (C : Complex G) → IsComplex C → (xs : List ℕ) → IsWithin C xs → ((s : ℕ) → any s xs ≡ true → C.targets s ≡ nothing) → (s : ℕ) → C.targets s ≡ nothing
-no_arrow_within C laws xs in_xs bare s = same_chain _ _ (λ t. none_where (arrow C s t) (λ a. let (m, above, _) = laws.lowers s t a in false≢true (sym (holds-nothing t) ∙ ap (λ z. holds z t) (sym (bare s (in_xs s (ap is_some above)))) ∙ a)) ∙ sym (holds-nothing t))
+no_arrow_within : {G : Type 0} (C : Complex G) → IsComplex C → (xs : List ℕ) → IsWithin C xs
+    → ((s : ℕ) → any s xs ≡ true → C.targets s ≡ nothing) → (s : ℕ) → C.targets s ≡ nothing
+no_arrow_within C laws xs in_xs bare s =
+    same_chain _ _ (λ t. none_where (arrow C s t) (λ a. let (m, above, _) = laws.lowers s t a in
+    false≢true (sym (holds-nothing t) ∙ ap (λ z. holds z t) (sym (bare s (in_xs s (ap is_some above)))) ∙ a))
+    ∙ sym (holds-nothing t))
 
 -- the entry of an arrow, of a complex whose cells stand in xs
 abbrev entry_of : {G : Type 0} → Complex G → List ℕ → ℕ → ℕ → Entry
@@ -60,10 +66,13 @@ when_in true b m h = ap (λ c. c && b) (h refl)
 when_in false b true h = refl
 when_in false b false h = refl
 
-entry_fits : {G : Type 0} (C : Complex G) → IsComplex C → (xs : List ℕ) → IsWithin C xs → (x y : ℕ) → arrow C x y ≡ true → IsEntry C (entry_of C xs x y)
+entry_fits : {G : Type 0} (C : Complex G) → IsComplex C → (xs : List ℕ) → IsWithin C xs → (x y : ℕ) → arrow C x y ≡ true
+    → IsEntry C (entry_of C xs x y)
 entry_fits C laws xs in_xs x y a = record {
   arrows = a;
-  other_sources = λ s. holds-of_codes _ s ∙ any-filter s _ xs ∙ when_in (arrow C s y) _ (any s xs) (λ b. let (m, above, _) = laws.lowers s y b in in_xs s (ap is_some above));
+  other_sources =
+      λ s. holds-of_codes _ s ∙ any-filter s _ xs
+      ∙ when_in (arrow C s y) _ (any s xs) (λ b. let (m, above, _) = laws.lowers s y b in in_xs s (ap is_some above));
   other_targets = λ t. holds-where_code _ (C.targets x) t;
 }
 
@@ -74,8 +83,11 @@ shorter x (y ∷ ys) i = at_test (eqb y x) (ap (λ b. b || any x ys) (flipped y 
     flipped : (a b : ℕ) → eqb a b ≡ eqb b a
     flipped a b = grind arith
 
-    at_test : (b : Bool) → (b || any x ys) ≡ true → (any x ys ≡ true → length (filter (λ s. not (eqb s x)) ys) < length ys) → length (cond (not b) (y ∷ filter (λ s. not (eqb s x)) ys) (filter (λ s. not (eqb s x)) ys)) < suc (length ys)
-    at_test true e l = let kept = length-filter (λ s. not (eqb s x)) ys in let few = count_by-le-length (λ s. not (eqb s x)) ys in omega arith
+    at_test : (b : Bool) → (b || any x ys) ≡ true
+        → (any x ys ≡ true → length (filter (λ s. not (eqb s x)) ys) < length ys)
+        → length (cond (not b) (y ∷ filter (λ s. not (eqb s x)) ys) (filter (λ s. not (eqb s x)) ys)) < suc (length ys)
+    at_test true e l = let kept = length-filter (λ s. not (eqb s x)) ys in
+        let few = count_by-le-length (λ s. not (eqb s x)) ys in omega arith
     at_test false e l = let h = l e in omega arith
 
 in_filter : (x s : ℕ) (xs : List ℕ) → any s xs ≡ true → eqb s x ≡ false → any s (filter (λ t. not (eqb t x)) xs) ≡ true
@@ -92,7 +104,8 @@ IsBare C = (s : ℕ) → C.targets s ≡ nothing
 abbrev pub Reduced : {G : Type 0} → Complex G → Type 0
 Reduced C = (log : List Entry) × IsLog C log × ((s : ℕ) → (after C log).targets s ≡ nothing)
 
-reduce_by : {G : Type 0} (n : ℕ) (C : Complex G) → IsComplex C → (xs : List ℕ) → length xs ≤ n → IsWithin C xs → Reduced C
+reduce_by : {G : Type 0} (n : ℕ) (C : Complex G) → IsComplex C → (xs : List ℕ) → length xs ≤ n → IsWithin C xs
+    → Reduced C
 reduce_by zero C laws [] l in_xs = ([], tt, no_arrow_within C laws [] in_xs (λ s i. absurd (false≢true i)))
 reduce_by zero C laws (x ∷ xs) l in_xs = absurd (omega arith)
 reduce_by (suc n) C laws xs l in_xs = elim (find_arrow C xs) [
@@ -100,8 +113,12 @@ reduce_by (suc n) C laws xs l in_xs = elim (find_arrow C xs) [
       let x = a.0 in
       let y = a.1 in
       let fits = entry_fits C laws xs in_xs x y a.2 in
-      let (log, stands, bare) = reduce_by n (cancelled C x y) (cancelled_IsComplex C laws (entry_of C xs x y) fits) (filter (λ t. not (eqb t x)) xs) (let h = shorter x xs (in_xs x (let (m, above, _) = laws.lowers x y a.2 in ap is_some above)) in omega arith)
-      (λ s live. in_filter x s xs (in_xs s (sym (ap is_some (live_below C laws (entry_of C xs x y) fits s live)) ∙ live)) (or_first (eqb s x) (eqb s y) (live_code C x y s live))) in
+      let (log, stands, bare) =
+      reduce_by n (cancelled C x y) (cancelled_IsComplex C laws (entry_of C xs x y) fits)
+      (filter (λ t. not (eqb t x)) xs)
+      (let h = shorter x xs (in_xs x (let (m, above, _) = laws.lowers x y a.2 in ap is_some above)) in omega arith)
+      (λ s live. in_filter x s xs (in_xs s (sym (ap is_some (live_below C laws (entry_of C xs x y) fits s live))
+      ∙ live)) (or_first (eqb s x) (eqb s y) (live_code C x y s live))) in
       (entry_of C xs x y ∷ log, (fits, stands), bare)
   | inr bare ↦ ([], tt, no_arrow_within C laws xs in_xs bare)
 ]
@@ -129,7 +146,8 @@ module _ {G : Type 0} (eq : G → G → Bool) (eq_is : (m n : G) → (eq m n ≡
   -- the codes that pass the test are all cells of the degree
   pub cells_of-all : (C : Complex G) (xs : List ℕ) → IsWithin C xs → (m : G) → IsAllCells C m (cells_of C xs m)
   cells_of-all C xs in_xs m s =
-      let is : holds (cells_of C xs m) s ≡ (any s xs && has_degree eq m (C.degree s)) = holds-of_codes _ s ∙ any-filter s _ xs in (
+      let is : holds (cells_of C xs m) s ≡ (any s xs && has_degree eq m (C.degree s)) =
+      holds-of_codes _ s ∙ any-filter s _ xs in (
         λ h. (has_degree-is m (C.degree s)).0 ((and_parts (any s xs) _ (sym is ∙ h)).1),
         λ e. is ∙ ap₂ ◌&&◌ (in_xs s (ap is_some e)) ((has_degree-is m (C.degree s)).1 e),
       )

@@ -74,20 +74,23 @@ module _ {G H : Type 0} (C : Complex G) (embed : H → G) (D : Complex H) (part 
   lowers_at laws s t m e a =
       let (n, above, below) = laws.lowers s t (ap (λ z. holds z t) (sym (part.targets s m e)) ∙ a) in
       let (k, is) = part.embed_down m n (same_some _ _ (sym ((part.degrees s m).0 e) ∙ above)) in
-      let same : embed m ≡ embed (D.up k) = same_some _ _ (sym ((part.degrees s m).0 e) ∙ above) ∙ ap C.up (sym is) ∙ sym (part.embed_up k) in
+      let same : embed m ≡ embed (D.up k) =
+      same_some _ _ (sym ((part.degrees s m).0 e) ∙ above) ∙ ap C.up (sym is) ∙ sym (part.embed_up k) in
       (k, e ∙ ap Some (part.embed_one _ _ same), (part.degrees t k).1 (below ∙ ap Some (sym is)))
 
   no_cell : (s : ℕ) → D.degree s ≡ None → D.targets s ≡ nothing
   no_cell s e = part.no_targets s (λ m is. false≢true (ap is_some (sym e ∙ is)))
 
   lowers_by : IsComplex C → (s t : ℕ) (d : Option H) → D.degree s ≡ d → arrow D s t ≡ true → IsAbove D s t
-  lowers_by laws s t None e a = absurd (false≢true (sym (holds-nothing t) ∙ ap (λ z. holds z t) (sym (no_cell s e)) ∙ a))
+  lowers_by laws s t None e a =
+      absurd (false≢true (sym (holds-nothing t) ∙ ap (λ z. holds z t) (sym (no_cell s e)) ∙ a))
   lowers_by laws s t (Some m) e a = lowers_at laws s t m e a
 
   squares_by : IsComplex C → (s : ℕ) (d : Option H) → D.degree s ≡ d → border D (D.targets s) ≡ nothing
   squares_by laws s None e = ap (border D) (no_cell s e) ∙ border-nothing D
   squares_by laws s (Some m) e =
-      sum_over-same (D.targets s) D.targets C.targets (λ t a. let (k, _, below) = lowers_at laws s t m e a in part.targets t k below)
+      sum_over-same (D.targets s) D.targets C.targets
+      (λ t a. let (k, _, below) = lowers_at laws s t m e a in part.targets t k below)
       ∙ ap (border C) (part.targets s m e) ∙ laws.squares s
 
   -- a part of a complex is a complex

@@ -45,7 +45,8 @@ one_less f n m one i j p q e =
 pub pigeonhole : (n m : ℕ) (f : ℕ → ℕ) → Into f n m → OneToOne f n → n ≤ m
 pigeonhole zero m f into one = omega arith
 pigeonhole (suc n) zero f into one = absurd (omega (arith, into n (omega arith)))
-pigeonhole (suc n) (suc m) f into one = omega (arith, pigeonhole n m (avoiding f m n) (Into-less f n m into one) (one_less f n m one))
+pigeonhole (suc n) (suc m) f into one =
+    omega (arith, pigeonhole n m (avoiding f m n) (Into-less f n m into one) (one_less f n m one))
 
 -- ---- lists of bits as numbers
 number : List Bool → ℕ
@@ -74,7 +75,8 @@ odd_part k false e = let h = eqb-false (k % 2) 1 e in omega arith
 number-bits : (d k : ℕ) → k < 2 ^ d → number (bits d k) ≡ k
 unfolding number bits
 number-bits zero k l = omega arith
-number-bits (suc d) k l = ap (λ n. cond (eqb (k % 2) 1) 1 0 + 2 * n) (number-bits d (k / 2) (omega (arith, pow-suc 2 d))) ∙ odd_part k _ refl
+number-bits (suc d) k l =
+    ap (λ n. cond (eqb (k % 2) 1) 1 0 + 2 * n) (number-bits d (k / 2) (omega (arith, pow-suc 2 d))) ∙ odd_part k _ refl
 
 number_one : (bs cs : List Bool) → length bs ≡ length cs → number bs ≡ number cs → bs ≡ cs
 unfolding number
@@ -98,8 +100,11 @@ pub bits_pigeonhole : (d e : ℕ) (f : List Bool → List Bool)
     → ((bs cs : List Bool) → length bs ≡ d → length cs ≡ d → f bs ≡ f cs → bs ≡ cs)
     → d ≤ e
 bits_pigeonhole d e f into one = pow_le d e (pigeonhole (2 ^ d) (2 ^ e) (λ k. number (f (bits d k)))
-    (λ i l. subst (λ n. number (f (bits d i)) < 2 ^ n) (into (bits d i) (length-bits d i)) (number-below (f (bits d i))))
-    (λ i j p q same. sym (number-bits d i p) ∙ ap number (one _ _ (length-bits d i) (length-bits d j) (number_one _ _ (into _ (length-bits d i) ∙ sym (into _ (length-bits d j))) same)) ∙ number-bits d j q))
+    (λ i l. subst (λ n. number (f (bits d i)) < 2 ^ n) (into (bits d i) (length-bits d i))
+    (number-below (f (bits d i))))
+    (λ i j p q same. sym (number-bits d i p)
+    ∙ ap number (one _ _ (length-bits d i) (length-bits d j)
+    (number_one _ _ (into _ (length-bits d i) ∙ sym (into _ (length-bits d j))) same)) ∙ number-bits d j q))
 
 -- ---- an injective map from a finite set to itself is onto
 abbrev Hit : (ℕ → ℕ) → ℕ → ℕ → Type 0
@@ -121,13 +126,15 @@ hit f (suc n) k = by_last (eqb (f n) k) refl (hit f n k)
 abbrev moved : (ℕ → ℕ) → ℕ → ℕ → ℕ → ℕ
 moved f m k i = cond (eqb (f i) m) k (f i)
 
-moved-into : (f : ℕ → ℕ) (m k : ℕ) → Into f (suc m) (suc m) → k < suc m → ((i : ℕ) → i < suc m → f i ≡ k → ⊥) → Into (moved f m k) (suc m) m
+moved-into : (f : ℕ → ℕ) (m k : ℕ) → Into f (suc m) (suc m) → k < suc m → ((i : ℕ) → i < suc m → f i ≡ k → ⊥)
+    → Into (moved f m k) (suc m) m
 moved-into f m k into l none i p = elim (avoids (f i) m k) [
   | inl w ↦ let ne : m ≡ k → ⊥ = λ e. none i p (w.0 ∙ e) in omega (arith, w.0, w.1)
   | inr w ↦ let b = into i p in omega (arith, w.0, w.1)
 ]
 
-moved-one : (f : ℕ → ℕ) (m k : ℕ) → OneToOne f (suc m) → ((i : ℕ) → i < suc m → f i ≡ k → ⊥) → OneToOne (moved f m k) (suc m)
+moved-one : (f : ℕ → ℕ) (m k : ℕ) → OneToOne f (suc m) → ((i : ℕ) → i < suc m → f i ≡ k → ⊥)
+    → OneToOne (moved f m k) (suc m)
 moved-one f m k one none i j p q e = elim (avoids (f i) m k) [
   | inl v ↦ elim (avoids (f j) m k) [
     | inl w ↦ one i j p q (v.0 ∙ sym w.0)
@@ -144,7 +151,9 @@ pub onto : (n : ℕ) (f : ℕ → ℕ) → Into f n n → OneToOne f n → (k : 
 onto zero f into one k l = absurd (omega arith)
 onto (suc m) f into one k l = elim (hit f (suc m) k) [
   | inl h ↦ h
-  | inr none ↦ absurd (let b = pigeonhole (suc m) m (moved f m k) (moved-into f m k into l none) (moved-one f m k one none) in omega arith)
+  | inr none ↦
+      absurd (let b = pigeonhole (suc m) m (moved f m k) (moved-into f m k into l none) (moved-one f m k one none) in
+      omega arith)
 ]
 
 -- and for the lists of d bits
@@ -154,8 +163,11 @@ pub bits_onto : (d : ℕ) (f : List Bool → List Bool)
     → (bs : List Bool) → length bs ≡ d → (cs : List Bool) × (length cs ≡ d) × (f cs ≡ bs)
 bits_onto d f into one bs l =
     let (i, p, e) = onto (2 ^ d) (λ k. number (f (bits d k)))
-    (λ i p. subst (λ n. number (f (bits d i)) < 2 ^ n) (into (bits d i) (length-bits d i)) (number-below (f (bits d i))))
-    (λ i j p q same. sym (number-bits d i p) ∙ ap number (one _ _ (length-bits d i) (length-bits d j) (number_one _ _ (into _ (length-bits d i) ∙ sym (into _ (length-bits d j))) same)) ∙ number-bits d j q)
+    (λ i p. subst (λ n. number (f (bits d i)) < 2 ^ n) (into (bits d i) (length-bits d i))
+    (number-below (f (bits d i))))
+    (λ i j p q same. sym (number-bits d i p)
+    ∙ ap number (one _ _ (length-bits d i) (length-bits d j)
+    (number_one _ _ (into _ (length-bits d i) ∙ sym (into _ (length-bits d j))) same)) ∙ number-bits d j q)
     (number bs) (subst (λ n. number bs < 2 ^ n) l (number-below bs))
     in
     (bits d i, length-bits d i, number_one _ _ (into _ (length-bits d i) ∙ sym l) e)

@@ -26,11 +26,14 @@ entry table c r = slice_index (slice_index_or table c []) r
 
 -- half of what the marks and the number of components give to the Alexander degree, which is even
 abbrev pub half_of_marks : Marks → ℤ
-half_of_marks g = int_div (pairs_of (size g) g.o -ℤ pairs_of (size g) g.x -ℤ (pos (size g) -ℤ pos (components g))) (pos 2)
+half_of_marks g =
+    int_div (pairs_of (size g) g.o -ℤ pairs_of (size g) g.x -ℤ (pos (size g) -ℤ pos (components g))) (pos 2)
 
 pub record IsTables (t : Inside) : Type 0 where
   pub grid : IsGrid t.grid
-  pub o_below : (c r : ℕ) → c < size t.grid → r < MAX_SIZE → pos (entry t.o_below c r) ≡ left_below (size t.grid) t.grid.o c r
-  pub weights : (c r : ℕ) → c < size t.grid → r < MAX_SIZE → pos (entry t.weights c r) ≡ weight (size t.grid) t.grid.o t.grid.x c r
+  pub o_below : (c r : ℕ) → c < size t.grid → r < MAX_SIZE
+      → pos (entry t.o_below c r) ≡ left_below (size t.grid) t.grid.o c r
+  pub weights : (c r : ℕ) → c < size t.grid → r < MAX_SIZE
+      → pos (entry t.weights c r) ≡ weight (size t.grid) t.grid.o t.grid.x c r
   pub maslov_of_marks : t.maslov_of_marks ≡ pairs_of (size t.grid) t.grid.o +ℤ pos 1 -ℤ pos (size t.grid)
   pub alexander_of_marks : t.alexander_of_marks ≡ half_of_marks t.grid -ℤ pos (MAX_SIZE * size t.grid)

@@ -1,4 +1,5 @@
--- Rows of pictures. A row has a fault by the first of: another number of symbols, a symbol that is none, not exactly one
+-- Rows of pictures. A row has a fault by the first of: another number of symbols, a symbol that is none, not exactly
+-- one
 -- O and one X, and a mark in a column where a row before it has one (`picture-count` to `picture-permutation`). Without
 -- a fault its symbols are those of a row with its marks in two columns (`picture-read`), and such a row has no fault
 -- (`picture-right`). The columns of the rows so far are different (`IsPartOfPicture`), so that those of all rows make a
@@ -68,29 +69,42 @@ IsPartOfPicture-more n o x c d h fits =
     apart zero l = fits.apart
     apart (suc r) l = h.apart r (omega (arith, l))
 
--- all rows make a grid
-IsGrid-picture : (n : ℕ) (o x : List ℕ) → IsSize n → IsPartOfPicture n o x → length o ≡ n → IsGrid (grid_of_rows o x)
-IsGrid-picture n o x small h all =
+-- the marks of all rows are those of a grid
+IsGrid-rows : (n : ℕ) (o x : List ℕ) → IsSize n → IsPartOfPicture n o x → length o ≡ n
+    → IsGrid (record { o = o; x = x })
+IsGrid-rows n o x small h all =
     let same = h.same_length in
     let bijection_o = IsBijection-from_apart n o all h.o_columns.below h.o_columns.apart in
     let bijection_x = IsBijection-from_apart n x (omega arith) h.x_columns.below h.x_columns.apart in
-    IsGrid-transposed (record { o = o; x = x }) (record {
+    record {
       is_size = subst IsSize (sym all) small;
       o = subst (λ m. IsBijection m o) (sym all) bijection_o;
       x = subst (λ m. IsBijection m x) (sym all) bijection_x;
       apart = h.apart;
-    })
+    }
+
+-- with the last row they are all
+pub IsGrid-last_row : (n : ℕ) (o x : List ℕ) (c d : ℕ) → IsPlace (picture n o x) → FitsRow n o x c d
+    → length (c ∷ o) ≡ n → IsGrid (record { o = c ∷ o; x = d ∷ x })
+IsGrid-last_row n o x c d h fits all =
+    IsGrid-rows n (c ∷ o) (d ∷ x) h.0 (IsPartOfPicture-more n o x c d h.1 fits) all
+
+-- the place after the last row, and after another
+pub below_row-last : (n : ℕ) (o x : List ℕ) → length o ≡ n → below_row n o x ≡ body_of (grid_of_rows o x)
+below_row-last n o x all = ap (λ b. cond b (body_of (grid_of_rows o x)) (picture n o x)) (eq-eqb (length o) n all)
+
+pub below_row-more : (n : ℕ) (o x : List ℕ) → length o ≢ n → below_row n o x ≡ picture n o x
+below_row-more n o x more = ap (λ b. cond b (body_of (grid_of_rows o x)) (picture n o x)) (ne_eqb (length o) n more)
 
 -- the place after a row is right
 pub IsPlace-below_row : (n : ℕ) (o x : List ℕ) → IsSize n → IsPartOfPicture n o x → length o ≤ n
     → IsPlace (below_row n o x)
 IsPlace-below_row n o x small h few = elim (cases_eq (length o) n) [
   | inl all ↦
-      subst IsPlace (sym (ap (λ b. cond b (body_of (grid_of_rows o x)) (picture n o x)) (eq-eqb (length o) n all)))
-      (IsScript-no_command (grid_of_rows o x) (IsGrid-picture n o x small h all))
-  | inr more ↦
-      subst IsPlace (sym (ap (λ b. cond b (body_of (grid_of_rows o x)) (picture n o x)) (ne_eqb (length o) n more)))
-      (small, h, omega (arith, few, more))
+      subst IsPlace (sym (below_row-last n o x all))
+      (IsScript-no_command (grid_of_rows o x)
+      (IsGrid-transposed (record { o = o; x = x }) (IsGrid-rows n o x small h all)))
+  | inr more ↦ subst IsPlace (sym (below_row-more n o x more)) (small, h, omega (arith, few, more))
 ]
 
 -- ---- the faults of a row

@@ -27,5 +27,6 @@ IsPartVerdict C z (Alive f) = IsAliveBy C z f
 
 pub record IsNullBut (g : Marks) (z left bound : Chain) : Type 0 where
   pub within : (s : ℕ) → holds left s ≡ true → holds z s ≡ true
-  pub closed : (s t : ℕ) → holds left s ≡ true → holds z t ≡ true → alexander_at g s ≡ alexander_at g t → holds left t ≡ true
+  pub closed : (s t : ℕ) → holds left s ≡ true → holds z t ≡ true → alexander_at g s ≡ alexander_at g t
+      → holds left t ≡ true
   pub null : IsNullBy (grid_complex g) (z ⊕ left) bound

@@ -12,5 +12,6 @@ use Rattle.node_pool.specs.contracts.blocks.Block.{the_row as block_row}
 abbrev pub with_value : {X Z : Type 0} → Block X Z → X → Block X Z
 with_value b w = record b { value = w }
 
-abbrev pub block_follows : (T Z : RattleType) (g : Ghosts Z.Denot) → MutBor (Block T.Denot Z.Denot) → MutBor T.Denot → Fml
+abbrev pub block_follows : (T Z : RattleType) (g : Ghosts Z.Denot) → MutBor (Block T.Denot Z.Denot) → MutBor T.Denot
+    → Fml
 block_follows T Z g b r = follows (block_row T Z g) T b.ghost_name r.ghost_name (with_value b.now)

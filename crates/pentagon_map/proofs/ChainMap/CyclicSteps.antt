@@ -17,7 +17,8 @@ up_top : (n w : ℕ) → w + 1 ≡ n → one_up n w ≡ 0
 up_top n w e = ap (λ k. k % n) e ∙ mod_self n
 
 down_low : (n s : ℕ) → 0 < s → s < n → one_down n s ≡ s - 1
-down_low n s p l = let e : s + (n - 1) ≡ (s - 1) + n = omega arith in ap (λ k. k % n) e ∙ add-mod_right (s - 1) n ∙ mod-eq_of_lt (omega arith)
+down_low n s p l = let e : s + (n - 1) ≡ (s - 1) + n = omega arith in
+    ap (λ k. k % n) e ∙ add-mod_right (s - 1) n ∙ mod-eq_of_lt (omega arith)
 
 down_top : (n s : ℕ) → s ≡ 0 → 0 < n → one_down n s ≡ n - 1
 down_top n s e p = ap (λ (k : ℕ). (k + (n - 1)) % n) e ∙ mod-eq_of_lt (omega arith) ∙ zero-add (n - 1)
@@ -40,11 +41,13 @@ one_down_cases n s l = elim (cases_lt 0 s) [
 before_low : (a b r s : ℕ) → 0 < s → r ≡ s - 1 → a ≢ b → between a b r ≡ ((between a b s && differ s a) || eqb b s)
 before_low a b r s p e q = grind arith
 
-before_top : (n a b r s : ℕ) → s ≡ 0 → r ≡ n - 1 → a < n → b < n → a ≢ b → between a b r ≡ ((between a b s && differ s a) || eqb b s)
+before_top : (n a b r s : ℕ) → s ≡ 0 → r ≡ n - 1 → a < n → b < n → a ≢ b
+    → between a b r ≡ ((between a b s && differ s a) || eqb b s)
 before_top n a b r s p e la lb q = grind arith
 
 -- a range has the number before s where it has s past its start, or ends at s
-pub between-one_down : (n a b s : ℕ) → a < n → b < n → s < n → a ≢ b → between a b (one_down n s) ≡ ((between a b s && differ s a) || eqb b s)
+pub between-one_down : (n a b s : ℕ) → a < n → b < n → s < n → a ≢ b
+    → between a b (one_down n s) ≡ ((between a b s && differ s a) || eqb b s)
 between-one_down n a b s la lb ls p = elim (one_down_cases n s ls) [
   | inl h ↦ before_low a b (one_down n s) s h.0 h.1 p
   | inr h ↦ before_top n a b (one_down n s) s h.0 h.1 la lb p
@@ -79,14 +82,16 @@ between-thin n s t ls lt p = elim (one_up_cases n s ls) [
 on_low : (w e k i : ℕ) → e ≡ w + 1 → k ≢ w → k ≢ e → between e k i ≡ (between w k i && differ i w)
 on_low w e k i q p r = grind arith
 
-on_top : (n w e k i : ℕ) → w + 1 ≡ n → e ≡ 0 → i < n → k < n → k ≢ w → k ≢ e → between e k i ≡ (between w k i && differ i w)
+on_top : (n w e k i : ℕ) → w + 1 ≡ n → e ≡ 0 → i < n → k < n → k ≢ w → k ≢ e
+    → between e k i ≡ (between w k i && differ i w)
 on_top n w e k i q j l lk p r = grind arith
 
 none_at : (w e i : ℕ) → differ i w ≡ false → (between w e i && differ i w) ≡ false
 none_at w e i h = ap (λ z. between w e i && z) h ∙ and-false (between w e i)
 
 -- from the number after w, the range is the one from w without w
-pub between-one_up : (n w k i : ℕ) → w < n → k < n → i < n → k ≢ w → between (one_up n w) k i ≡ (between w k i && differ i w)
+pub between-one_up : (n w k i : ℕ) → w < n → k < n → i < n → k ≢ w
+    → between (one_up n w) k i ≡ (between w k i && differ i w)
 between-one_up n w k i lw lk li p = elim (cases_eq k (one_up n w)) [
   | inl e ↦
       ap (λ z. between (one_up n w) z i) e ∙ between_same (one_up n w) i

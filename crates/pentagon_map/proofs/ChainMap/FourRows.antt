@@ -35,7 +35,8 @@ module _ (g : Marks) (c : ℕ) (lc : c < size g) (h : are_commuting_columns g c 
   off : (r : ℕ) → not (is_marked_row g b r) ≡ true → (r ≢ slice_index g.o b) × (r ≢ slice_index g.x b)
   off r k = (
     λ e. true≢false (sym k ∙ ap (λ z. not (z || eqb r (slice_index g.x b))) (eq-eqb r (slice_index g.o b) e)),
-    λ e. true≢false (sym k ∙ ap (λ z. not (eqb r (slice_index g.o b) || z)) (eq-eqb r (slice_index g.x b) e) ∙ same 1 (λ z. not (z || true)) (λ z. false) refl (eqb r (slice_index g.o b))),
+    λ e. true≢false (sym k ∙ ap (λ z. not (eqb r (slice_index g.o b) || z)) (eq-eqb r (slice_index g.x b) e)
+        ∙ same 1 (λ z. not (z || true)) (λ z. false) refl (eqb r (slice_index g.o b))),
   )
 
   -- columns that commute have four rows
@@ -43,10 +44,17 @@ module _ (g : Marks) (c : ℕ) (lc : c < size g) (h : are_commuting_columns g c 
   HasFourRows-commuting =
       let u = off (slice_index g.o c) (and_parts _ _ rows).0 in
       let v = off (slice_index g.x c) (and_parts _ _ rows).1 in
-      record { below = lc; o-o = λ e. u.0 (sym e); o-x = λ e. v.0 (sym e); x-o = λ e. u.1 (sym e); x-x = λ e. v.1 (sym e) }
+      record {
+        below = lc;
+        o-o = λ e. u.0 (sym e);
+        o-x = λ e. v.0 (sym e);
+        x-o = λ e. u.1 (sym e);
+        x-x = λ e. v.1 (sym e);
+      }
 
   -- the rows of column c - 1 do not separate those of column c
-  pub not_separated : are_same (in_range (size g) (slice_index g.o b) (slice_index g.x b) (slice_index g.o c)) (in_range (size g) (slice_index g.o b) (slice_index g.x b) (slice_index g.x c)) ≡ true
+  pub not_separated : are_same (in_range (size g) (slice_index g.o b) (slice_index g.x b) (slice_index g.o c))
+      (in_range (size g) (slice_index g.o b) (slice_index g.x b) (slice_index g.x c)) ≡ true
   not_separated = (and_parts _ _ h).1
 
 -- ---- what is asked of the two columns beside the pentagons
@@ -71,11 +79,14 @@ module _ (g : Marks) (s : IsGrid g) (c : ℕ) (d : HasFourRows g c) where
     apart = one_up-other (size g) c s.is_size.least d.below;
     after = λ b l p q. between-from (size g) c b d.below l p q;
     right = λ t l p. between-thin (size g) c t d.below l p;
-    left = λ t l p. ap (λ z. between side z t) (sym (one_up-one_down (size g) c d.below)) ∙ between-thin (size g) side t side_below l p;
+    left = λ t l p. ap (λ z. between side z t) (sym (one_up-one_down (size g) c d.below))
+        ∙ between-thin (size g) side t side_below l p;
   }
 
   pub AreBusy-rows : AreBusy (size g) side c (slice_index g.o) (slice_index g.x)
-  AreBusy-rows j l = go (onto (size g) (slice_index g.o) s.o.small s.o.apart j l) (onto (size g) (slice_index g.x) s.x.small s.x.apart j l)
+  AreBusy-rows j l =
+      go (onto (size g) (slice_index g.o) s.o.small s.o.apart j l)
+      (onto (size g) (slice_index g.x) s.x.small s.x.apart j l)
     where
       go : (a : ℕ) × (a < size g) × (slice_index g.o a ≡ j) → (b : ℕ) × (b < size g) × (slice_index g.x b ≡ j)
           → (e : ℕ) × (e < size g) × (e ≢ side) × (e ≢ c) × ((slice_index g.o e ≡ j) ⊎ (slice_index g.x e ≡ j))

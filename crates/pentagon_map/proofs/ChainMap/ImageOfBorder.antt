@@ -40,14 +40,20 @@ use Rattle.pentagon_map.specs.declared.Corner.{Corner}
 -- the sum of two terms, over two steps
 sum4_xor : (n : ℕ) (f h : ℕ → ℕ → ℕ → ℕ → Bool)
     → parity_below n (λ a. parity_below n (λ b. parity_below n (λ c. parity_below n (λ d. f a b c d ⊻ h a b c d))))
-    ≡ parity_below n (λ a. parity_below n (λ b. parity_below n (λ c. parity_below n (f a b c)))) ⊻ parity_below n (λ a. parity_below n (λ b. parity_below n (λ c. parity_below n (h a b c))))
+    ≡ parity_below n (λ a. parity_below n (λ b. parity_below n (λ c. parity_below n (f a b c))))
+    ⊻ parity_below n (λ a. parity_below n (λ b. parity_below n (λ c. parity_below n (h a b c))))
 sum4_xor n f h =
-    parity_below-same n _ (λ a. parity_below n (λ b. parity_below n (λ c. parity_below n (f a b c))) ⊻ parity_below n (λ b. parity_below n (λ c. parity_below n (h a b c)))) (λ a la.
-    parity_below-same n _ (λ b. parity_below n (λ c. parity_below n (f a b c)) ⊻ parity_below n (λ c. parity_below n (h a b c))) (λ b lb.
-    parity_below-same n _ (λ c. parity_below n (f a b c) ⊻ parity_below n (h a b c)) (λ c lc. parity-xor (f a b c) (h a b c) (below n))
+    parity_below-same n _ (λ a. parity_below n (λ b. parity_below n (λ c. parity_below n (f a b c)))
+    ⊻ parity_below n (λ b. parity_below n (λ c. parity_below n (h a b c)))) (λ a la.
+    parity_below-same n _ (λ b. parity_below n (λ c. parity_below n (f a b c))
+    ⊻ parity_below n (λ c. parity_below n (h a b c))) (λ b lb.
+    parity_below-same n _ (λ c. parity_below n (f a b c) ⊻ parity_below n (h a b c))
+    (λ c lc. parity-xor (f a b c) (h a b c) (below n))
     ∙ parity-xor (λ c. parity_below n (f a b c)) (λ c. parity_below n (h a b c)) (below n))
-    ∙ parity-xor (λ b. parity_below n (λ c. parity_below n (f a b c))) (λ b. parity_below n (λ c. parity_below n (h a b c))) (below n))
-    ∙ parity-xor (λ a. parity_below n (λ b. parity_below n (λ c. parity_below n (f a b c)))) (λ a. parity_below n (λ b. parity_below n (λ c. parity_below n (h a b c)))) (below n)
+    ∙ parity-xor (λ b. parity_below n (λ c. parity_below n (f a b c)))
+    (λ b. parity_below n (λ c. parity_below n (h a b c))) (below n))
+    ∙ parity-xor (λ a. parity_below n (λ b. parity_below n (λ c. parity_below n (f a b c))))
+    (λ a. parity_below n (λ b. parity_below n (λ c. parity_below n (h a b c)))) (below n)
 
 -- a list is that of its values
 pub tabulate-slice_index : (x : List ℕ) → tabulate (length x) (slice_index x) ≡ x
@@ -60,19 +66,23 @@ module _ (n : ℕ) (x : List ℕ) (sx : IsBijection n x) (first second : (ℕ �
   abbrev pub has_rank : (ℕ → ℕ) → Bool
   has_rank f = eqb q (rank (tabulate n f))
 
-  swap-exchanged : (y : List ℕ) → IsBijection n y → (a b : ℕ) → a < n → b < n → slice_index (swap y a b) ≡ exchanged (slice_index y) a b
+  swap-exchanged : (y : List ℕ) → IsBijection n y → (a b : ℕ) → a < n → b < n
+      → slice_index (swap y a b) ≡ exchanged (slice_index y) a b
   swap-exchanged y sy a b la lb = let e = sy.long in slice_index-swap y a b (omega arith) (omega arith)
 
-  swap-tabulate : (y : List ℕ) → IsBijection n y → (a b : ℕ) → a < n → b < n → swap y a b ≡ tabulate n (exchanged (slice_index y) a b)
+  swap-tabulate : (y : List ℕ) → IsBijection n y → (a b : ℕ) → a < n → b < n
+      → swap y a b ≡ tabulate n (exchanged (slice_index y) a b)
   swap-tabulate y sy a b la lb =
       let st = IsBijection-swap n y a b la lb sy in
       sym (tabulate-slice_index (swap y a b)) ∙ ap₂ (λ m f. tabulate m f) st.long (swap-exchanged y sy a b la lb)
 
   pub two_step_sum : (W : List ℕ → Bool)
-      → ((y : List ℕ) → IsBijection n y → W y ≡ parity_below n (λ a. parity_below n (λ b. second (slice_index y) a b && eqb q (rank (swap y a b)))))
+      → ((y : List ℕ) → IsBijection n y
+      → W y ≡ parity_below n (λ a. parity_below n (λ b. second (slice_index y) a b && eqb q (rank (swap y a b)))))
       → parity_below n (λ a. parity_below n (λ b. first (slice_index x) a b && W (unrank n (rank (swap x a b)))))
       ≡ parity_below n (λ a. parity_below n (λ b. parity_below n (λ c. parity_below n (λ d.
-      first (slice_index x) a b && (second (exchanged (slice_index x) a b) c d && has_rank (exchanged (exchanged (slice_index x) a b) c d))))))
+      first (slice_index x) a b
+      && (second (exchanged (slice_index x) a b) c d && has_rank (exchanged (exchanged (slice_index x) a b) c d))))))
   two_step_sum W is =
       let f : ℕ → ℕ = slice_index x in
       parity_below-same n _ _ (λ a la. parity_below-same n _ _ (λ b lb.
@@ -80,19 +90,30 @@ module _ (n : ℕ) (x : List ℕ) (sx : IsBijection n x) (first second : (ℕ �
       let su = IsBijection-swap n x a b la lb sx in
       ap (λ y. first f a b && W y) (unrank-rank n u su)
       ∙ ap (λ t. first f a b && t) (is u su
-      ∙ parity_below-same n _ (λ c. parity_below n (λ d. second (slice_index u) c d && has_rank (exchanged (slice_index u) c d))) (λ c lc. parity_below-same n _ (λ d. second (slice_index u) c d && has_rank (exchanged (slice_index u) c d)) (λ d ld.
+      ∙ parity_below-same n _ (λ c. parity_below n (λ d. second (slice_index u) c d
+      && has_rank (exchanged (slice_index u) c d)))
+      (λ c lc. parity_below-same n _ (λ d. second (slice_index u) c d && has_rank (exchanged (slice_index u) c d))
+      (λ d ld.
       ap (λ y. second (slice_index u) c d && eqb q (rank y)) (swap-tabulate u su c d lc ld))))
-      ∙ ap (λ h. first f a b && parity_below n (λ c. parity_below n (λ d. second h c d && has_rank (exchanged h c d)))) (swap-exchanged x sx a b la lb)
-      ∙ sym (parity-and (first f a b) (λ c. parity_below n (λ d. second (exchanged f a b) c d && has_rank (exchanged (exchanged f a b) c d))) (below n))
+      ∙ ap (λ h. first f a b && parity_below n (λ c. parity_below n (λ d. second h c d && has_rank (exchanged h c d))))
+      (swap-exchanged x sx a b la lb)
+      ∙ sym (parity-and (first f a b)
+      (λ c. parity_below n (λ d. second (exchanged f a b) c d && has_rank (exchanged (exchanged f a b) c d)))
+      (below n))
       ∙ parity_below-same n _ _ (λ c lc.
-      sym (parity-and (first f a b) (λ d. second (exchanged f a b) c d && has_rank (exchanged (exchanged f a b) c d)) (below n)))))
+      sym (parity-and (first f a b) (λ d. second (exchanged f a b) c d && has_rank (exchanged (exchanged f a b) c d))
+      (below n)))))
 
 -- the border of a state of a grid of size n
 border_weight : (h : Marks) (n : ℕ) → size h ≡ n → IsGrid h → (x : List ℕ) → IsBijection n x → (p : ℕ → Bool)
-    → weight p (border_of_state h x) ≡ parity_below n (λ a. parity_below n (λ b. is_open n (slice_index h.o) (slice_index h.x) (slice_index x) a b && p (rank (swap x a b))))
+    → weight p (border_of_state h x)
+    ≡ parity_below n (λ a. parity_below n (λ b. is_open n (slice_index h.o) (slice_index h.x) (slice_index x) a b
+    && p (rank (swap x a b))))
 border_weight h n e s =
     let P : ℕ → Type 0 = λ m. (x : List ℕ) → IsBijection m x → (p : ℕ → Bool)
-    → weight p (border_of_state h x) ≡ parity_below m (λ a. parity_below m (λ b. is_open m (slice_index h.o) (slice_index h.x) (slice_index x) a b && p (rank (swap x a b)))) in
+    → weight p (border_of_state h x)
+    ≡ parity_below m (λ a. parity_below m (λ b. is_open m (slice_index h.o) (slice_index h.x) (slice_index x) a b
+    && p (rank (swap x a b)))) in
     subst P e (λ x sx p. weight-border_of_state h s x sx p)
 
 -- ---- codes that are ranks of no state
@@ -106,25 +127,30 @@ leads_nowhere j k s t = by j k s t
     by : (j k : ℕ) (s t : Bool) → (not (eqb j k) && ((eqb 0 j && (eqb 0 k && s)) && t)) ≡ false
     by j k s t = grind arith
 
-none_leads : (n : ℕ) (ok : Rect → Bool) (y : List ℕ) → is_odd (length (filter (λ r. leads r [] y && ok r) (rectangles n))) ≡ false
+none_leads : (n : ℕ) (ok : Rect → Bool) (y : List ℕ)
+    → is_odd (length (filter (λ r. leads r [] y && ok r) (rectangles n))) ≡ false
 none_leads n ok y =
     is_odd-filter (λ r. leads r [] y && ok r) (rectangles n) ∙ parity-rectangles (λ r. leads r [] y && ok r) n
     ∙ parity_below-none n _ (λ a la. parity_below-none n _ (λ b lb.
-    ap (λ t. differ a b && t) (parity_below-none n _ (λ j lj. parity_below-none n _ (λ k lk. leads_nowhere j k (is_same (swap [] a b) y) (ok (corners a b j k)))))
+    ap (λ t. differ a b && t) (parity_below-none n _ (λ j lj. parity_below-none n _
+    (λ k lk. leads_nowhere j k (is_same (swap [] a b) y) (ok (corners a b j k)))))
     ∙ same 1 (λ d. d && false) (λ d. false) refl (differ a b)))
 
 -- no pentagon leaves the empty list
 pub column_image-nil : (g : Marks) (c : ℕ) (corner : Corner) → column_image g c corner [] ≡ nothing
 unfolding column_image
 column_image-nil g c corner =
-    ap (λ ys. of_codes (map rank ys)) (filter-none (λ y. is_odd (length (filter (is_pentagon g c (crossing_row g c corner) [] y) (rectangles (size g))))) (states (size g))
+    ap (λ ys. of_codes (map rank ys))
+    (filter-none (λ y. is_odd (length (filter (is_pentagon g c (crossing_row g c corner) [] y)
+    (rectangles (size g))))) (states (size g))
     (none_leads (size g) (λ r. is_empty [] r && is_pentagonal g c (crossing_row g c corner) r)))
 
 -- nor does a rectangle
 pub border_of_state-nil : (g : Marks) → border_of_state g [] ≡ nothing
 unfolding border_of_state
 border_of_state-nil g =
-    ap (λ ys. of_codes (map rank ys)) (filter-none (λ y. is_odd (length (filter (is_step g [] y) (rectangles (size g))))) (states (size g))
+    ap (λ ys. of_codes (map rank ys))
+    (filter-none (λ y. is_odd (length (filter (is_step g [] y) (rectangles (size g))))) (states (size g))
     (none_leads (size g) (λ r. is_empty [] r && is_unmarked g r)))
 
 -- the image of a chain across columns
@@ -154,8 +180,10 @@ module _ (g : Marks) (s : IsGrid g) (c : ℕ) (d : HasFourRows g c) (corner : Co
   lb : one_down n c < n
   lb = one_down_below n c d.below
 
-  rows_exchanged : (rows : List ℕ) → IsBijection n rows → slice_index (swap rows (one_down n c) c) ≡ exchanged (slice_index rows) (one_down n c) c
-  rows_exchanged rows b = let e = b.long in let l = d.below in let k = lb in slice_index-swap rows (one_down n c) c (omega arith) (omega arith)
+  rows_exchanged : (rows : List ℕ) → IsBijection n rows
+      → slice_index (swap rows (one_down n c) c) ≡ exchanged (slice_index rows) (one_down n c) c
+  rows_exchanged rows b = let e = b.long in let l = d.below in let k = lb in
+      slice_index-swap rows (one_down n c) c (omega arith) (omega arith)
 
   abbrev rectangle : (ℕ → ℕ) → ℕ → ℕ → Bool
   rectangle f a b = is_open n (slice_index g.o) (slice_index g.x) f a b
@@ -167,38 +195,60 @@ module _ (g : Marks) (s : IsGrid g) (c : ℕ) (d : HasFourRows g c) (corner : Co
   pentagon f a b = pentagon_at g s c w d.below lw f a b
 
   -- what the image of a state holds, and what its border there does
-  holds_image : (y : List ℕ) → IsBijection n y → (q : ℕ) → holds (column_image g c corner y) q ≡ parity_below n (λ a. parity_below n (λ b. pentagon (slice_index y) a b && eqb q (rank (swap y a b))))
-  holds_image y sy q = sym (weight-at (column_image g c corner y) q) ∙ weight-column_image g s c corner d.below lw y sy (λ t. eqb q t)
+  holds_image : (y : List ℕ) → IsBijection n y → (q : ℕ)
+      → holds (column_image g c corner y) q
+      ≡ parity_below n (λ a. parity_below n (λ b. pentagon (slice_index y) a b && eqb q (rank (swap y a b))))
+  holds_image y sy q =
+      sym (weight-at (column_image g c corner y) q) ∙ weight-column_image g s c corner d.below lw y sy (λ t. eqb q t)
 
-  holds_border : (y : List ℕ) → IsBijection n y → (q : ℕ) → holds (border_of_state there y) q ≡ parity_below n (λ a. parity_below n (λ b. rectangle_there (slice_index y) a b && eqb q (rank (swap y a b))))
-  holds_border y sy q = sym (weight-at (border_of_state there y) q) ∙ border_weight there n same_size is_grid y sy (λ t. eqb q t)
+  holds_border : (y : List ℕ) → IsBijection n y → (q : ℕ)
+      → holds (border_of_state there y) q
+      ≡ parity_below n (λ a. parity_below n (λ b. rectangle_there (slice_index y) a b && eqb q (rank (swap y a b))))
+  holds_border y sy q =
+      sym (weight-at (border_of_state there y) q) ∙ border_weight there n same_size is_grid y sy (λ t. eqb q t)
 
   -- for a state
   of_state : (x : List ℕ) → IsBijection n x → (q : ℕ)
-      → weight (λ t. holds (column_image g c corner (unrank n t)) q) (border_of_state g x) ≡ weight (λ t. holds (border_of_state there (unrank n t)) q) (column_image g c corner x)
+      → weight (λ t. holds (column_image g c corner (unrank n t)) q) (border_of_state g x)
+      ≡ weight (λ t. holds (border_of_state there (unrank n t)) q) (column_image g c corner x)
   of_state x sx q =
       let f : ℕ → ℕ = slice_index x in
       let T : (ℕ → ℕ) → Bool = has_rank n x sx rectangle pentagon q in
       let sides = AreSides-rows g s c d in
       let o_there = rows_exchanged g.o s.o in
       let x_there = rows_exchanged g.x s.x in
-      let there_is : rectangle_there ≡ (λ f a b. is_open n (exchanged (slice_index g.o) (one_down n c) c) (exchanged (slice_index g.x) (one_down n c) c) f a b) =
+      let there_is : rectangle_there
+      ≡ (λ f a b. is_open n (exchanged (slice_index g.o) (one_down n c) c)
+      (exchanged (slice_index g.x) (one_down n c) c) f a b) =
       λ i f a b. is_open n (o_there i) (x_there i) f a b in
-      let one : Bool = parity_below n (λ a. parity_below n (λ b. parity_below n (λ k. parity_below n (λ e. rectangle f a b && (pentagon (exchanged f a b) k e && T (exchanged (exchanged f a b) k e)))))) in
-      let other : Bool = parity_below n (λ a. parity_below n (λ b. parity_below n (λ k. parity_below n (λ e. pentagon f a b && (is_open n (exchanged (slice_index g.o) (one_down n c) c) (exchanged (slice_index g.x) (one_down n c) c) (exchanged f a b) k e && T (exchanged (exchanged f a b) k e)))))) in
+      let one : Bool =
+      parity_below n (λ a. parity_below n (λ b. parity_below n
+      (λ k. parity_below n (λ e. rectangle f a b && (pentagon (exchanged f a b) k e
+      && T (exchanged (exchanged f a b) k e)))))) in
+      let other : Bool =
+      parity_below n (λ a. parity_below n (λ b. parity_below n
+      (λ k. parity_below n (λ e. pentagon f a b && (is_open n (exchanged (slice_index g.o) (one_down n c) c)
+      (exchanged (slice_index g.x) (one_down n c) c) (exchanged f a b) k e
+      && T (exchanged (exchanged f a b) k e)))))) in
       let left : weight (λ t. holds (column_image g c corner (unrank n t)) q) (border_of_state g x) ≡ one =
       border_weight g n refl s x sx (λ t. holds (column_image g c corner (unrank n t)) q)
-      ∙ two_step_sum n x sx rectangle pentagon q (λ y. holds (column_image g c corner y) q) (λ y sy. holds_image y sy q) in
+      ∙ two_step_sum n x sx rectangle pentagon q (λ y. holds (column_image g c corner y) q)
+      (λ y sy. holds_image y sy q) in
       let right : weight (λ t. holds (border_of_state there (unrank n t)) q) (column_image g c corner x) ≡ other =
       weight-column_image g s c corner d.below lw x sx (λ t. holds (border_of_state there (unrank n t)) q)
-      ∙ two_step_sum n x sx pentagon rectangle_there q (λ y. holds (border_of_state there y) q) (λ y sy. holds_border y sy q)
-      ∙ ap (λ R. parity_below n (λ a. parity_below n (λ b. parity_below n (λ k. parity_below n (λ e. pentagon f a b && (R (exchanged f a b) k e && T (exchanged (exchanged f a b) k e))))))) there_is in
+      ∙ two_step_sum n x sx pentagon rectangle_there q (λ y. holds (border_of_state there y) q)
+      (λ y sy. holds_border y sy q)
+      ∙ ap (λ R. parity_below n (λ a. parity_below n (λ b. parity_below n
+      (λ k. parity_below n (λ e. pentagon f a b && (R (exchanged f a b) k e
+      && T (exchanged (exchanged f a b) k e))))))) there_is in
       left
-      ∙ sym (xor_zero other one (sym (sum4_xor n _ _) ∙ pairs_none n (one_down n c) c (one_up n c) w (slice_index g.o) (slice_index g.x) sides (IsThin-rows g s c d) (AreBusy-rows g s c d) f (one_to_one n x sx) T))
+      ∙ sym (xor_zero other one (sym (sum4_xor n _ _) ∙ pairs_none n (one_down n c) c (one_up n c) w (slice_index g.o)
+      (slice_index g.x) sides (IsThin-rows g s c d) (AreBusy-rows g s c d) f (one_to_one n x sx) T))
       ∙ sym right
 
   of_code : (q k : ℕ)
-      → weight (λ t. holds (column_image g c corner (unrank n t)) q) (border_of_state g (unrank n k)) ≡ weight (λ t. holds (border_of_state there (unrank n t)) q) (column_image g c corner (unrank n k))
+      → weight (λ t. holds (column_image g c corner (unrank n t)) q) (border_of_state g (unrank n k))
+      ≡ weight (λ t. holds (border_of_state there (unrank n t)) q) (column_image g c corner (unrank n k))
   of_code q k = elim (cases_lt k (factorial n)) [
     | inl l ↦ of_state (unrank n k) (IsBijection-unrank n k l) q
     | inr l ↦
@@ -206,16 +256,23 @@ module _ (g : Marks) (s : IsGrid g) (c : ℕ) (d : HasFourRows g c) (corner : Co
         ap (λ x. weight (λ t. holds (column_image g c corner (unrank n t)) q) (border_of_state g x)) e
         ∙ ap (weight (λ t. holds (column_image g c corner (unrank n t)) q)) (border_of_state-nil g) ∙ weight-nothing _
         ∙ sym (ap (λ x. weight (λ t. holds (border_of_state there (unrank n t)) q) (column_image g c corner x)) e
-        ∙ ap (weight (λ t. holds (border_of_state there (unrank n t)) q)) (column_image-nil g c corner) ∙ weight-nothing _)
+        ∙ ap (weight (λ t. holds (border_of_state there (unrank n t)) q)) (column_image-nil g c corner)
+        ∙ weight-nothing _)
   ]
 
   -- The image of the border is the border of the image.
-  pub image_by_columns-border : (z : Chain) → image_by_columns g c corner (border g z) ≡ border (swapped_columns g c) (image_by_columns g c corner z)
+  pub image_by_columns-border : (z : Chain)
+      → image_by_columns g c corner (border g z) ≡ border (swapped_columns g c) (image_by_columns g c corner z)
   unfolding image_by_columns border
   image_by_columns-border z = same_chain _ _ (λ q.
-      holds-sum_over (sum_over z (λ code. border_of_state g (unrank n code))) (λ code. column_image g c corner (unrank n code)) q
-      ∙ weight-sum_over (λ t. holds (column_image g c corner (unrank n t)) q) z (λ code. border_of_state g (unrank n code))
+      holds-sum_over (sum_over z (λ code. border_of_state g (unrank n code)))
+      (λ code. column_image g c corner (unrank n code)) q
+      ∙ weight-sum_over (λ t. holds (column_image g c corner (unrank n t)) q) z
+      (λ code. border_of_state g (unrank n code))
       ∙ weight-same _ _ z (λ k _. of_code q k)
-      ∙ sym (holds-sum_over (sum_over z (λ code. column_image g c corner (unrank n code))) (λ code. border_of_state there (unrank (size there) code)) q
-      ∙ ap (λ m. weight (λ t. holds (border_of_state there (unrank m t)) q) (sum_over z (λ code. column_image g c corner (unrank n code)))) same_size
-      ∙ weight-sum_over (λ t. holds (border_of_state there (unrank n t)) q) z (λ code. column_image g c corner (unrank n code))))
+      ∙ sym (holds-sum_over (sum_over z (λ code. column_image g c corner (unrank n code)))
+      (λ code. border_of_state there (unrank (size there) code)) q
+      ∙ ap (λ m. weight (λ t. holds (border_of_state there (unrank m t)) q)
+      (sum_over z (λ code. column_image g c corner (unrank n code)))) same_size
+      ∙ weight-sum_over (λ t. holds (border_of_state there (unrank n t)) q) z
+      (λ code. column_image g c corner (unrank n code))))

@@ -26,17 +26,22 @@ abbrev pub IsPaired : Bool → Bool → Weight → Type 0
 IsPaired u v S = (m : Place) → S m (sign1 u v) u ≡ S (next m) u (sign2 u v)
 
 stay : (u v : Bool) (g : Place → Place → Bool) (S : Weight) (m : Place)
-    → weighted u v g S m ≡ (term u v g m (sign1 u v) u && S m (sign1 u v) u) ⊻ (term u v g m u (sign2 u v) && S m u (sign2 u v))
+    → weighted u v g S m
+    ≡ (term u v g m (sign1 u v) u && S m (sign1 u v) u) ⊻ (term u v g m u (sign2 u v) && S m u (sign2 u v))
 stay true true g S m = xor-false _
-stay false false g S m = xor_comm (term false false g m false true && S m false true) (term false false g m false false && S m false false)
+stay false false g S m =
+    xor_comm (term false false g m false true && S m false true) (term false false g m false false && S m false false)
 stay true false g S m =
-    (λ i. ((term true false g m true true && S m true true) ⊻ (gone true i && S m true false)) ⊻ ((term true false g m false true && S m false true) ⊻ (gone false i && S m false false)))
-    ∙ same 2 (λ x y. (x ⊻ false) ⊻ (y ⊻ false)) (λ x y. y ⊻ x) refl (term true false g m true true && S m true true) (term true false g m false true && S m false true)
+    (λ i. ((term true false g m true true && S m true true) ⊻ (gone true i && S m true false))
+    ⊻ ((term true false g m false true && S m false true) ⊻ (gone false i && S m false false)))
+    ∙ same 2 (λ x y. (x ⊻ false) ⊻ (y ⊻ false)) (λ x y. y ⊻ x) refl (term true false g m true true && S m true true)
+    (term true false g m false true && S m false true)
   where
     gone : (s : Bool) → term true false g m s false ≡ false
     gone s = and-false _
 stay false true g S m =
-    (λ i. ((gone true i && S m true true) ⊻ (term false true g m true false && S m true false)) ⊻ ((gone false i && S m false true) ⊻ (term false true g m false false && S m false false)))
+    (λ i. ((gone true i && S m true true) ⊻ (term false true g m true false && S m true false))
+    ⊻ ((gone false i && S m false true) ⊻ (term false true g m false false && S m false false)))
   where
     gone : (s : Bool) → term false true g m s true ≡ false
     gone s = and-false _
@@ -62,11 +67,18 @@ twins_table false false first = same 9 (twin_left false false first) (twin_right
 twins_table false false second = same 9 (twin_left false false second) (twin_right false false second) refl
 twins_table false false third = same 9 (twin_left false false third) (twin_right false false third) refl
 
-twins : (u v : Bool) (g : Place → Place → Bool) (m : Place) → term u v g m (sign1 u v) u ≡ term u v g (next m) u (sign2 u v)
+twins : (u v : Bool) (g : Place → Place → Bool) (m : Place)
+    → term u v g m (sign1 u v) u ≡ term u v g (next m) u (sign2 u v)
 unfolding twin_left twin_right
-twins u v g first = twins_table u v first (g first first) (g first second) (g first third) (g second first) (g second second) (g second third) (g third first) (g third second) (g third third)
-twins u v g second = twins_table u v second (g first first) (g first second) (g first third) (g second first) (g second second) (g second third) (g third first) (g third second) (g third third)
-twins u v g third = twins_table u v third (g first first) (g first second) (g first third) (g second first) (g second second) (g second third) (g third first) (g third second) (g third third)
+twins u v g first =
+    twins_table u v first (g first first) (g first second) (g first third) (g second first) (g second second)
+    (g second third) (g third first) (g third second) (g third third)
+twins u v g second =
+    twins_table u v second (g first first) (g first second) (g first third) (g second first) (g second second)
+    (g second third) (g third first) (g third second) (g third third)
+twins u v g third =
+    twins_table u v third (g first first) (g first second) (g first third) (g second first) (g second second)
+    (g second third) (g third first) (g third second) (g third third)
 
 pub weighted_cancel : (u v : Bool) (g : Place → Place → Bool) (S : Weight) → IsPaired u v S
     → weighted u v g S first ⊻ (weighted u v g S second ⊻ weighted u v g S third) ≡ false
@@ -117,7 +129,8 @@ is_same_place second third = false
 is_same_place third first = false
 is_same_place third second = false
 
--- the rows of a pentagon: w is in the arc y; L and R say of each arc that it has no row of L, of R; rm that the part of y below w has no R, lp that the part above w has no L
+-- the rows of a pentagon: w is in the arc y; L and R say of each arc that it has no row of L, of R; rm that the part of
+-- y below w has no R, lp that the part above w has no L
 abbrev pub pent : Bool → Place → (Place → Bool) → (Place → Bool) → Bool → Bool → Bool → Place → Bool
 pent v y L R rm lp s m =
     cond (beq v s) (is_same_place m y && (rm && lp))
@@ -126,7 +139,8 @@ pent v y L R rm lp s m =
 
 -- the rows of a rectangle, beside a circle that has rows of A on its left and of B on its right
 abbrev pub strip : Bool → Bool → (Place → Bool) → (Place → Bool) → Place → Bool → Bool → Place → Bool
-strip u v A B m s s' m' = not (has_right u m s && not (along v s' m' B)) && not (has_left u m s && not (along v s' m' A))
+strip u v A B m s s' m' =
+    not (has_right u m s && not (along v s' m' B)) && not (has_left u m s && not (along v s' m' A))
 
 abbrev pub pair_weight : Bool → Bool → Place → (Place → Bool) → (Place → Bool) → Bool → Bool → Weight
 pair_weight u v y L R rm lp m s s' =
@@ -150,50 +164,74 @@ pairs_table true true first first = same 8 (pair_left true true first first) (pa
 pairs_table true true first second = same 8 (pair_left true true first second) (pair_right true true first second) refl
 pairs_table true true first third = same 8 (pair_left true true first third) (pair_right true true first third) refl
 pairs_table true true second first = same 8 (pair_left true true second first) (pair_right true true second first) refl
-pairs_table true true second second = same 8 (pair_left true true second second) (pair_right true true second second) refl
+pairs_table true true second second =
+    same 8 (pair_left true true second second) (pair_right true true second second) refl
 pairs_table true true second third = same 8 (pair_left true true second third) (pair_right true true second third) refl
 pairs_table true true third first = same 8 (pair_left true true third first) (pair_right true true third first) refl
 pairs_table true true third second = same 8 (pair_left true true third second) (pair_right true true third second) refl
 pairs_table true true third third = same 8 (pair_left true true third third) (pair_right true true third third) refl
 pairs_table true false first first = same 8 (pair_left true false first first) (pair_right true false first first) refl
-pairs_table true false first second = same 8 (pair_left true false first second) (pair_right true false first second) refl
+pairs_table true false first second =
+    same 8 (pair_left true false first second) (pair_right true false first second) refl
 pairs_table true false first third = same 8 (pair_left true false first third) (pair_right true false first third) refl
-pairs_table true false second first = same 8 (pair_left true false second first) (pair_right true false second first) refl
-pairs_table true false second second = same 8 (pair_left true false second second) (pair_right true false second second) refl
-pairs_table true false second third = same 8 (pair_left true false second third) (pair_right true false second third) refl
+pairs_table true false second first =
+    same 8 (pair_left true false second first) (pair_right true false second first) refl
+pairs_table true false second second =
+    same 8 (pair_left true false second second) (pair_right true false second second) refl
+pairs_table true false second third =
+    same 8 (pair_left true false second third) (pair_right true false second third) refl
 pairs_table true false third first = same 8 (pair_left true false third first) (pair_right true false third first) refl
-pairs_table true false third second = same 8 (pair_left true false third second) (pair_right true false third second) refl
+pairs_table true false third second =
+    same 8 (pair_left true false third second) (pair_right true false third second) refl
 pairs_table true false third third = same 8 (pair_left true false third third) (pair_right true false third third) refl
 pairs_table false true first first = same 8 (pair_left false true first first) (pair_right false true first first) refl
-pairs_table false true first second = same 8 (pair_left false true first second) (pair_right false true first second) refl
+pairs_table false true first second =
+    same 8 (pair_left false true first second) (pair_right false true first second) refl
 pairs_table false true first third = same 8 (pair_left false true first third) (pair_right false true first third) refl
-pairs_table false true second first = same 8 (pair_left false true second first) (pair_right false true second first) refl
-pairs_table false true second second = same 8 (pair_left false true second second) (pair_right false true second second) refl
-pairs_table false true second third = same 8 (pair_left false true second third) (pair_right false true second third) refl
+pairs_table false true second first =
+    same 8 (pair_left false true second first) (pair_right false true second first) refl
+pairs_table false true second second =
+    same 8 (pair_left false true second second) (pair_right false true second second) refl
+pairs_table false true second third =
+    same 8 (pair_left false true second third) (pair_right false true second third) refl
 pairs_table false true third first = same 8 (pair_left false true third first) (pair_right false true third first) refl
-pairs_table false true third second = same 8 (pair_left false true third second) (pair_right false true third second) refl
+pairs_table false true third second =
+    same 8 (pair_left false true third second) (pair_right false true third second) refl
 pairs_table false true third third = same 8 (pair_left false true third third) (pair_right false true third third) refl
-pairs_table false false first first = same 8 (pair_left false false first first) (pair_right false false first first) refl
-pairs_table false false first second = same 8 (pair_left false false first second) (pair_right false false first second) refl
-pairs_table false false first third = same 8 (pair_left false false first third) (pair_right false false first third) refl
-pairs_table false false second first = same 8 (pair_left false false second first) (pair_right false false second first) refl
-pairs_table false false second second = same 8 (pair_left false false second second) (pair_right false false second second) refl
-pairs_table false false second third = same 8 (pair_left false false second third) (pair_right false false second third) refl
-pairs_table false false third first = same 8 (pair_left false false third first) (pair_right false false third first) refl
-pairs_table false false third second = same 8 (pair_left false false third second) (pair_right false false third second) refl
-pairs_table false false third third = same 8 (pair_left false false third third) (pair_right false false third third) refl
+pairs_table false false first first =
+    same 8 (pair_left false false first first) (pair_right false false first first) refl
+pairs_table false false first second =
+    same 8 (pair_left false false first second) (pair_right false false first second) refl
+pairs_table false false first third =
+    same 8 (pair_left false false first third) (pair_right false false first third) refl
+pairs_table false false second first =
+    same 8 (pair_left false false second first) (pair_right false false second first) refl
+pairs_table false false second second =
+    same 8 (pair_left false false second second) (pair_right false false second second) refl
+pairs_table false false second third =
+    same 8 (pair_left false false second third) (pair_right false false second third) refl
+pairs_table false false third first =
+    same 8 (pair_left false false third first) (pair_right false false third first) refl
+pairs_table false false third second =
+    same 8 (pair_left false false third second) (pair_right false false third second) refl
+pairs_table false false third third =
+    same 8 (pair_left false false third third) (pair_right false false third third) refl
 
-pub weights_paired : (u v : Bool) (y : Place) (L R : Place → Bool) (rm lp : Bool) → IsPaired u v (pair_weight u v y L R rm lp)
+pub weights_paired : (u v : Bool) (y : Place) (L R : Place → Bool) (rm lp : Bool)
+    → IsPaired u v (pair_weight u v y L R rm lp)
 unfolding pair_left pair_right
 weights_paired u v y L R rm lp m = same_ends m
   where
     at3 : (L : Place → Bool) → of_three (L first) (L second) (L third) ≡ L
     at3 L = fun_ext (elim [ first ↦ refl | second ↦ refl | third ↦ refl ])
 
-    table : (m : Place) → pair_left u v y m (L first) (L second) (L third) (R first) (R second) (R third) rm lp ≡ pair_right u v y m (L first) (L second) (L third) (R first) (R second) (R third) rm lp
+    table : (m : Place)
+        → pair_left u v y m (L first) (L second) (L third) (R first) (R second) (R third) rm lp
+        ≡ pair_right u v y m (L first) (L second) (L third) (R first) (R second) (R third) rm lp
     table m = pairs_table u v y m (L first) (L second) (L third) (R first) (R second) (R third) rm lp
 
-    same_ends : (m : Place) → pair_weight u v y L R rm lp m (sign1 u v) u ≡ pair_weight u v y L R rm lp (next m) u (sign2 u v)
+    same_ends : (m : Place)
+        → pair_weight u v y L R rm lp m (sign1 u v) u ≡ pair_weight u v y L R rm lp (next m) u (sign2 u v)
     same_ends m =
         (λ i. pair_weight u v y (sym (at3 L) i) (sym (at3 R) i) rm lp m (sign1 u v) u)
         ∙ table m

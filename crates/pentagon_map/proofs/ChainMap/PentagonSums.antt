@@ -38,31 +38,48 @@ module _ (g : Marks) (s : IsGrid g) (c w : ℕ) (lc : c < size g) (lw : w < size
   pentagon_at f a b = is_open_pentagon (size g) (one_down (size g) c) c w (slice_index g.o) (slice_index g.x) f a b
 
   -- rows from j up to k, as comparisons
-  lacks-has_mark : (d j k : ℕ) → d < size g → j < size g → k < size g → not (has_mark_from g d j k) ≡ lacks (slice_index g.o) (slice_index g.x) d (between j k)
-  lacks-has_mark d j k ld lj lk = λ i. not (in_range-between (size g) j k (slice_index g.o d) lj lk (s.o.small d ld) i || in_range-between (size g) j k (slice_index g.x d) lj lk (s.x.small d ld) i)
+  lacks-has_mark : (d j k : ℕ) → d < size g → j < size g → k < size g
+      → not (has_mark_from g d j k) ≡ lacks (slice_index g.o) (slice_index g.x) d (between j k)
+  lacks-has_mark d j k ld lj lk =
+      λ i. not (in_range-between (size g) j k (slice_index g.o d) lj lk (s.o.small d ld) i
+      || in_range-between (size g) j k (slice_index g.x d) lj lk (s.x.small d ld) i)
 
-  lacks-above : (d k : ℕ) → d < size g → k < size g → k ≢ w → not (has_mark_from g d (one_up (size g) w) k) ≡ lacks (slice_index g.o) (slice_index g.x) d (above_of w k)
+  lacks-above : (d k : ℕ) → d < size g → k < size g → k ≢ w
+      → not (has_mark_from g d (one_up (size g) w) k) ≡ lacks (slice_index g.o) (slice_index g.x) d (above_of w k)
   lacks-above d k ld lk p =
       lacks-has_mark d (one_up (size g) w) k ld (one_up_below (size g) w lw) lk
-      ∙ (λ i. not (between-one_up (size g) w k (slice_index g.o d) lw lk (s.o.small d ld) p i || between-one_up (size g) w k (slice_index g.x d) lw lk (s.x.small d ld) p i))
+      ∙ (λ i. not (between-one_up (size g) w k (slice_index g.o d) lw lk (s.o.small d ld) p i
+      || between-one_up (size g) w k (slice_index g.x d) lw lk (s.x.small d ld) p i))
 
   unmarked-beside : (a b j k : ℕ) → a < size g → b < size g → j < size g → k < size g
-      → is_unmarked_beside g c (corners a b j k) ≡ free (size g) (two (one_down (size g) c) c) (between a b) (marks (slice_index g.o) (slice_index g.x) (between j k))
+      → is_unmarked_beside g c (corners a b j k)
+      ≡ free (size g) (two (one_down (size g) c) c) (between a b)
+      (marks (slice_index g.o) (slice_index g.x) (between j k))
   unmarked-beside a b j k la lb lj lk =
-      all_below-same (size g) (λ d. (eqb d (one_down (size g) c) || eqb d c) || not (in_range (size g) a b d && has_mark_from g d j k))
-      (λ d. two (one_down (size g) c) c d || not (between a b d && marks (slice_index g.o) (slice_index g.x) (between j k) d)) (λ d l.
-      λ i. two (one_down (size g) c) c d || not (in_range-between (size g) a b d la lb l i && (in_range-between (size g) j k (slice_index g.o d) lj lk (s.o.small d l) i || in_range-between (size g) j k (slice_index g.x d) lj lk (s.x.small d l) i)))
+      all_below-same (size g) (λ d. (eqb d (one_down (size g) c) || eqb d c)
+      || not (in_range (size g) a b d && has_mark_from g d j k))
+      (λ d. two (one_down (size g) c) c d
+      || not (between a b d && marks (slice_index g.o) (slice_index g.x) (between j k) d)) (λ d l.
+      λ i. two (one_down (size g) c) c d
+      || not (in_range-between (size g) a b d la lb l i
+      && (in_range-between (size g) j k (slice_index g.o d) lj lk (s.o.small d l) i
+      || in_range-between (size g) j k (slice_index g.x d) lj lk (s.x.small d l) i)))
 
   above_w : (j k : ℕ) → between j k w ≡ true → k ≢ w
   above_w j k h e = true≢false (sym h ∙ ap (between j k) (sym e) ∙ between_end j k)
 
   -- what is asked of a rectangle beside emptiness
   pub is_pentagonal-corners : (a b j k : ℕ) → a < size g → b < size g → j < size g → k < size g
-      → is_pentagonal g c w (corners a b j k) ≡ penta (size g) (one_down (size g) c) c w (slice_index g.o) (slice_index g.x) a b j k
+      → is_pentagonal g c w (corners a b j k)
+      ≡ penta (size g) (one_down (size g) c) c w (slice_index g.o) (slice_index g.x) a b j k
   is_pentagonal-corners a b j k la lb lj lk =
       ap (λ z. (eqb a c || eqb b c) && z) (
-      (λ i. in_range-between (size g) j k w lj lk lw i && (unmarked-beside a b j k la lb lj lk i && (lacks-has_mark c j w lc lj lw i && not (has_mark_from g (one_down (size g) c) (one_up (size g) w) k))))
-      ∙ guard (between j k w) _ _ (λ h. ap (λ z. free (size g) (two (one_down (size g) c) c) (between a b) (marks (slice_index g.o) (slice_index g.x) (between j k)) && (lacks (slice_index g.o) (slice_index g.x) c (between j w) && z))
+      (λ i. in_range-between (size g) j k w lj lk lw i
+      && (unmarked-beside a b j k la lb lj lk i
+      && (lacks-has_mark c j w lc lj lw i && not (has_mark_from g (one_down (size g) c) (one_up (size g) w) k))))
+      ∙ guard (between j k w) _ _ (λ h. ap (λ z. free (size g) (two (one_down (size g) c) c) (between a b)
+      (marks (slice_index g.o) (slice_index g.x) (between j k))
+      && (lacks (slice_index g.o) (slice_index g.x) c (between j w) && z))
       (lacks-above (one_down (size g) c) k (one_down_below (size g) c lc) lk (above_w j k h))))
 
   -- the rectangle of x at two circles is a pentagon
@@ -71,13 +88,16 @@ module _ (g : Marks) (s : IsGrid g) (c w : ℕ) (lc : c < size g) (lw : w < size
   passes_at-pentagon x sx a b la lb =
       let lj = sx.small a la in
       let lk = sx.small b lb in
-      ap₂ (λ u v. differ a b && (u && v)) (is_empty-corners (size g) x sx a b (slice_index x a) (slice_index x b) la lb lj lk)
+      ap₂ (λ u v. differ a b && (u && v))
+      (is_empty-corners (size g) x sx a b (slice_index x a) (slice_index x b) la lb lj lk)
       (is_pentagonal-corners a b (slice_index x a) (slice_index x b) la lb lj lk)
 
 -- the weight of the image of a state
-pub weight-column_image : (g : Marks) (s : IsGrid g) (c : ℕ) (corner : Corner) (lc : c < size g) (lw : crossing_row g c corner < size g) (x : List ℕ) → IsBijection (size g) x → (p : ℕ → Bool)
+pub weight-column_image : (g : Marks) (s : IsGrid g) (c : ℕ) (corner : Corner) (lc : c < size g)
+    (lw : crossing_row g c corner < size g) (x : List ℕ) → IsBijection (size g) x → (p : ℕ → Bool)
     → weight p (column_image g c corner x)
-    ≡ parity_below (size g) (λ a. parity_below (size g) (λ b. pentagon_at g s c (crossing_row g c corner) lc lw (slice_index x) a b && p (rank (swap x a b))))
+    ≡ parity_below (size g) (λ a. parity_below (size g)
+    (λ b. pentagon_at g s c (crossing_row g c corner) lc lw (slice_index x) a b && p (rank (swap x a b))))
 unfolding column_image
 weight-column_image g s c corner lc lw x sx p =
     weight-leading (size g) x sx (λ r. is_empty x r && is_pentagonal g c (crossing_row g c corner) r) p
@@ -85,36 +105,50 @@ weight-column_image g s c corner lc lw x sx p =
     ap (λ t. t && p (rank (swap x a b))) (passes_at-pentagon g s c (crossing_row g c corner) lc lw x sx a b la lb)))
 
 -- the crossing row is a row
-pub crossing_row-below : (g : Marks) → IsGrid g → (c : ℕ) → c < size g → (corner : Corner) → crossing_row g c corner < size g
-crossing_row-below g s c lc Over = either (ltb (offset (size g) (slice_index g.o (one_down (size g) c)) (slice_index g.o c)) (offset (size g) (slice_index g.o (one_down (size g) c)) (slice_index g.x c)))
+pub crossing_row-below : (g : Marks) → IsGrid g → (c : ℕ) → c < size g → (corner : Corner)
+    → crossing_row g c corner < size g
+crossing_row-below g s c lc Over =
+    either (ltb (offset (size g) (slice_index g.o (one_down (size g) c)) (slice_index g.o c))
+    (offset (size g) (slice_index g.o (one_down (size g) c)) (slice_index g.x c)))
   where
     either : (b : Bool) → cond b (slice_index g.o c) (slice_index g.x c) < size g
     either true = s.o.small c lc
     either false = s.x.small c lc
-crossing_row-below g s c lc Under = either (ltb (offset (size g) (slice_index g.o c) (slice_index g.o (one_down (size g) c))) (offset (size g) (slice_index g.o c) (slice_index g.x (one_down (size g) c))))
+crossing_row-below g s c lc Under =
+    either (ltb (offset (size g) (slice_index g.o c) (slice_index g.o (one_down (size g) c)))
+    (offset (size g) (slice_index g.o c) (slice_index g.x (one_down (size g) c))))
   where
-    either : (b : Bool) → cond b (slice_index g.x (one_down (size g) c)) (slice_index g.o (one_down (size g) c)) < size g
+    either : (b : Bool)
+        → cond b (slice_index g.x (one_down (size g) c)) (slice_index g.o (one_down (size g) c)) < size g
     either true = s.x.small (one_down (size g) c) (one_down_below (size g) c lc)
     either false = s.o.small (one_down (size g) c) (one_down_below (size g) c lc)
 
 -- what the image of a state holds
-pub holds-column_image : (g : Marks) (s : IsGrid g) (c : ℕ) (corner : Corner) (lc : c < size g) (lw : crossing_row g c corner < size g) (x : List ℕ) → IsBijection (size g) x → (q : ℕ)
+pub holds-column_image : (g : Marks) (s : IsGrid g) (c : ℕ) (corner : Corner) (lc : c < size g)
+    (lw : crossing_row g c corner < size g) (x : List ℕ) → IsBijection (size g) x → (q : ℕ)
     → holds (column_image g c corner x) q
-    ≡ parity_below (size g) (λ a. parity_below (size g) (λ b. pentagon_at g s c (crossing_row g c corner) lc lw (slice_index x) a b && eqb q (rank (swap x a b))))
-holds-column_image g s c corner lc lw x sx q = sym (weight-at (column_image g c corner x) q) ∙ weight-column_image g s c corner lc lw x sx (λ t. eqb q t)
+    ≡ parity_below (size g) (λ a. parity_below (size g)
+    (λ b. pentagon_at g s c (crossing_row g c corner) lc lw (slice_index x) a b && eqb q (rank (swap x a b))))
+holds-column_image g s c corner lc lw x sx q =
+    sym (weight-at (column_image g c corner x) q) ∙ weight-column_image g s c corner lc lw x sx (λ t. eqb q t)
 
 -- a state that a chain of states has
-pub holds-states_where : (n : ℕ) (test : List ℕ → Bool) (c : ℕ) → holds (states_where n test) c ≡ true → (y : List ℕ) × IsBijection n y × (rank y ≡ c) × (test y ≡ true)
+pub holds-states_where : (n : ℕ) (test : List ℕ → Bool) (c : ℕ) → holds (states_where n test) c ≡ true
+    → (y : List ℕ) × IsBijection n y × (rank y ≡ c) × (test y ≡ true)
 holds-states_where n test c h =
     let ranks : List ℕ = map rank (filter test (states n)) in
-    let in_ranks : Contains ranks c = Contains-from_any (λ a b. eqb-true a b) c ranks (sym (holds-of_codes ranks c) ∙ h) in
+    let in_ranks : Contains ranks c =
+    Contains-from_any (λ a b. eqb-true a b) c ranks (sym (holds-of_codes ranks c) ∙ h) in
     let (y, in_filter, is) = member_of_map rank (filter test (states n)) c in_ranks in
     let (in_states, passes) = member_of_filter test (states n) y in_filter in
     (y, member_of_states n y in_states, is, passes)
 
 -- the image of a state has ranks of states
-pub column_image-below : (g : Marks) (c : ℕ) (corner : Corner) (x : List ℕ) (t : ℕ) → holds (column_image g c corner x) t ≡ true → t < factorial (size g)
+pub column_image-below : (g : Marks) (c : ℕ) (corner : Corner) (x : List ℕ) (t : ℕ)
+    → holds (column_image g c corner x) t ≡ true → t < factorial (size g)
 unfolding column_image
 column_image-below g c corner x t h =
-    let (y, sy, is, passes) = holds-states_where (size g) (λ y. is_odd (length (filter (is_pentagon g c (crossing_row g c corner) x y) (rectangles (size g))))) t h in
+    let (y, sy, is, passes) =
+    holds-states_where (size g) (λ y. is_odd (length (filter (is_pentagon g c (crossing_row g c corner) x y)
+    (rectangles (size g))))) t h in
     subst (λ k. k < factorial (size g)) is (rank-below (size g) y sy)

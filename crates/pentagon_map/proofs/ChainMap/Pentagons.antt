@@ -1,4 +1,5 @@
--- The image of a chain under the exchange of two columns: a step by a pentagon and a step by a corner set, in either order, lead to each state an even number of times.
+-- The image of a chain under the exchange of two columns: a step by a pentagon and a step by a corner set, in either
+-- order, lead to each state an even number of times.
 use Rattle.std.proofs.Common.{Bool, ap, ap₂, eqb, false, inl, inr, not, refl, sym, true, ℕ, ◌&&◌, ◌<◌, ◌||◌, ◌∙◌, ◌≡◌, ◌≢◌, ◌⊎◌}
 use Rattle.std.proofs.lemmas.Bool.{cases_eq, eq-eqb, ne_eqb}
 use Rattle.f2_algebra.proofs.Chains.Tables.{and-false, same, ◌⊻◌}
@@ -24,7 +25,9 @@ abbrev pub lacks : (ℕ → ℕ) → (ℕ → ℕ) → ℕ → (ℕ → Bool) �
 lacks O X c Q = not (marks O X Q c)
 
 pub lacks_add : (O X : ℕ → ℕ) (c : ℕ) → IsAdditive (lacks O X c)
-lacks_add O X c Q Q' = same 4 (λ a b c d. not ((a || b) || (c || d))) (λ a b c d. not (a || c) && not (b || d)) refl (Q (O c)) (Q' (O c)) (Q (X c)) (Q' (X c))
+lacks_add O X c Q Q' =
+    same 4 (λ a b c d. not ((a || b) || (c || d))) (λ a b c d. not (a || c) && not (b || d)) refl (Q (O c)) (Q' (O c))
+    (Q (X c)) (Q' (X c))
 
 -- columns r and s, side by side, whose exchange moves the circle s between them
 pub record AreSides (n r s : ℕ) : Type 0 where
@@ -45,7 +48,10 @@ module _ (n r s w : ℕ) (O X : ℕ → ℕ) where
   -- what is asked of a pentagon beside emptiness
   abbrev pub penta : ℕ → ℕ → ℕ → ℕ → Bool
   penta a b j k =
-      (eqb a s || eqb b s) && (between j k w && (free n (two r s) (between a b) (marks O X (between j k)) && (lacks O X s (between j w) && lacks O X r (above_of w k))))
+      (eqb a s || eqb b s)
+      && (between j k w
+      && (free n (two r s) (between a b) (marks O X (between j k))
+      && (lacks O X s (between j w) && lacks O X r (above_of w k))))
 
   -- there is a pentagon from f with its corners at a and b
   abbrev pub is_open_pentagon : (ℕ → ℕ) → ℕ → ℕ → Bool
@@ -53,19 +59,25 @@ module _ (n r s w : ℕ) (O X : ℕ → ℕ) where
 
   -- what is asked of a corner set, by the columns r, s and the others: r holds A rows, s holds B rows
   abbrev pub sides : Bool → Bool → ℕ → ℕ → ℕ → ℕ → Bool
-  sides A B a b j k = not (between a b s && not B) && (not (between a b r && not A) && free n (two r s) (between a b) (marks O X (between j k)))
+  sides A B a b j k = not (between a b s && not B)
+      && (not (between a b r && not A) && free n (two r s) (between a b) (marks O X (between j k)))
 
-  pub unmarked_is : AreSides n r s → (a b j k : ℕ) → unmarked n O X a b j k ≡ sides (lacks O X r (between j k)) (lacks O X s (between j k)) a b j k
+  pub unmarked_is : AreSides n r s → (a b j k : ℕ)
+      → unmarked n O X a b j k ≡ sides (lacks O X r (between j k)) (lacks O X s (between j k)) a b j k
   unmarked_is e a b j k =
       let p : ℕ → Bool = λ t. false || not (between a b t && marks O X (between j k) t) in
       all_below-split n s p e.s-lt
       ∙ ap (λ z. p s && z) (all_below-split n r (λ t. eqb t s || p t) e.r-lt
       ∙ ap (λ z. (z || p r) && all_below n (λ t. eqb t r || (eqb t s || p t))) (ne_eqb r s e.apart)
-      ∙ ap (λ z. p r && z) (all_below-same n (λ t. eqb t r || (eqb t s || p t)) (λ t. two r s t || p t) (λ t l. same 3 (λ x y z. x || (y || z)) (λ x y z. (x || y) || z) refl (eqb t r) (eqb t s) (p t))))
-      ∙ same 5 (λ x a y b z. not (x && a) && (not (y && b) && z)) (λ x a y b z. not (x && not (not a)) && (not (y && not (not b)) && z)) refl
-      (between a b s) (marks O X (between j k) s) (between a b r) (marks O X (between j k) r) (free n (two r s) (between a b) (marks O X (between j k)))
+      ∙ ap (λ z. p r && z) (all_below-same n (λ t. eqb t r || (eqb t s || p t)) (λ t. two r s t || p t)
+      (λ t l. same 3 (λ x y z. x || (y || z)) (λ x y z. (x || y) || z) refl (eqb t r) (eqb t s) (p t))))
+      ∙ same 5 (λ x a y b z. not (x && a) && (not (y && b) && z))
+      (λ x a y b z. not (x && not (not a)) && (not (y && not (not b)) && z)) refl
+      (between a b s) (marks O X (between j k) s) (between a b r) (marks O X (between j k) r)
+      (free n (two r s) (between a b) (marks O X (between j k)))
 
-  pub exchanged_is : AreSides n r s → (a b j k : ℕ) → unmarked n O' X' a b j k ≡ sides (lacks O X s (between j k)) (lacks O X r (between j k)) a b j k
+  pub exchanged_is : AreSides n r s → (a b j k : ℕ)
+      → unmarked n O' X' a b j k ≡ sides (lacks O X s (between j k)) (lacks O X r (between j k)) a b j k
   exchanged_is e a b j k =
       let Q : ℕ → Bool = between j k in
       let p : ℕ → Bool = λ t. false || not (between a b t && marks O' X' Q t) in
@@ -73,31 +85,42 @@ module _ (n r s w : ℕ) (O X : ℕ → ℕ) where
       all_below-split n s p e.s-lt
       ∙ ap (λ z. p s && z) (all_below-split n r (λ t. eqb t s || p t) e.r-lt
       ∙ ap (λ z. (z || p r) && all_below n (λ t. eqb t r || (eqb t s || p t))) (ne_eqb r s e.apart)
-      ∙ ap (λ z. p r && z) (all_below-same n (λ t. eqb t r || (eqb t s || p t)) (λ t. two r s t || p0 t) (λ t l. each t (cases_eq t r) (cases_eq t s))))
+      ∙ ap (λ z. p r && z) (all_below-same n (λ t. eqb t r || (eqb t s || p t)) (λ t. two r s t || p0 t)
+      (λ t l. each t (cases_eq t r) (cases_eq t s))))
       ∙ (λ i. not (between a b s && (Q (exchanged-second O r s e.apart i) || Q (exchanged-second X r s e.apart i)))
-      && (not (between a b r && (Q (exchanged-first O r s i) || Q (exchanged-first X r s i))) && free n (two r s) (between a b) (marks O X Q)))
-      ∙ same 5 (λ x a y b z. not (x && a) && (not (y && b) && z)) (λ x a y b z. not (x && not (not a)) && (not (y && not (not b)) && z)) refl
+      && (not (between a b r && (Q (exchanged-first O r s i) || Q (exchanged-first X r s i)))
+      && free n (two r s) (between a b) (marks O X Q)))
+      ∙ same 5 (λ x a y b z. not (x && a) && (not (y && b) && z))
+      (λ x a y b z. not (x && not (not a)) && (not (y && not (not b)) && z)) refl
       (between a b s) (marks O X Q r) (between a b r) (marks O X Q s) (free n (two r s) (between a b) (marks O X Q))
     where
       each : (t : ℕ) → (t ≡ r) ⊎ (t ≢ r) → (t ≡ s) ⊎ (t ≢ s)
-          → (eqb t r || (eqb t s || (false || not (between a b t && marks O' X' (between j k) t)))) ≡ (two r s t || not (between a b t && marks O X (between j k) t))
+          → (eqb t r || (eqb t s || (false || not (between a b t && marks O' X' (between j k) t))))
+          ≡ (two r s t || not (between a b t && marks O X (between j k) t))
       each t (inl i) y =
           ap (λ z. z || (eqb t s || (false || not (between a b t && marks O' X' (between j k) t)))) (eq-eqb t r i)
           ∙ ap (λ z. (z || eqb t s) || not (between a b t && marks O X (between j k) t)) (sym (eq-eqb t r i))
       each t (inr p) (inl i) =
           ap (λ z. eqb t r || (z || (false || not (between a b t && marks O' X' (between j k) t)))) (eq-eqb t s i)
-          ∙ same 2 (λ x y. x || true) (λ x y. (x || true) || y) refl (eqb t r) (not (between a b t && marks O X (between j k) t))
+          ∙ same 2 (λ x y. x || true) (λ x y. (x || true) || y) refl (eqb t r)
+          (not (between a b t && marks O X (between j k) t))
           ∙ ap (λ z. (eqb t r || z) || not (between a b t && marks O X (between j k) t)) (sym (eq-eqb t s i))
       each t (inr p) (inr q) =
-          (λ i. eqb t r || (eqb t s || not (between a b t && (between j k (exchanged-other O r s t p q i) || between j k (exchanged-other X r s t p q i)))))
-          ∙ same 3 (λ x y z. x || (y || z)) (λ x y z. (x || y) || z) refl (eqb t r) (eqb t s) (not (between a b t && marks O X (between j k) t))
+          (λ i. eqb t r
+          || (eqb t s
+          || not (between a b t
+          && (between j k (exchanged-other O r s t p q i) || between j k (exchanged-other X r s t p q i)))))
+          ∙ same 3 (λ x y z. x || (y || z)) (λ x y z. (x || y) || z) refl (eqb t r) (eqb t s)
+          (not (between a b t && marks O X (between j k) t))
 
-  module _ (e : AreSides n r s) (f : ℕ → ℕ) (one : IsOneToOne n f) (p : Place → ℕ) (d : AreColumns n p) (at0 : p first ≡ s) where
+  module _ (e : AreSides n r s) (f : ℕ → ℕ) (one : IsOneToOne n f) (p : Place → ℕ) (d : AreColumns n p)
+      (at0 : p first ≡ s) where
     pub right_is : (sg : Bool) (m : Place) → between (start_of p sg m) (end_of p sg m) s ≡ has_right (order_of p) m sg
     right_is true first = ap (between (p first) (p second)) (sym at0) ∙ between_start (p first) (p second) d.apart.ab
     right_is false first = ap (between (p second) (p first)) (sym at0) ∙ between_end (p second) (p first)
     right_is true third = ap (between (p third) (p first)) (sym at0) ∙ between_end (p third) (p first)
-    right_is false third = ap (between (p first) (p third)) (sym at0) ∙ between_start (p first) (p third) (λ i. d.apart.ca (sym i))
+    right_is false third =
+        ap (between (p first) (p third)) (sym at0) ∙ between_start (p first) (p third) (λ i. d.apart.ca (sym i))
     right_is true second = ap (between (p second) (p third)) (sym at0) ∙ span_third p d.apart true second
     right_is false second = ap (between (p third) (p second)) (sym at0) ∙ span_third p d.apart false second
 
@@ -107,7 +130,8 @@ module _ (n r s w : ℕ) (O X : ℕ → ℕ) where
     pub left_is : (sg : Bool) (m : Place) → between (start_of p sg m) (end_of p sg m) r ≡ has_left (order_of p) m sg
     left_is true first =
         e.before (p first) (p second) (d.small first) (d.small second) d.apart.ab
-        ∙ ap₂ (λ x y. (between (p first) (p second) s && x) || y) (ap (λ z. differ z (p first)) (sym at0) ∙ differ-self (p first)) (s-is second (λ i. d.apart.ab (sym i)))
+        ∙ ap₂ (λ x y. (between (p first) (p second) s && x) || y)
+        (ap (λ z. differ z (p first)) (sym at0) ∙ differ-self (p first)) (s-is second (λ i. d.apart.ab (sym i)))
         ∙ same 1 (λ x. (x && false) || false) (λ x. false) refl (between (p first) (p second) s)
     left_is false first =
         e.before (p second) (p first) (d.small second) (d.small first) (λ i. d.apart.ab (sym i))
@@ -119,25 +143,30 @@ module _ (n r s w : ℕ) (O X : ℕ → ℕ) where
         ∙ same 1 (λ x. x || true) (λ x. true) refl (between (p third) (p first) s && differ s (p third))
     left_is false third =
         e.before (p first) (p third) (d.small first) (d.small third) (λ i. d.apart.ca (sym i))
-        ∙ ap₂ (λ x y. (between (p first) (p third) s && x) || y) (ap (λ z. differ z (p first)) (sym at0) ∙ differ-self (p first)) (s-is third d.apart.ca)
+        ∙ ap₂ (λ x y. (between (p first) (p third) s && x) || y)
+        (ap (λ z. differ z (p first)) (sym at0) ∙ differ-self (p first)) (s-is third d.apart.ca)
         ∙ same 1 (λ x. (x && false) || false) (λ x. false) refl (between (p first) (p third) s)
     left_is true second =
         e.before (p second) (p third) (d.small second) (d.small third) d.apart.bc
-        ∙ ap₂ (λ x y. (between (p second) (p third) s && x) || y) (differ-true s (p second) (λ i. d.apart.ab (at0 ∙ i))) (s-is third d.apart.ca)
+        ∙ ap₂ (λ x y. (between (p second) (p third) s && x) || y) (differ-true s (p second) (λ i. d.apart.ab (at0 ∙ i)))
+        (s-is third d.apart.ca)
         ∙ same 1 (λ x. (x && true) || false) (λ x. x) refl (between (p second) (p third) s)
         ∙ right_is true second
     left_is false second =
         e.before (p third) (p second) (d.small third) (d.small second) (λ i. d.apart.bc (sym i))
-        ∙ ap₂ (λ x y. (between (p third) (p second) s && x) || y) (differ-true s (p third) (λ i. d.apart.ca (sym (at0 ∙ i)))) (s-is second (λ i. d.apart.ab (sym i)))
+        ∙ ap₂ (λ x y. (between (p third) (p second) s && x) || y)
+        (differ-true s (p third) (λ i. d.apart.ca (sym (at0 ∙ i)))) (s-is second (λ i. d.apart.ab (sym i)))
         ∙ same 1 (λ x. (x && true) || false) (λ x. x) refl (between (p third) (p second) s)
         ∙ right_is false second
 
     pub corner_is : (sg : Bool) (m : Place) → (eqb (start_of p sg m) s || eqb (end_of p sg m) s) ≡ has_corner m
     corner_is true first = ap (λ x. x || eqb (p second) s) (eq-eqb (p first) s at0)
-    corner_is false first = ap (λ x. eqb (p second) s || x) (eq-eqb (p first) s at0) ∙ same 1 (λ x. x || true) (λ x. true) refl (eqb (p second) s)
+    corner_is false first = ap (λ x. eqb (p second) s || x) (eq-eqb (p first) s at0)
+        ∙ same 1 (λ x. x || true) (λ x. true) refl (eqb (p second) s)
     corner_is true second = ap₂ (λ x y. x || y) (s-is second (λ i. d.apart.ab (sym i))) (s-is third d.apart.ca)
     corner_is false second = ap₂ (λ x y. x || y) (s-is third d.apart.ca) (s-is second (λ i. d.apart.ab (sym i)))
-    corner_is true third = ap (λ x. eqb (p third) s || x) (eq-eqb (p first) s at0) ∙ same 1 (λ x. x || true) (λ x. true) refl (eqb (p third) s)
+    corner_is true third = ap (λ x. eqb (p third) s || x) (eq-eqb (p first) s at0)
+        ∙ same 1 (λ x. x || true) (λ x. true) refl (eqb (p third) s)
     corner_is false third = ap (λ x. x || eqb (p third) s) (eq-eqb (p first) s at0)
 
     -- the arc that w is in, and what is asked of the arcs of rows
@@ -164,23 +193,35 @@ module _ (n r s w : ℕ) (O X : ℕ → ℕ) where
 
     pub penta_rect : (g : ℕ → ℕ) (sg : Bool) (m : Place) (s' : Bool) (m' : Place)
         → g (start_of p sg m) ≡ start_of (rows_of f p) s' m' → g (end_of p sg m) ≡ end_of (rows_of f p) s' m'
-        → (is_clear_of n g (start_of p sg m) (end_of p sg m) (g (start_of p sg m)) (g (end_of p sg m)) && free n (two r s) (between (start_of p sg m) (end_of p sg m)) (marks O X (between (g (start_of p sg m)) (g (end_of p sg m)))))
+        → (is_clear_of n g (start_of p sg m) (end_of p sg m) (g (start_of p sg m)) (g (end_of p sg m))
+        && free n (two r s) (between (start_of p sg m) (end_of p sg m))
+        (marks O X (between (g (start_of p sg m)) (g (end_of p sg m)))))
         ≡ rectangle_value (order_of p) (order_of (rows_of f p)) cells sg m s' m'
-        → is_open_pentagon g (start_of p sg m) (end_of p sg m) ≡ (rectangle_value (order_of p) (order_of (rows_of f p)) cells sg m s' m' && (has_corner m && the_pent s' m'))
+        → is_open_pentagon g (start_of p sg m) (end_of p sg m)
+        ≡ (rectangle_value (order_of p) (order_of (rows_of f p)) cells sg m s' m' && (has_corner m && the_pent s' m'))
     unfolding low_part high_part
     penta_rect g sg m s' m' e1 e2 h =
         let q : Place → ℕ = rows_of f p in
         let em : Bool = is_clear_of n g (start_of p sg m) (end_of p sg m) (g (start_of p sg m)) (g (end_of p sg m)) in
-        let fr : Bool = free n (two r s) (between (start_of p sg m) (end_of p sg m)) (marks O X (between (g (start_of p sg m)) (g (end_of p sg m)))) in
-        (λ i. differ-true (start_of p sg m) (end_of p sg m) (start_of-end_of p d.apart sg m) i && (em && (corner_is sg m i && (between (e1 i) (e2 i) w && (fr && (lacks O X s (between (e1 i) w) && lacks O X r (above_of w (e2 i))))))))
-        ∙ same 6 (λ a c b g x y. a && (c && (b && (g && (x && y))))) (λ a c b g x y. (a && g) && (c && (b && (x && y)))) refl
-        em (has_corner m) (between (start_of q s' m') (end_of q s' m') w) fr (lacks O X s (between (start_of q s' m') w)) (lacks O X r (above_of w (end_of q s' m')))
+        let fr : Bool =
+        free n (two r s) (between (start_of p sg m) (end_of p sg m))
+        (marks O X (between (g (start_of p sg m)) (g (end_of p sg m)))) in
+        (λ i. differ-true (start_of p sg m) (end_of p sg m) (start_of-end_of p d.apart sg m) i
+        && (em && (corner_is sg m i
+        && (between (e1 i) (e2 i) w
+        && (fr && (lacks O X s (between (e1 i) w) && lacks O X r (above_of w (e2 i))))))))
+        ∙ same 6 (λ a c b g x y. a && (c && (b && (g && (x && y)))))
+        (λ a c b g x y. (a && g) && (c && (b && (x && y)))) refl
+        em (has_corner m) (between (start_of q s' m') (end_of q s' m') w) fr
+        (lacks O X s (between (start_of q s' m') w)) (lacks O X r (above_of w (end_of q s' m')))
         ∙ ap₂ (λ x y. x && (has_corner m && y)) h
-        (pent_is (lacks O X s) (lacks O X r) (lacks_add O X s) (lacks_add O X r) w q (rows_apart n f p one d) place.0 place.1 s' m')
+        (pent_is (lacks O X s) (lacks O X r) (lacks_add O X s) (lacks_add O X r) w q
+        (rows_apart n f p one d) place.0 place.1 s' m')
 
     pub along_of : (c : ℕ) (g : ℕ → ℕ) (sg : Bool) (m : Place) (s' : Bool) (m' : Place)
         → g (start_of p sg m) ≡ start_of (rows_of f p) s' m' → g (end_of p sg m) ≡ end_of (rows_of f p) s' m'
-        → lacks O X c (between (g (start_of p sg m)) (g (end_of p sg m))) ≡ along (order_of (rows_of f p)) s' m' (λ x. lacks O X c (span (rows_of f p) (order_of (rows_of f p)) x))
+        → lacks O X c (between (g (start_of p sg m)) (g (end_of p sg m)))
+        ≡ along (order_of (rows_of f p)) s' m' (λ x. lacks O X c (span (rows_of f p) (order_of (rows_of f p)) x))
     along_of c g sg m s' m' e1 e2 =
         (λ i. lacks O X c (between (e1 i) (e2 i)))
         ∙ ap (lacks O X c) (span_is (rows_of f p) s' m')
@@ -188,46 +229,77 @@ module _ (n r s w : ℕ) (O X : ℕ → ℕ) where
 
     sides_rect : (cl cr : ℕ) (g : ℕ → ℕ) (sg : Bool) (m : Place) (s' : Bool) (m' : Place)
         → g (start_of p sg m) ≡ start_of (rows_of f p) s' m' → g (end_of p sg m) ≡ end_of (rows_of f p) s' m'
-        → (is_clear_of n g (start_of p sg m) (end_of p sg m) (g (start_of p sg m)) (g (end_of p sg m)) && free n (two r s) (between (start_of p sg m) (end_of p sg m)) (marks O X (between (g (start_of p sg m)) (g (end_of p sg m)))))
+        → (is_clear_of n g (start_of p sg m) (end_of p sg m) (g (start_of p sg m)) (g (end_of p sg m))
+        && free n (two r s) (between (start_of p sg m) (end_of p sg m))
+        (marks O X (between (g (start_of p sg m)) (g (end_of p sg m)))))
         ≡ rectangle_value (order_of p) (order_of (rows_of f p)) cells sg m s' m'
-        → (differ (start_of p sg m) (end_of p sg m) && (is_clear_of n g (start_of p sg m) (end_of p sg m) (g (start_of p sg m)) (g (end_of p sg m))
-        && sides (lacks O X cl (between (g (start_of p sg m)) (g (end_of p sg m)))) (lacks O X cr (between (g (start_of p sg m)) (g (end_of p sg m)))) (start_of p sg m) (end_of p sg m) (g (start_of p sg m)) (g (end_of p sg m))))
+        → (differ (start_of p sg m) (end_of p sg m)
+        && (is_clear_of n g (start_of p sg m) (end_of p sg m) (g (start_of p sg m)) (g (end_of p sg m))
+        && sides (lacks O X cl (between (g (start_of p sg m)) (g (end_of p sg m))))
+        (lacks O X cr (between (g (start_of p sg m)) (g (end_of p sg m)))) (start_of p sg m) (end_of p sg m)
+        (g (start_of p sg m)) (g (end_of p sg m))))
         ≡ (rectangle_value (order_of p) (order_of (rows_of f p)) cells sg m s' m'
-        && strip (order_of p) (order_of (rows_of f p)) (λ x. lacks O X cl (span (rows_of f p) (order_of (rows_of f p)) x)) (λ x. lacks O X cr (span (rows_of f p) (order_of (rows_of f p)) x)) m sg s' m')
+        && strip (order_of p) (order_of (rows_of f p))
+        (λ x. lacks O X cl (span (rows_of f p) (order_of (rows_of f p)) x))
+        (λ x. lacks O X cr (span (rows_of f p) (order_of (rows_of f p)) x)) m sg s' m')
     sides_rect cl cr g sg m s' m' e1 e2 h =
         let em : Bool = is_clear_of n g (start_of p sg m) (end_of p sg m) (g (start_of p sg m)) (g (end_of p sg m)) in
-        let fr : Bool = free n (two r s) (between (start_of p sg m) (end_of p sg m)) (marks O X (between (g (start_of p sg m)) (g (end_of p sg m)))) in
+        let fr : Bool =
+        free n (two r s) (between (start_of p sg m) (end_of p sg m))
+        (marks O X (between (g (start_of p sg m)) (g (end_of p sg m)))) in
         (λ i. differ-true (start_of p sg m) (end_of p sg m) (start_of-end_of p d.apart sg m) i && (em
-        && (not (right_is sg m i && not (along_of cr g sg m s' m' e1 e2 i)) && (not (left_is sg m i && not (along_of cl g sg m s' m' e1 e2 i)) && fr))))
+        && (not (right_is sg m i && not (along_of cr g sg m s' m' e1 e2 i))
+        && (not (left_is sg m i && not (along_of cl g sg m s' m' e1 e2 i)) && fr))))
         ∙ same 4 (λ a x y g. a && (x && (y && g))) (λ a x y g. (a && g) && (x && y)) refl em
-        (not (has_right (order_of p) m sg && not (along (order_of (rows_of f p)) s' m' (λ x. lacks O X cr (span (rows_of f p) (order_of (rows_of f p)) x)))))
-        (not (has_left (order_of p) m sg && not (along (order_of (rows_of f p)) s' m' (λ x. lacks O X cl (span (rows_of f p) (order_of (rows_of f p)) x))))) fr
-        ∙ ap (λ x. x && strip (order_of p) (order_of (rows_of f p)) (λ x. lacks O X cl (span (rows_of f p) (order_of (rows_of f p)) x)) (λ x. lacks O X cr (span (rows_of f p) (order_of (rows_of f p)) x)) m sg s' m') h
+        (not (has_right (order_of p) m sg
+        && not (along (order_of (rows_of f p)) s' m'
+        (λ x. lacks O X cr (span (rows_of f p) (order_of (rows_of f p)) x)))))
+        (not (has_left (order_of p) m sg
+        && not (along (order_of (rows_of f p)) s' m'
+        (λ x. lacks O X cl (span (rows_of f p) (order_of (rows_of f p)) x))))) fr
+        ∙ ap (λ x. x
+        && strip (order_of p) (order_of (rows_of f p))
+        (λ x. lacks O X cl (span (rows_of f p) (order_of (rows_of f p)) x))
+        (λ x. lacks O X cr (span (rows_of f p) (order_of (rows_of f p)) x)) m sg s' m') h
 
     pub orig_rect : (g : ℕ → ℕ) (sg : Bool) (m : Place) (s' : Bool) (m' : Place)
         → g (start_of p sg m) ≡ start_of (rows_of f p) s' m' → g (end_of p sg m) ≡ end_of (rows_of f p) s' m'
-        → (is_clear_of n g (start_of p sg m) (end_of p sg m) (g (start_of p sg m)) (g (end_of p sg m)) && free n (two r s) (between (start_of p sg m) (end_of p sg m)) (marks O X (between (g (start_of p sg m)) (g (end_of p sg m)))))
+        → (is_clear_of n g (start_of p sg m) (end_of p sg m) (g (start_of p sg m)) (g (end_of p sg m))
+        && free n (two r s) (between (start_of p sg m) (end_of p sg m))
+        (marks O X (between (g (start_of p sg m)) (g (end_of p sg m)))))
         ≡ rectangle_value (order_of p) (order_of (rows_of f p)) cells sg m s' m'
-        → is_open n O X g (start_of p sg m) (end_of p sg m) ≡ (rectangle_value (order_of p) (order_of (rows_of f p)) cells sg m s' m' && strip (order_of p) (order_of (rows_of f p)) no_left no_right m sg s' m')
+        → is_open n O X g (start_of p sg m) (end_of p sg m)
+        ≡ (rectangle_value (order_of p) (order_of (rows_of f p)) cells sg m s' m'
+        && strip (order_of p) (order_of (rows_of f p)) no_left no_right m sg s' m')
     orig_rect g sg m s' m' e1 e2 h =
-        ap (λ x. differ (start_of p sg m) (end_of p sg m) && (is_clear_of n g (start_of p sg m) (end_of p sg m) (g (start_of p sg m)) (g (end_of p sg m)) && x)) (unmarked_is e (start_of p sg m) (end_of p sg m) (g (start_of p sg m)) (g (end_of p sg m)))
+        ap (λ x. differ (start_of p sg m) (end_of p sg m)
+        && (is_clear_of n g (start_of p sg m) (end_of p sg m) (g (start_of p sg m)) (g (end_of p sg m)) && x))
+        (unmarked_is e (start_of p sg m) (end_of p sg m) (g (start_of p sg m)) (g (end_of p sg m)))
         ∙ sides_rect r s g sg m s' m' e1 e2 h
 
     exch_rect : (g : ℕ → ℕ) (sg : Bool) (m : Place) (s' : Bool) (m' : Place)
         → g (start_of p sg m) ≡ start_of (rows_of f p) s' m' → g (end_of p sg m) ≡ end_of (rows_of f p) s' m'
-        → (is_clear_of n g (start_of p sg m) (end_of p sg m) (g (start_of p sg m)) (g (end_of p sg m)) && free n (two r s) (between (start_of p sg m) (end_of p sg m)) (marks O X (between (g (start_of p sg m)) (g (end_of p sg m)))))
+        → (is_clear_of n g (start_of p sg m) (end_of p sg m) (g (start_of p sg m)) (g (end_of p sg m))
+        && free n (two r s) (between (start_of p sg m) (end_of p sg m))
+        (marks O X (between (g (start_of p sg m)) (g (end_of p sg m)))))
         ≡ rectangle_value (order_of p) (order_of (rows_of f p)) cells sg m s' m'
-        → is_open n O' X' g (start_of p sg m) (end_of p sg m) ≡ (rectangle_value (order_of p) (order_of (rows_of f p)) cells sg m s' m' && strip (order_of p) (order_of (rows_of f p)) no_right no_left m sg s' m')
+        → is_open n O' X' g (start_of p sg m) (end_of p sg m)
+        ≡ (rectangle_value (order_of p) (order_of (rows_of f p)) cells sg m s' m'
+        && strip (order_of p) (order_of (rows_of f p)) no_right no_left m sg s' m')
     exch_rect g sg m s' m' e1 e2 h =
-        ap (λ x. differ (start_of p sg m) (end_of p sg m) && (is_clear_of n g (start_of p sg m) (end_of p sg m) (g (start_of p sg m)) (g (end_of p sg m)) && x)) (exchanged_is e (start_of p sg m) (end_of p sg m) (g (start_of p sg m)) (g (end_of p sg m)))
+        ap (λ x. differ (start_of p sg m) (end_of p sg m)
+        && (is_clear_of n g (start_of p sg m) (end_of p sg m) (g (start_of p sg m)) (g (end_of p sg m)) && x))
+        (exchanged_is e (start_of p sg m) (end_of p sg m) (g (start_of p sg m)) (g (end_of p sg m)))
         ∙ sides_rect s r g sg m s' m' e1 e2 h
 
     the_weight : Place → Bool → Bool → Bool
     the_weight = pair_weight (order_of p) (order_of (rows_of f p)) place.0 no_left no_right low_part high_part
 
     one_term : (m : Place) (s1 s2 : Bool) (t : Bool) → let g : ℕ → ℕ = exchanged f (p m) (p (next m)) in
-        ((is_open_pentagon f (start_of p s1 m) (end_of p s1 m) && (is_open n O' X' g (start_of p s2 (next m)) (end_of p s2 (next m)) && t))
-        ⊻ (is_open n O X f (start_of p s1 m) (end_of p s1 m) && (is_open_pentagon g (start_of p s2 (next m)) (end_of p s2 (next m)) && t)))
+        ((is_open_pentagon f (start_of p s1 m) (end_of p s1 m)
+        && (is_open n O' X' g (start_of p s2 (next m)) (end_of p s2 (next m)) && t))
+        ⊻ (is_open n O X f (start_of p s1 m) (end_of p s1 m)
+        && (is_open_pentagon g (start_of p s2 (next m)) (end_of p s2 (next m)) && t)))
         ≡ ((term (order_of p) (order_of (rows_of f p)) cells m s1 s2 && the_weight m s1 s2) && t)
     unfolding the_weight
     one_term m s1 s2 t =
@@ -241,13 +313,17 @@ module _ (n r s w : ℕ) (O X : ℕ → ℕ) where
         let b2 = second_end n f p d m s2 in
         (λ i. (penta_rect f s1 m s1 m a1 b1 h1 i && (exch_rect g s2 (next m) (not s2) (next (next m)) a2 b2 h2 i && t))
         ⊻ (orig_rect f s1 m s1 m a1 b1 h1 i && (penta_rect g s2 (next m) (not s2) (next (next m)) a2 b2 h2 i && t)))
-        ∙ same 7 (λ x c y z o k t. ((x && c) && ((y && z) && t)) ⊻ ((x && o) && ((y && k) && t))) (λ x c y z o k t. ((x && y) && ((c && z) ⊻ (o && k))) && t) refl
+        ∙ same 7 (λ x c y z o k t. ((x && c) && ((y && z) && t)) ⊻ ((x && o) && ((y && k) && t)))
+        (λ x c y z o k t. ((x && y) && ((c && z) ⊻ (o && k))) && t) refl
         (rectangle_value (order_of p) (order_of q) cells s1 m s1 m) (has_corner m && the_pent s1 m)
-        (rectangle_value (order_of p) (order_of q) cells s2 (next m) (not s2) (next (next m))) (strip (order_of p) (order_of q) no_right no_left (next m) s2 (not s2) (next (next m)))
-        (strip (order_of p) (order_of q) no_left no_right m s1 s1 m) (has_corner (next m) && the_pent (not s2) (next (next m))) t
+        (rectangle_value (order_of p) (order_of q) cells s2 (next m) (not s2) (next (next m)))
+        (strip (order_of p) (order_of q) no_right no_left (next m) s2 (not s2) (next (next m)))
+        (strip (order_of p) (order_of q) no_left no_right m s1 s1 m)
+        (has_corner (next m) && the_pent (not s2) (next (next m))) t
 
   module _ (f : ℕ → ℕ) (T : (ℕ → ℕ) → Bool) where
-    -- a pentagon and then a corner set of the exchanged grid, or a corner set and then a pentagon, to a state that T passes
+    -- a pentagon and then a corner set of the exchanged grid, or a corner set and then a pentagon, to a state that T
+    -- passes
     abbrev pub pair_steps : ℕ → ℕ → ℕ → ℕ → Bool
     pair_steps a b c d =
         (is_open_pentagon f a b && (is_open n O' X' (exchanged f a b) c d && T (exchanged (exchanged f a b) c d)))
@@ -256,7 +332,9 @@ module _ (n r s w : ℕ) (O X : ℕ → ℕ) where
     module _ (e : AreSides n r s) (one : IsOneToOne n f) where
       three_is : (p : Place → ℕ) (d : AreColumns n p) (at0 : p first ≡ s) (m : Place)
           → at_three n pair_steps (p m) (p (next m)) (p (next (next m)))
-          ≡ (weighted (order_of p) (order_of (rows_of f p)) (arc_values n O X f (two r s) p) (the_weight e f one p d at0) m && T (exchanged (exchanged f (p m) (p (next m))) (p (next m)) (p (next (next m)))))
+          ≡ (weighted (order_of p) (order_of (rows_of f p)) (arc_values n O X f (two r s) p)
+          (the_weight e f one p d at0) m
+          && T (exchanged (exchanged f (p m) (p (next m))) (p (next m)) (p (next (next m)))))
       three_is p d at0 m =
           let a : ℕ = p m in
           let b : ℕ = p (next m) in
@@ -267,18 +345,35 @@ module _ (n r s w : ℕ) (O X : ℕ → ℕ) where
           let v : Bool = order_of (rows_of f p) in
           let k : Place → Place → Bool = arc_values n O X f (two r s) p in
           let S : Place → Bool → Bool → Bool = the_weight e f one p d at0 in
-          (λ i. (pair_steps a b b c ⊻ ((is_open_pentagon f a b && (is_open n O' X' g c b && T (exchanged_comm g c b i))) ⊻ (is_open n O X f a b && (is_open_pentagon g c b && T (exchanged_comm g c b i)))))
-          ⊻ (((is_open_pentagon f b a && (is_open n O' X' (exchanged_comm f b a i) b c && T (exchanged (exchanged_comm f b a i) b c))) ⊻ (is_open n O X f b a && (is_open_pentagon (exchanged_comm f b a i) b c && T (exchanged (exchanged_comm f b a i) b c))))
-          ⊻ ((is_open_pentagon f b a && (is_open n O' X' (exchanged_comm f b a i) c b && T (exchanged (exchanged_comm f b a i) c b))) ⊻ (is_open n O X f b a && (is_open_pentagon (exchanged_comm f b a i) c b && T (exchanged (exchanged_comm f b a i) c b))))))
-          ∙ (λ i. (pair_steps a b b c ⊻ ((is_open_pentagon f a b && (is_open n O' X' g c b && t)) ⊻ (is_open n O X f a b && (is_open_pentagon g c b && t))))
-          ⊻ (((is_open_pentagon f b a && (is_open n O' X' g b c && t)) ⊻ (is_open n O X f b a && (is_open_pentagon g b c && t)))
-          ⊻ ((is_open_pentagon f b a && (is_open n O' X' g c b && T (exchanged_comm g c b i))) ⊻ (is_open n O X f b a && (is_open_pentagon g c b && T (exchanged_comm g c b i))))))
-          ∙ (λ i. (one_term e f one p d at0 m true true t i ⊻ one_term e f one p d at0 m true false t i) ⊻ (one_term e f one p d at0 m false true t i ⊻ one_term e f one p d at0 m false false t i))
-          ∙ same 5 (λ x y z w t. ((x && t) ⊻ (y && t)) ⊻ ((z && t) ⊻ (w && t))) (λ x y z w t. ((x ⊻ y) ⊻ (z ⊻ w)) && t) refl
-          (term u v k m true true && S m true true) (term u v k m true false && S m true false) (term u v k m false true && S m false true) (term u v k m false false && S m false false) t
+          (λ i. (pair_steps a b b c
+          ⊻ ((is_open_pentagon f a b && (is_open n O' X' g c b && T (exchanged_comm g c b i)))
+          ⊻ (is_open n O X f a b && (is_open_pentagon g c b && T (exchanged_comm g c b i)))))
+          ⊻ (((is_open_pentagon f b a
+          && (is_open n O' X' (exchanged_comm f b a i) b c && T (exchanged (exchanged_comm f b a i) b c)))
+          ⊻ (is_open n O X f b a
+          && (is_open_pentagon (exchanged_comm f b a i) b c && T (exchanged (exchanged_comm f b a i) b c))))
+          ⊻ ((is_open_pentagon f b a
+          && (is_open n O' X' (exchanged_comm f b a i) c b && T (exchanged (exchanged_comm f b a i) c b)))
+          ⊻ (is_open n O X f b a
+          && (is_open_pentagon (exchanged_comm f b a i) c b && T (exchanged (exchanged_comm f b a i) c b))))))
+          ∙ (λ i. (pair_steps a b b c
+          ⊻ ((is_open_pentagon f a b && (is_open n O' X' g c b && t))
+          ⊻ (is_open n O X f a b && (is_open_pentagon g c b && t))))
+          ⊻ (((is_open_pentagon f b a && (is_open n O' X' g b c && t))
+          ⊻ (is_open n O X f b a && (is_open_pentagon g b c && t)))
+          ⊻ ((is_open_pentagon f b a && (is_open n O' X' g c b && T (exchanged_comm g c b i)))
+          ⊻ (is_open n O X f b a && (is_open_pentagon g c b && T (exchanged_comm g c b i))))))
+          ∙ (λ i. (one_term e f one p d at0 m true true t i ⊻ one_term e f one p d at0 m true false t i)
+          ⊻ (one_term e f one p d at0 m false true t i ⊻ one_term e f one p d at0 m false false t i))
+          ∙ same 5 (λ x y z w t. ((x && t) ⊻ (y && t)) ⊻ ((z && t) ⊻ (w && t)))
+          (λ x y z w t. ((x ⊻ y) ⊻ (z ⊻ w)) && t) refl
+          (term u v k m true true && S m true true) (term u v k m true false && S m true false)
+          (term u v k m false true && S m false true) (term u v k m false false && S m false false) t
 
       three_at : (p : Place → ℕ) (d : AreColumns n p) (at0 : p first ≡ s)
-          → at_three n pair_steps (p first) (p second) (p third) ⊻ (at_three n pair_steps (p second) (p third) (p first) ⊻ at_three n pair_steps (p third) (p first) (p second)) ≡ false
+          → at_three n pair_steps (p first) (p second) (p third)
+          ⊻ (at_three n pair_steps (p second) (p third) (p first)
+          ⊻ at_three n pair_steps (p third) (p first) (p second)) ≡ false
       unfolding the_weight
       three_at p d at0 =
           let a : ℕ = p first in
@@ -289,28 +384,39 @@ module _ (n r s w : ℕ) (O X : ℕ → ℕ) where
           let k : Place → Place → Bool = arc_values n O X f (two r s) p in
           let S : Place → Bool → Bool → Bool = the_weight e f one p d at0 in
           let t : Bool = T (exchanged (exchanged f a b) b c) in
-          let e1 : exchanged (exchanged f b c) c a ≡ exchanged (exchanged f a b) b c = sym (exchanged_three f a b c d.apart.ab d.apart.bc d.apart.ca) in
-          let e2 : exchanged (exchanged f c a) a b ≡ exchanged (exchanged f a b) b c = exchanged_three f c a b d.apart.ca d.apart.ab d.apart.bc in
+          let e1 : exchanged (exchanged f b c) c a ≡ exchanged (exchanged f a b) b c =
+          sym (exchanged_three f a b c d.apart.ab d.apart.bc d.apart.ca) in
+          let e2 : exchanged (exchanged f c a) a b ≡ exchanged (exchanged f a b) b c =
+          exchanged_three f c a b d.apart.ca d.apart.ab d.apart.bc in
           (λ i. three_is p d at0 first i ⊻ (three_is p d at0 second i ⊻ three_is p d at0 third i))
-          ∙ (λ i. (weighted u v k S first && t) ⊻ ((weighted u v k S second && T (e1 i)) ⊻ (weighted u v k S third && T (e2 i))))
+          ∙ (λ i. (weighted u v k S first && t)
+          ⊻ ((weighted u v k S second && T (e1 i)) ⊻ (weighted u v k S third && T (e2 i))))
           ∙ same 4 (λ x y z w. (x && w) ⊻ ((y && w) ⊻ (z && w))) (λ x y z w. (x ⊻ (y ⊻ z)) && w) refl
           (weighted u v k S first) (weighted u v k S second) (weighted u v k S third) t
-          ∙ ap (λ z. z && t) (weighted_cancel u v k S (weights_paired u v (place e f one p d at0).0 (no_left e f one p d at0) (no_right e f one p d at0) (low_part e f one p d at0) (high_part e f one p d at0)))
+          ∙ ap (λ z. z && t) (weighted_cancel u v k S (weights_paired u v (place e f one p d at0).0
+          (no_left e f one p d at0) (no_right e f one p d at0) (low_part e f one p d at0)
+          (high_part e f one p d at0)))
 
       -- where no place is s there is no pentagon
       no_penta : (g : ℕ → ℕ) (a b : ℕ) → a ≢ s → b ≢ s → is_open_pentagon g a b ≡ false
       no_penta g a b p q =
           (λ i. differ a b && (is_clear_of n g a b (g a) (g b) && ((ne_eqb a s p i || ne_eqb b s q i)
-          && (between (g a) (g b) w && (free n (two r s) (between a b) (marks O X (between (g a) (g b))) && (lacks O X s (between (g a) w) && lacks O X r (above_of w (g b))))))))
+          && (between (g a) (g b) w
+          && (free n (two r s) (between a b) (marks O X (between (g a) (g b)))
+          && (lacks O X s (between (g a) w) && lacks O X r (above_of w (g b))))))))
           ∙ same 2 (λ x y. x && (y && false)) (λ x y. false) refl (differ a b) (is_clear_of n g a b (g a) (g b))
 
       no_pair : (a b c d : ℕ) → a ≢ s → b ≢ s → c ≢ s → d ≢ s → pair_steps a b c d ≡ false
       no_pair a b c d pa pb pc pd =
-          (λ i. (no_penta f a b pa pb i && (is_open n O' X' (exchanged f a b) c d && T (exchanged (exchanged f a b) c d))) ⊻ (is_open n O X f a b && (no_penta (exchanged f a b) c d pc pd i && T (exchanged (exchanged f a b) c d))))
+          (λ i. (no_penta f a b pa pb i
+          && (is_open n O' X' (exchanged f a b) c d && T (exchanged (exchanged f a b) c d)))
+          ⊻ (is_open n O X f a b && (no_penta (exchanged f a b) c d pc pd i && T (exchanged (exchanged f a b) c d))))
           ∙ and-false (is_open n O X f a b)
 
       none_three : (a b c : ℕ) → a ≢ s → b ≢ s → c ≢ s → at_three n pair_steps a b c ≡ false
-      none_three a b c pa pb pc = λ i. (no_pair a b b c pa pb pb pc i ⊻ no_pair a b c b pa pb pc pb i) ⊻ (no_pair b a b c pb pa pb pc i ⊻ no_pair b a c b pb pa pc pb i)
+      none_three a b c pa pb pc =
+          λ i. (no_pair a b b c pa pb pb pc i ⊻ no_pair a b c b pa pb pc pb i)
+          ⊻ (no_pair b a b c pb pa pb pc i ⊻ no_pair b a c b pb pa pc pb i)
 
       pub three_none : (a b c : ℕ) → a < n → b < n → c < n → three_differ a b c ≡ true
           → at_three n pair_steps a b c ⊻ (at_three n pair_steps b c a ⊻ at_three n pair_steps c a b) ≡ false
@@ -318,11 +424,13 @@ module _ (n r s w : ℕ) (O X : ℕ → ℕ) where
         | inl i ↦ three_at (three a b c) (AreColumns-from n a b c la lb lc h) i
         | inr pa ↦ elim (cases_eq b s) [
           | inl i ↦
-              same 3 (λ x y z. x ⊻ (y ⊻ z)) (λ x y z. y ⊻ (z ⊻ x)) refl (at_three n pair_steps a b c) (at_three n pair_steps b c a) (at_three n pair_steps c a b)
+              same 3 (λ x y z. x ⊻ (y ⊻ z)) (λ x y z. y ⊻ (z ⊻ x)) refl (at_three n pair_steps a b c)
+              (at_three n pair_steps b c a) (at_three n pair_steps c a b)
               ∙ three_at (three b c a) (AreColumns-from n b c a lb lc la (three_differ-next a b c ∙ h)) i
           | inr pb ↦ elim (cases_eq c s) [
             | inl i ↦
-                same 3 (λ x y z. x ⊻ (y ⊻ z)) (λ x y z. z ⊻ (x ⊻ y)) refl (at_three n pair_steps a b c) (at_three n pair_steps b c a) (at_three n pair_steps c a b)
+                same 3 (λ x y z. x ⊻ (y ⊻ z)) (λ x y z. z ⊻ (x ⊻ y)) refl (at_three n pair_steps a b c)
+                (at_three n pair_steps b c a) (at_three n pair_steps c a b)
                 ∙ three_at (three c a b) (AreColumns-from n c a b lc la lb (sym (three_differ-next c a b) ∙ h)) i
             | inr pc ↦ λ i. none_three a b c pa pb pc i ⊻ (none_three b c a pb pc pa i ⊻ none_three c a b pc pa pb i)
           ]
@@ -334,30 +442,50 @@ module _ (n r s w : ℕ) (O X : ℕ → ℕ) where
       far c d j k lc ld cd sc sd =
           let x : Bool = between c d s in
           let b : between c d r ≡ x =
-          e.before c d lc ld cd ∙ (λ i. (x && differ-true s c sc i) || ne_eqb d s (λ y. sd (sym y)) i) ∙ same 1 (λ x. (x && true) || false) (λ x. x) refl x in
+          e.before c d lc ld cd ∙ (λ i. (x && differ-true s c sc i) || ne_eqb d s (λ y. sd (sym y)) i)
+          ∙ same 1 (λ x. (x && true) || false) (λ x. x) refl x in
           exchanged_is e c d j k
-          ∙ ap (λ z. not (x && not (lacks O X r (between j k))) && (not (z && not (lacks O X s (between j k))) && free n (two r s) (between c d) (marks O X (between j k)))) b
-          ∙ same 4 (λ x l r g. not (x && not l) && (not (x && not r) && g)) (λ x l r g. not (x && not r) && (not (x && not l) && g)) refl
-          x (lacks O X r (between j k)) (lacks O X s (between j k)) (free n (two r s) (between c d) (marks O X (between j k)))
-          ∙ ap (λ z. not (x && not (lacks O X s (between j k))) && (not (z && not (lacks O X r (between j k))) && free n (two r s) (between c d) (marks O X (between j k)))) (sym b)
+          ∙ ap (λ z. not (x && not (lacks O X r (between j k)))
+          && (not (z && not (lacks O X s (between j k)))
+          && free n (two r s) (between c d) (marks O X (between j k)))) b
+          ∙ same 4 (λ x l r g. not (x && not l) && (not (x && not r) && g))
+          (λ x l r g. not (x && not r) && (not (x && not l) && g)) refl
+          x (lacks O X r (between j k)) (lacks O X s (between j k))
+          (free n (two r s) (between c d) (marks O X (between j k)))
+          ∙ ap (λ z. not (x && not (lacks O X s (between j k)))
+          && (not (z && not (lacks O X r (between j k)))
+          && free n (two r s) (between c d) (marks O X (between j k)))) (sym b)
           ∙ sym (unmarked_is e c d j k)
 
-      near : (a b c d j k j' k' : ℕ) → c < n → d < n → AreFourApart a b c d → (penta a b j k && unmarked n O' X' c d j' k') ≡ (penta a b j k && unmarked n O X c d j' k')
+      near : (a b c d j k j' k' : ℕ) → c < n → d < n → AreFourApart a b c d
+          → (penta a b j k && unmarked n O' X' c d j' k') ≡ (penta a b j k && unmarked n O X c d j' k')
       near a b c d j k j' k' lc ld o = elim (cases_eq a s) [
         | inl i ↦ ap (λ z. penta a b j k && z) (far c d j' k' lc ld o.cd (λ x. o.ac (i ∙ x)) (λ x. o.ad (i ∙ x)))
         | inr p ↦ elim (cases_eq b s) [
           | inl i ↦ ap (λ z. penta a b j k && z) (far c d j' k' lc ld o.cd (λ x. o.bc (i ∙ x)) (λ x. o.bd (i ∙ x)))
           | inr q ↦
               let no : (eqb a s || eqb b s) ≡ false = λ i. ne_eqb a s p i || ne_eqb b s q i in
-              let rest : Bool = between j k w && (free n (two r s) (between a b) (marks O X (between j k)) && (lacks O X s (between j w) && lacks O X r (above_of w k))) in
-              ap (λ z. (z && rest) && unmarked n O' X' c d j' k') no ∙ sym (ap (λ z. (z && rest) && unmarked n O X c d j' k') no)
+              let rest : Bool = between j k w
+              && (free n (two r s) (between a b) (marks O X (between j k))
+              && (lacks O X s (between j w) && lacks O X r (above_of w k))) in
+              ap (λ z. (z && rest) && unmarked n O' X' c d j' k') no
+              ∙ sym (ap (λ z. (z && rest) && unmarked n O X c d j' k') no)
         ]
       ]
 
-      pub four_none : (a b c d : ℕ) → a < n → b < n → c < n → d < n → four_differ a b c d ≡ true → pair_steps a b c d ≡ pair_steps c d a b
+      pub four_none : (a b c d : ℕ) → a < n → b < n → c < n → d < n → four_differ a b c d ≡ true
+          → pair_steps a b c d ≡ pair_steps c d a b
       four_none a b c d la lb lc ld h =
           let o = AreFourApart-from a b c d h in
-          let back : AreFourApart c d a b = record { ab = o.cd; ac = λ e. o.ac (sym e); ad = λ e. o.bc (sym e); bc = λ e. o.ad (sym e); bd = λ e. o.bd (sym e); cd = o.ab } in
+          let back : AreFourApart c d a b =
+          record {
+            ab = o.cd;
+            ac = λ e. o.ac (sym e);
+            ad = λ e. o.bc (sym e);
+            bc = λ e. o.ad (sym e);
+            bd = λ e. o.bd (sym e);
+            cd = o.ab;
+          } in
           let g : ℕ → ℕ = exchanged f a b in
           let k : ℕ → ℕ = exchanged f c d in
           let gc : g c ≡ f c = exchanged-other f a b c (λ e. o.ac (sym e)) (λ e. o.bc (sym e)) in
@@ -368,25 +496,35 @@ module _ (n r s w : ℕ) (O X : ℕ → ℕ) where
           let cd : Bool = differ c d in
           let t : Bool = T (exchanged g c d) in
           let t' : Bool = T (exchanged k a b) in
-          let E1 : Bool = is_clear_of n f a b (f a) (f b) in
-          let E2 : Bool = is_clear_of n g c d (f c) (f d) in
-          let G1 : Bool = is_clear_of n f c d (f c) (f d) in
-          let G2 : Bool = is_clear_of n k a b (f a) (f b) in
-          let K : Bool = penta a b (f a) (f b) in
-          let K2 : Bool = penta c d (f c) (f d) in
-          let M : Bool = unmarked n O X a b (f a) (f b) in
-          let M2 : Bool = unmarked n O X c d (f c) (f d) in
-          (λ i. ((ab && (E1 && K)) && ((cd && (is_clear_of n g c d (gc i) (gd i) && unmarked n O' X' c d (gc i) (gd i))) && t))
-          ⊻ ((ab && (E1 && M)) && ((cd && (is_clear_of n g c d (gc i) (gd i) && penta c d (gc i) (gd i))) && t)))
-          ∙ same 9 (λ p q x y t k m l j. ((p && (x && k)) && ((q && (y && m)) && t)) ⊻ ((p && (x && l)) && ((q && (y && j)) && t)))
+          let clear_ab : Bool = is_clear_of n f a b (f a) (f b) in
+          let clear_cd_after : Bool = is_clear_of n g c d (f c) (f d) in
+          let clear_cd : Bool = is_clear_of n f c d (f c) (f d) in
+          let clear_ab_after : Bool = is_clear_of n k a b (f a) (f b) in
+          let penta_ab : Bool = penta a b (f a) (f b) in
+          let penta_cd : Bool = penta c d (f c) (f d) in
+          let unmarked_ab : Bool = unmarked n O X a b (f a) (f b) in
+          let unmarked_cd : Bool = unmarked n O X c d (f c) (f d) in
+          (λ i. ((ab && (clear_ab && penta_ab))
+          && ((cd && (is_clear_of n g c d (gc i) (gd i) && unmarked n O' X' c d (gc i) (gd i))) && t))
+          ⊻ ((ab && (clear_ab && unmarked_ab))
+          && ((cd && (is_clear_of n g c d (gc i) (gd i) && penta c d (gc i) (gd i))) && t)))
+          ∙ same 9 (λ p q x y t k m l j. ((p && (x && k)) && ((q && (y && m)) && t))
+          ⊻ ((p && (x && l)) && ((q && (y && j)) && t)))
           (λ p q x y t k m l j. (x && y) && (((p && q) && t) && ((k && m) ⊻ (l && j)))) refl
-          ab cd E1 E2 t K (unmarked n O' X' c d (f c) (f d)) M K2
+          ab cd clear_ab clear_cd_after t penta_ab (unmarked n O' X' c d (f c) (f d)) unmarked_ab penta_cd
           ∙ (λ i. empty_apart n f a b c d la lb lc ld o (AreFourApart-rows n f one a b c d la lb lc ld o) i
-          && (((ab && cd) && ap T (exchanged_apart f a b c d o.ac o.ad o.bc o.bd) i) && (near a b c d (f a) (f b) (f c) (f d) lc ld o i ⊻ (M && K2))))
-          ∙ same 8 (λ p q z t k m l j. z && (((p && q) && t) && ((k && m) ⊻ (l && j)))) (λ p q z t k m l j. z && (((p && q) && t) && ((j && l) ⊻ (m && k)))) refl
-          ab cd (G1 && G2) t' K M2 M K2
-          ∙ ap (λ z. (G1 && G2) && (((ab && cd) && t') && (z ⊻ (M2 && K)))) (sym (near c d a b (f c) (f d) (f a) (f b) la lb back))
-          ∙ same 9 (λ p q x y t k m l j. (x && y) && (((p && q) && t) && ((k && m) ⊻ (l && j)))) (λ p q x y t k m l j. ((q && (x && k)) && ((p && (y && m)) && t)) ⊻ ((q && (x && l)) && ((p && (y && j)) && t))) refl
-          ab cd G1 G2 t' K2 (unmarked n O' X' a b (f a) (f b)) M2 K
-          ∙ sym (λ i. ((cd && (G1 && K2)) && ((ab && (is_clear_of n k a b (ka i) (kb i) && unmarked n O' X' a b (ka i) (kb i))) && t'))
-          ⊻ ((cd && (G1 && M2)) && ((ab && (is_clear_of n k a b (ka i) (kb i) && penta a b (ka i) (kb i))) && t')))
+          && (((ab && cd) && ap T (exchanged_apart f a b c d o.ac o.ad o.bc o.bd) i)
+          && (near a b c d (f a) (f b) (f c) (f d) lc ld o i ⊻ (unmarked_ab && penta_cd))))
+          ∙ same 8 (λ p q z t k m l j. z && (((p && q) && t) && ((k && m) ⊻ (l && j))))
+          (λ p q z t k m l j. z && (((p && q) && t) && ((j && l) ⊻ (m && k)))) refl
+          ab cd (clear_cd && clear_ab_after) t' penta_ab unmarked_cd unmarked_ab penta_cd
+          ∙ ap (λ z. (clear_cd && clear_ab_after) && (((ab && cd) && t') && (z ⊻ (unmarked_cd && penta_ab))))
+          (sym (near c d a b (f c) (f d) (f a) (f b) la lb back))
+          ∙ same 9 (λ p q x y t k m l j. (x && y) && (((p && q) && t) && ((k && m) ⊻ (l && j))))
+          (λ p q x y t k m l j. ((q && (x && k)) && ((p && (y && m)) && t))
+          ⊻ ((q && (x && l)) && ((p && (y && j)) && t))) refl
+          ab cd clear_cd clear_ab_after t' penta_cd (unmarked n O' X' a b (f a) (f b)) unmarked_cd penta_ab
+          ∙ sym (λ i. ((cd && (clear_cd && penta_cd)) && ((ab
+          && (is_clear_of n k a b (ka i) (kb i) && unmarked n O' X' a b (ka i) (kb i))) && t'))
+          ⊻ ((cd && (clear_cd && unmarked_cd))
+          && ((ab && (is_clear_of n k a b (ka i) (kb i) && penta a b (ka i) (kb i))) && t')))

@@ -1,4 +1,5 @@
--- Two steps between the same two columns, one by a pentagon: the thin annulus on the left of the moved circle cancels with the one on its right, and there is no other.
+-- Two steps between the same two columns, one by a pentagon: the thin annulus on the left of the moved circle cancels
+-- with the one on its right, and there is no other.
 use Rattle.std.proofs.Common.{Bool, ap, ap₂, eqb, false, inl, inr, not, refl, subst₂, sym, true, true≢false, ℕ, ◌&&◌, ◌<◌, ◌||◌, ◌∙◌, ◌≡◌, ◌≢◌, ◌⊎◌}
 use Rattle.std.proofs.lemmas.Bool.{and_from, and_parts, cases_eq, eq-eqb, false_from_ne_true, ne_eqb}
 use mathlib.Core.Path.{fun_ext}
@@ -28,37 +29,48 @@ pub record IsThin (n r s e : ℕ) : Type 0 where
 abbrev pub AreBusy : (n r s : ℕ) (O X : ℕ → ℕ) → Type 0
 AreBusy n r s O X = (j : ℕ) → j < n → (c : ℕ) × (c < n) × (c ≢ r) × (c ≢ s) × ((O c ≡ j) ⊎ (X c ≡ j))
 
-pub free_thin : (n : ℕ) (skip P h : ℕ → Bool) → ((t : ℕ) → t < n → (skip t || not (P t)) ≡ true) → free n skip P h ≡ true
+pub free_thin : (n : ℕ) (skip P h : ℕ → Bool) → ((t : ℕ) → t < n → (skip t || not (P t)) ≡ true)
+    → free n skip P h ≡ true
 free_thin n skip P h o =
     all_below-same n (λ t. skip t || not (P t && h t)) (λ t. true) (λ t l.
-    same 3 (λ x y z. x || not (y && z)) (λ x y z. (x || not y) || not z) refl (skip t) (P t) (h t) ∙ ap (λ z. z || not (h t)) (o t l))
+    same 3 (λ x y z. x || not (y && z)) (λ x y z. (x || not y) || not z) refl (skip t) (P t) (h t)
+    ∙ ap (λ z. z || not (h t)) (o t l))
     ∙ all_below-always n
 
-pub clear_thin : (n : ℕ) (f : ℕ → ℕ) (a b j k : ℕ) → ((t : ℕ) → t < n → t ≢ a → between a b t ≡ false) → is_clear_of n f a b j k ≡ true
+pub clear_thin : (n : ℕ) (f : ℕ → ℕ) (a b j k : ℕ) → ((t : ℕ) → t < n → t ≢ a → between a b t ≡ false)
+    → is_clear_of n f a b j k ≡ true
 clear_thin n f a b j k o =
     all_below-same n (λ t. not (is_between a b t && is_between j k (f t))) (λ t. true) (λ t l. elim (cases_eq t a) [
-      | inl i ↦ ap (λ z. not ((between a b t && z) && is_between j k (f t))) (ap (λ v. differ v a) i ∙ differ-self a) ∙ ap (λ z. not (z && is_between j k (f t))) (and-false (between a b t))
+      | inl i ↦
+          ap (λ z. not ((between a b t && z) && is_between j k (f t))) (ap (λ v. differ v a) i ∙ differ-self a)
+          ∙ ap (λ z. not (z && is_between j k (f t))) (and-false (between a b t))
       | inr q ↦ ap (λ z. not ((z && differ t a) && is_between j k (f t))) (o t l q)
     ])
     ∙ all_below-always n
 
 -- a column outside of r and s that both ranges of rows pass
 pub two_ways : (n r s : ℕ) (O X : ℕ → ℕ) (a b j k c : ℕ) → c < n → c ≢ r → c ≢ s → between a b c ≡ true → j ≢ k
-    → (free n (two r s) (between a b) (marks O X (between j k)) && free n (two r s) (between a b) (marks O X (between k j))) ≡ false
+    → (free n (two r s) (between a b) (marks O X (between j k))
+    && free n (two r s) (between a b) (marks O X (between k j))) ≡ false
 two_ways n r s O X a b j k c l cr cs i q = false_from_ne_true _ (λ h.
-    let p = and_parts (free n (two r s) (between a b) (marks O X (between j k))) (free n (two r s) (between a b) (marks O X (between k j))) h in
+    let p = and_parts (free n (two r s) (between a b) (marks O X (between j k)))
+    (free n (two r s) (between a b) (marks O X (between k j))) h in
     let x = at_all_below n (λ t. two r s t || not (between a b t && marks O X (between j k) t)) p.0 c l in
     let y = at_all_below n (λ t. two r s t || not (between a b t && marks O X (between k j) t)) p.1 c l in
     let z : two r s c ≡ false = λ i. ne_eqb c r cr i || ne_eqb c s cs i in
     true≢false (sym (and_from _ _ x y)
-    ∙ (λ v. (z v || not (i v && (between j k (O c) || between j k (X c)))) && (z v || not (i v && (between_back j k (O c) q v || between k j (X c)))))
-    ∙ same 3 (λ u v w. not (u || v) && not (not u || w)) (λ u v w. false) refl (between j k (O c)) (between j k (X c)) (between k j (X c))))
+    ∙ (λ v. (z v || not (i v && (between j k (O c) || between j k (X c))))
+    && (z v || not (i v && (between_back j k (O c) q v || between k j (X c)))))
+    ∙ same 3 (λ u v w. not (u || v) && not (not u || w)) (λ u v w. false) refl (between j k (O c)) (between j k (X c))
+    (between k j (X c))))
 
 -- the two ranges of columns, at the rows from j, of which one is marked outside of r and s
 pub two_sides : (n r s : ℕ) (O X : ℕ → ℕ) (a b j k : ℕ) → AreBusy n r s O X → j < n → a ≢ b → j ≢ k
-    → (free n (two r s) (between a b) (marks O X (between j k)) && free n (two r s) (between b a) (marks O X (between j k))) ≡ false
+    → (free n (two r s) (between a b) (marks O X (between j k))
+    && free n (two r s) (between b a) (marks O X (between j k))) ≡ false
 two_sides n r s O X a b j k busy l ab q = false_from_ne_true _ (λ h.
-    let p = and_parts (free n (two r s) (between a b) (marks O X (between j k))) (free n (two r s) (between b a) (marks O X (between j k))) h in
+    let p = and_parts (free n (two r s) (between a b) (marks O X (between j k)))
+    (free n (two r s) (between b a) (marks O X (between j k))) h in
     let m = busy j l in
     let c : ℕ = m.0 in
     let x = at_all_below n (λ t. two r s t || not (between a b t && marks O X (between j k) t)) p.0 c m.1 in
@@ -66,7 +78,9 @@ two_sides n r s O X a b j k busy l ab q = false_from_ne_true _ (λ h.
     let z : two r s c ≡ false = λ i. ne_eqb c r m.2 i || ne_eqb c s m.3 i in
     let has : marks O X (between j k) c ≡ true = elim m.4 [
       | inl i ↦ ap (λ v. v || between j k (X c)) (ap (between j k) i ∙ between_start j k q)
-      | inr i ↦ ap (λ v. between j k (O c) || v) (ap (between j k) i ∙ between_start j k q) ∙ same 1 (λ v. v || true) (λ v. true) refl (between j k (O c))
+      | inr i ↦
+          ap (λ v. between j k (O c) || v) (ap (between j k) i ∙ between_start j k q)
+          ∙ same 1 (λ v. v || true) (λ v. true) refl (between j k (O c))
     ] in
     true≢false (sym (and_from _ _ x y)
     ∙ (λ v. (z v || not (between a b c && has v)) && (z v || not (between_back a b c ab v && has v)))
@@ -86,7 +100,8 @@ module _ (n r s e w : ℕ) (O X : ℕ → ℕ) (d : AreSides n r s) (thin : IsTh
       ⊻ (unmarked n O X a b j k && penta n r s w O X b a j k)
 
   penta_parts : (a b j k : ℕ) (g : Bool) → Bool
-  penta_parts a b j k g = (eqb a s || eqb b s) && (between j k w && (g && (lacks O X s (between j w) && lacks O X r (above_of w k))))
+  penta_parts a b j k g =
+      (eqb a s || eqb b s) && (between j k w && (g && (lacks O X s (between j w) && lacks O X r (above_of w k))))
 
   around_none : (a b j k : ℕ) → j < n → a ≢ b → j ≢ k → around a b j k ≡ false
   around_none a b j k l ab q =
@@ -100,10 +115,14 @@ module _ (n r s e w : ℕ) (O X : ℕ → ℕ) (d : AreSides n r s) (thin : IsTh
       let y : Bool = not (between b a r && not (lacks O X s (between j k))) in
       let x' : Bool = not (between a b s && not (lacks O X s (between j k))) in
       let y' : Bool = not (between a b r && not (lacks O X r (between j k))) in
-      (λ i. (penta n r s w O X a b j k && exchanged_is n r s w O X d b a j k i) ⊻ (unmarked_is n r s w O X d a b j k i && penta n r s w O X b a j k))
-      ∙ same 10 (λ F G A A' B C x y z t. ((A && (B && (F && C))) && (x && (y && G))) ⊻ ((z && (t && F)) && (A' && (B && (G && C)))))
-      (λ F G A A' B C x y z t. (F && G) && (((A && (B && C)) && (x && y)) ⊻ ((z && t) && (A' && (B && C))))) refl F G A A' B C x y x' y'
-      ∙ ap (λ z. z && (((A && (B && C)) && (x && y)) ⊻ ((x' && y') && (A' && (B && C))))) (two_sides n r s O X a b j k busy l ab q)
+      (λ i. (penta n r s w O X a b j k && exchanged_is n r s w O X d b a j k i)
+      ⊻ (unmarked_is n r s w O X d a b j k i && penta n r s w O X b a j k))
+      ∙ same 10 (λ F G A A' B C x y z t. ((A && (B && (F && C))) && (x && (y && G)))
+      ⊻ ((z && (t && F)) && (A' && (B && (G && C)))))
+      (λ F G A A' B C x y z t. (F && G) && (((A && (B && C)) && (x && y)) ⊻ ((z && t) && (A' && (B && C))))) refl F G A
+      A' B C x y x' y'
+      ∙ ap (λ z. z && (((A && (B && C)) && (x && y)) ⊻ ((x' && y') && (A' && (B && C)))))
+      (two_sides n r s O X a b j k busy l ab q)
 
   -- a range with a column apart from r and s
   up_none : (a b j k c : ℕ) → c < n → c ≢ r → c ≢ s → between a b c ≡ true → j ≢ k → up_twice a b j k ≡ false
@@ -115,11 +134,16 @@ module _ (n r s e w : ℕ) (O X : ℕ → ℕ) (d : AreSides n r s) (thin : IsTh
       let B' : Bool = between k j w in
       let C : Bool = lacks O X s (between j w) && lacks O X r (above_of w k) in
       let C' : Bool = lacks O X s (between k w) && lacks O X r (above_of w j) in
-      let x : Bool = not (between a b s && not (lacks O X r (between k j))) && not (between a b r && not (lacks O X s (between k j))) in
-      let y : Bool = not (between a b s && not (lacks O X s (between j k))) && not (between a b r && not (lacks O X r (between j k))) in
-      (λ v. (penta n r s w O X a b j k && exchanged_is n r s w O X d a b k j v) ⊻ (unmarked_is n r s w O X d a b j k v && penta n r s w O X a b k j))
-      ∙ same 11 (λ F G A B B' C C' x1 x2 y1 y2. ((A && (B && (F && C))) && (x1 && (x2 && G))) ⊻ ((y1 && (y2 && F)) && (A && (B' && (G && C')))))
-      (λ F G A B B' C C' x1 x2 y1 y2. (F && G) && (((A && (B && C)) && (x1 && x2)) ⊻ ((y1 && y2) && (A && (B' && C'))))) refl F G A B B' C C'
+      let x : Bool = not (between a b s && not (lacks O X r (between k j)))
+      && not (between a b r && not (lacks O X s (between k j))) in
+      let y : Bool = not (between a b s && not (lacks O X s (between j k)))
+      && not (between a b r && not (lacks O X r (between j k))) in
+      (λ v. (penta n r s w O X a b j k && exchanged_is n r s w O X d a b k j v)
+      ⊻ (unmarked_is n r s w O X d a b j k v && penta n r s w O X a b k j))
+      ∙ same 11 (λ F G A B B' C C' x1 x2 y1 y2. ((A && (B && (F && C))) && (x1 && (x2 && G)))
+      ⊻ ((y1 && (y2 && F)) && (A && (B' && (G && C')))))
+      (λ F G A B B' C C' x1 x2 y1 y2. (F && G) && (((A && (B && C)) && (x1 && x2)) ⊻ ((y1 && y2) && (A && (B' && C')))))
+      refl F G A B B' C C'
       (not (between a b s && not (lacks O X r (between k j)))) (not (between a b r && not (lacks O X s (between k j))))
       (not (between a b s && not (lacks O X s (between j k)))) (not (between a b r && not (lacks O X r (between j k))))
       ∙ ap (λ z. z && (((A && (B && C)) && x) ⊻ (y && (A && (B' && C'))))) (two_ways n r s O X a b j k c l cr cs i q)
@@ -137,22 +161,40 @@ module _ (n r s e w : ℕ) (O X : ℕ → ℕ) (d : AreSides n r s) (thin : IsTh
       let B : Bool = between j k w in
       let noR : (ℕ → Bool) → Bool = lacks O X s in
       let noL : (ℕ → Bool) → Bool = lacks O X r in
-      let clean : (h : ℕ → Bool) → free n (two r s) (between s e) h ≡ true = λ h. free_thin n (two r s) (between s e) h (λ t l. elim (cases_eq t s) [
-        | inl i ↦ ap (λ z. (eqb t r || z) || not (between s e t)) (eq-eqb t s i) ∙ same 2 (λ x y. (x || true) || y) (λ x y. true) refl (eqb t r) (not (between s e t))
+      let clean : (h : ℕ → Bool) → free n (two r s) (between s e) h ≡ true =
+      λ h. free_thin n (two r s) (between s e) h (λ t l. elim (cases_eq t s) [
+        | inl i ↦
+            ap (λ z. (eqb t r || z) || not (between s e t)) (eq-eqb t s i)
+            ∙ same 2 (λ x y. (x || true) || y) (λ x y. true) refl (eqb t r) (not (between s e t))
         | inr p ↦ ap (λ z. two r s t || not z) (thin.right t l p) ∙ same 1 (λ x. x || true) (λ x. true) refl (two r s t)
       ]) in
       let here : between s e s ≡ true = between_start s e (λ i. thin.apart (sym i)) in
       let off : between s e r ≡ false = thin.right r d.r-lt d.apart in
-      (λ v. (((eq-eqb s s refl v || eqb e s) && (B && (clean (marks O X (between j k)) v && (noR (between j w) && noL (above_of w k))))) && exchanged_is n r s w O X d s e k j v)
-      ⊻ (unmarked_is n r s w O X d s e j k v && ((eq-eqb s s refl v || eqb e s) && (between_back j k w q v && (clean (marks O X (between k j)) v && (noR (between k w) && noL (above_of w j)))))))
-      ∙ (λ v. ((B && (noR (between j w) && noL (above_of w k))) && (not (here v && not (noL (between k j))) && (not (off v && not (noR (between k j))) && clean (marks O X (between k j)) v)))
-      ⊻ ((not (here v && not (noR (between j k))) && (not (off v && not (noL (between j k))) && clean (marks O X (between j k)) v)) && (not B && (noR (between k w) && noL (above_of w j)))))
-      ∙ same 7 (λ b x y z t u v. ((b && (x && y)) && (not (not z) && true)) ⊻ ((not (not t) && true) && (not b && (u && v)))) (λ b x y z t u v. (b && (x && (y && z))) ⊻ (not b && ((t && u) && v))) refl
-      B (noR (between j w)) (noL (above_of w k)) (noL (between k j)) (noR (between j k)) (noR (between k w)) (noL (above_of w j))
-      ∙ two_cases B (noR (between j w) && (noL (above_of w k) && noL (between k j))) ((noR (between j k) && noR (between k w)) && noL (above_of w j)) (ends j)
-      (λ b. ap (λ z. noR (between j w) && z) (sym (ap noL (fun_ext (λ t. rest_outside j k w t q b)) ∙ lacks_add O X r (above_of w k) (between k j))))
+      (λ v. (((eq-eqb s s refl v || eqb e s)
+      && (B && (clean (marks O X (between j k)) v && (noR (between j w) && noL (above_of w k)))))
+      && exchanged_is n r s w O X d s e k j v)
+      ⊻ (unmarked_is n r s w O X d s e j k v
+      && ((eq-eqb s s refl v || eqb e s)
+      && (between_back j k w q v
+      && (clean (marks O X (between k j)) v && (noR (between k w) && noL (above_of w j)))))))
+      ∙ (λ v. ((B && (noR (between j w) && noL (above_of w k)))
+      && (not (here v && not (noL (between k j)))
+      && (not (off v && not (noR (between k j))) && clean (marks O X (between k j)) v)))
+      ⊻ ((not (here v && not (noR (between j k)))
+      && (not (off v && not (noL (between j k))) && clean (marks O X (between j k)) v))
+      && (not B && (noR (between k w) && noL (above_of w j)))))
+      ∙ same 7 (λ b x y z t u v. ((b && (x && y)) && (not (not z) && true))
+      ⊻ ((not (not t) && true) && (not b && (u && v))))
+      (λ b x y z t u v. (b && (x && (y && z))) ⊻ (not b && ((t && u) && v))) refl
+      B (noR (between j w)) (noL (above_of w k)) (noL (between k j)) (noR (between j k)) (noR (between k w))
+      (noL (above_of w j))
+      ∙ two_cases B (noR (between j w) && (noL (above_of w k) && noL (between k j)))
+      ((noR (between j k) && noR (between k w)) && noL (above_of w j)) (ends j)
+      (λ b. ap (λ z. noR (between j w) && z)
+      (sym (ap noL (fun_ext (λ t. rest_outside j k w t q b)) ∙ lacks_add O X r (above_of w k) (between k j))))
       (λ b. let b' : between k j w ≡ true = between_back j k w q ∙ ap not b in
-      sym (ap₂ (λ x y. x && y) (ap noR (fun_ext (λ t. rest_below j k w t q b')) ∙ lacks_add O X s (between j k) (between k w)) (ap noL (fun_ext (λ t. rest_turned j k w t q b')))))
+      sym (ap₂ (λ x y. x && y) (ap noR (fun_ext (λ t. rest_below j k w t q b'))
+      ∙ lacks_add O X s (between j k) (between k w)) (ap noL (fun_ext (λ t. rest_turned j k w t q b')))))
 
   up_left : (j k : ℕ) → j ≢ k → up_twice r s j k ≡ ends k
   up_left j k q =
@@ -160,23 +202,39 @@ module _ (n r s e w : ℕ) (O X : ℕ → ℕ) (d : AreSides n r s) (thin : IsTh
       let noR : (ℕ → Bool) → Bool = lacks O X s in
       let noL : (ℕ → Bool) → Bool = lacks O X r in
       let kj : k ≢ j = λ i. q (sym i) in
-      let clean : (h : ℕ → Bool) → free n (two r s) (between r s) h ≡ true = λ h. free_thin n (two r s) (between r s) h (λ t l. elim (cases_eq t r) [
+      let clean : (h : ℕ → Bool) → free n (two r s) (between r s) h ≡ true =
+      λ h. free_thin n (two r s) (between r s) h (λ t l. elim (cases_eq t r) [
         | inl i ↦ ap (λ z. (z || eqb t s) || not (between r s t)) (eq-eqb t r i)
         | inr p ↦ ap (λ z. two r s t || not z) (thin.left t l p) ∙ same 1 (λ x. x || true) (λ x. true) refl (two r s t)
       ]) in
-      let corner : (eqb r s || eqb s s) ≡ true = ap (λ z. eqb r s || z) (eq-eqb s s refl) ∙ same 1 (λ x. x || true) (λ x. true) refl (eqb r s) in
+      let corner : (eqb r s || eqb s s) ≡ true =
+      ap (λ z. eqb r s || z) (eq-eqb s s refl) ∙ same 1 (λ x. x || true) (λ x. true) refl (eqb r s) in
       let here : between r s r ≡ true = between_start r s d.apart in
       let off : between r s s ≡ false = between_end r s in
-      (λ v. ((corner v && (B && (clean (marks O X (between j k)) v && (noR (between j w) && noL (above_of w k))))) && exchanged_is n r s w O X d r s k j v)
-      ⊻ (unmarked_is n r s w O X d r s j k v && (corner v && (between_back j k w q v && (clean (marks O X (between k j)) v && (noR (between k w) && noL (above_of w j)))))))
-      ∙ (λ v. ((B && (noR (between j w) && noL (above_of w k))) && (not (off v && not (noL (between k j))) && (not (here v && not (noR (between k j))) && clean (marks O X (between k j)) v)))
-      ⊻ ((not (off v && not (noR (between j k))) && (not (here v && not (noL (between j k))) && clean (marks O X (between j k)) v)) && (not B && (noR (between k w) && noL (above_of w j)))))
-      ∙ same 7 (λ b x y z t u v. ((b && (x && y)) && (not (not z) && true)) ⊻ ((not (not t) && true) && (not b && (u && v)))) (λ b x y z t u v. (b && ((z && x) && y)) ⊻ (not b && (u && (v && t)))) refl
-      B (noR (between j w)) (noL (above_of w k)) (noR (between k j)) (noL (between j k)) (noR (between k w)) (noL (above_of w j))
-      ∙ two_cases B ((noR (between k j) && noR (between j w)) && noL (above_of w k)) (noR (between k w) && (noL (above_of w j) && noL (between j k))) (ends k)
-      (λ b. sym (ap₂ (λ x y. x && y) (ap noR (fun_ext (λ t. rest_below k j w t kj b)) ∙ lacks_add O X s (between k j) (between j w)) (ap noL (fun_ext (λ t. rest_turned k j w t kj b)))))
+      (λ v. ((corner v && (B && (clean (marks O X (between j k)) v && (noR (between j w) && noL (above_of w k)))))
+      && exchanged_is n r s w O X d r s k j v)
+      ⊻ (unmarked_is n r s w O X d r s j k v
+      && (corner v
+      && (between_back j k w q v
+      && (clean (marks O X (between k j)) v && (noR (between k w) && noL (above_of w j)))))))
+      ∙ (λ v. ((B && (noR (between j w) && noL (above_of w k)))
+      && (not (off v && not (noL (between k j)))
+      && (not (here v && not (noR (between k j))) && clean (marks O X (between k j)) v)))
+      ⊻ ((not (off v && not (noR (between j k)))
+      && (not (here v && not (noL (between j k))) && clean (marks O X (between j k)) v))
+      && (not B && (noR (between k w) && noL (above_of w j)))))
+      ∙ same 7 (λ b x y z t u v. ((b && (x && y)) && (not (not z) && true))
+      ⊻ ((not (not t) && true) && (not b && (u && v))))
+      (λ b x y z t u v. (b && ((z && x) && y)) ⊻ (not b && (u && (v && t)))) refl
+      B (noR (between j w)) (noL (above_of w k)) (noR (between k j)) (noL (between j k)) (noR (between k w))
+      (noL (above_of w j))
+      ∙ two_cases B ((noR (between k j) && noR (between j w)) && noL (above_of w k))
+      (noR (between k w) && (noL (above_of w j) && noL (between j k))) (ends k)
+      (λ b. sym (ap₂ (λ x y. x && y) (ap noR (fun_ext (λ t. rest_below k j w t kj b))
+      ∙ lacks_add O X s (between k j) (between j w)) (ap noL (fun_ext (λ t. rest_turned k j w t kj b)))))
       (λ b. let b' : between k j w ≡ true = between_back j k w q ∙ ap not b in
-      ap (λ z. noR (between k w) && z) (sym (ap noL (fun_ext (λ t. rest_outside k j w t kj b')) ∙ lacks_add O X r (above_of w j) (between j k))))
+      ap (λ z. noR (between k w) && z)
+      (sym (ap noL (fun_ext (λ t. rest_outside k j w t kj b')) ∙ lacks_add O X r (above_of w j) (between j k))))
 
   module _ (f : ℕ → ℕ) (one : IsOneToOne n f) (T : (ℕ → ℕ) → Bool) where
     abbrev steps : ℕ → ℕ → ℕ → ℕ → Bool
@@ -188,85 +246,118 @@ module _ (n r s e w : ℕ) (O X : ℕ → ℕ) (d : AreSides n r s) (thin : IsTh
         let g : ℕ → ℕ = exchanged f a b in
         let ga : g a ≡ f b = exchanged-first f a b in
         let gb : g b ≡ f a = exchanged-second f a b p in
-        let E1 : Bool = is_clear_of n f a b (f a) (f b) in
-        let E2 : Bool = is_clear_of n g b a (g b) (g a) in
-        let K : Bool = penta n r s w O X a b (f a) (f b) in
-        let M : Bool = unmarked n O X a b (f a) (f b) in
+        let clear_ab : Bool = is_clear_of n f a b (f a) (f b) in
+        let clear_ba : Bool = is_clear_of n g b a (g b) (g a) in
+        let penta_ab : Bool = penta n r s w O X a b (f a) (f b) in
+        let unmarked_ab : Bool = unmarked n O X a b (f a) (f b) in
         let t : Bool = T (exchanged g b a) in
-        (λ i. ((differ a b && (E1 && K)) && ((differ b a && (E2 && unmarked n (O' n r s w O X) (X' n r s w O X) b a (gb i) (ga i))) && t))
-        ⊻ ((differ a b && (E1 && M)) && ((differ b a && (E2 && penta n r s w O X b a (gb i) (ga i))) && t)))
-        ∙ same 9 (λ p q x y t k m l j. ((p && (x && k)) && ((q && (y && m)) && t)) ⊻ ((p && (x && l)) && ((q && (y && j)) && t)))
+        (λ i. ((differ a b && (clear_ab && penta_ab))
+        && ((differ b a && (clear_ba && unmarked n (O' n r s w O X) (X' n r s w O X) b a (gb i) (ga i))) && t))
+        ⊻ ((differ a b && (clear_ab && unmarked_ab))
+        && ((differ b a && (clear_ba && penta n r s w O X b a (gb i) (ga i))) && t)))
+        ∙ same 9 (λ p q x y t k m l j. ((p && (x && k)) && ((q && (y && m)) && t))
+        ⊻ ((p && (x && l)) && ((q && (y && j)) && t)))
         (λ p q x y t k m l j. ((x && y) && ((p && q) && t)) && ((k && m) ⊻ (l && j))) refl
-        (differ a b) (differ b a) E1 E2 t K (unmarked n (O' n r s w O X) (X' n r s w O X) b a (f a) (f b)) M (penta n r s w O X b a (f a) (f b))
-        ∙ ap (λ z. ((E1 && E2) && ((differ a b && differ b a) && t)) && z) (around_none a b (f a) (f b) (one.small a la) p (one.apart a b la lb p))
-        ∙ and-false ((E1 && E2) && ((differ a b && differ b a) && t))
+        (differ a b) (differ b a) clear_ab clear_ba t penta_ab
+        (unmarked n (O' n r s w O X) (X' n r s w O X) b a (f a) (f b)) unmarked_ab (penta n r s w O X b a (f a) (f b))
+        ∙ ap (λ z. ((clear_ab && clear_ba) && ((differ a b && differ b a) && t)) && z)
+        (around_none a b (f a) (f b) (one.small a la) p (one.apart a b la lb p))
+        ∙ and-false ((clear_ab && clear_ba) && ((differ a b && differ b a) && t))
 
-    along_twice : (a b : ℕ) → a ≢ b → steps a b a b ≡ ((is_clear_of n f a b (f a) (f b) && is_clear_of n (exchanged f a b) a b (f b) (f a)) && (T f && up_twice a b (f a) (f b)))
+    along_twice : (a b : ℕ) → a ≢ b
+        → steps a b a b
+        ≡ ((is_clear_of n f a b (f a) (f b) && is_clear_of n (exchanged f a b) a b (f b) (f a))
+        && (T f && up_twice a b (f a) (f b)))
     along_twice a b p =
         let g : ℕ → ℕ = exchanged f a b in
         let ga : g a ≡ f b = exchanged-first f a b in
         let gb : g b ≡ f a = exchanged-second f a b p in
-        let E1 : Bool = is_clear_of n f a b (f a) (f b) in
-        let K : Bool = penta n r s w O X a b (f a) (f b) in
-        let M : Bool = unmarked n O X a b (f a) (f b) in
-        (λ i. ((differ-true a b p i && (E1 && K)) && ((differ-true a b p i && (is_clear_of n g a b (ga i) (gb i) && unmarked n (O' n r s w O X) (X' n r s w O X) a b (ga i) (gb i))) && T (exchanged-exchanged f a b i)))
-        ⊻ ((differ-true a b p i && (E1 && M)) && ((differ-true a b p i && (is_clear_of n g a b (ga i) (gb i) && penta n r s w O X a b (ga i) (gb i))) && T (exchanged-exchanged f a b i))))
-        ∙ same 7 (λ x y t k m l j. ((x && k) && ((y && m) && t)) ⊻ ((x && l) && ((y && j) && t))) (λ x y t k m l j. (x && y) && (t && ((k && m) ⊻ (l && j)))) refl
-        E1 (is_clear_of n g a b (f b) (f a)) (T f) K (unmarked n (O' n r s w O X) (X' n r s w O X) a b (f b) (f a)) M (penta n r s w O X a b (f b) (f a))
+        let clear_ab : Bool = is_clear_of n f a b (f a) (f b) in
+        let penta_ab : Bool = penta n r s w O X a b (f a) (f b) in
+        let unmarked_ab : Bool = unmarked n O X a b (f a) (f b) in
+        (λ i. ((differ-true a b p i && (clear_ab && penta_ab))
+        && ((differ-true a b p i
+        && (is_clear_of n g a b (ga i) (gb i)
+        && unmarked n (O' n r s w O X) (X' n r s w O X) a b (ga i) (gb i))) && T (exchanged-exchanged f a b i)))
+        ⊻ ((differ-true a b p i && (clear_ab && unmarked_ab))
+        && ((differ-true a b p i && (is_clear_of n g a b (ga i) (gb i) && penta n r s w O X a b (ga i) (gb i)))
+        && T (exchanged-exchanged f a b i))))
+        ∙ same 7 (λ x y t k m l j. ((x && k) && ((y && m) && t)) ⊻ ((x && l) && ((y && j) && t)))
+        (λ x y t k m l j. (x && y) && (t && ((k && m) ⊻ (l && j)))) refl
+        clear_ab (is_clear_of n g a b (f b) (f a)) (T f) penta_ab
+        (unmarked n (O' n r s w O X) (X' n r s w O X) a b (f b) (f a)) unmarked_ab (penta n r s w O X a b (f b) (f a))
 
     -- what each of the two thin annuli gives
     abbrev rest_of : Bool
     rest_of = T f && ends (f s)
 
-    at_thin : (a b : ℕ) → a < n → b < n → (p : a ≢ b) → ((t : ℕ) → t < n → t ≢ a → between a b t ≡ false) → up_twice a b (f a) (f b) ≡ ends (f s)
+    at_thin : (a b : ℕ) → a < n → b < n → (p : a ≢ b) → ((t : ℕ) → t < n → t ≢ a → between a b t ≡ false)
+        → up_twice a b (f a) (f b) ≡ ends (f s)
         → at_two n steps a b ≡ rest_of
     at_thin a b la lb p o h =
         (λ i. differ-true a b p i && (along_twice a b p i ⊻ across a b la lb p i))
         ∙ xor-false _
-        ∙ (λ i. (clear_thin n f a b (f a) (f b) o i && clear_thin n (exchanged f a b) a b (f b) (f a) o i) && (T f && h i))
+        ∙ (λ i. (clear_thin n f a b (f a) (f b) o i && clear_thin n (exchanged f a b) a b (f b) (f a) o i)
+        && (T f && h i))
 
     at_none : (a b : ℕ) → a < n → b < n → (p : a ≢ b) → up_twice a b (f a) (f b) ≡ false → at_two n steps a b ≡ false
     at_none a b la lb p h =
         (λ i. differ-true a b p i && (along_twice a b p i ⊻ across a b la lb p i))
         ∙ xor-false _
         ∙ ap (λ z. (is_clear_of n f a b (f a) (f b) && is_clear_of n (exchanged f a b) a b (f b) (f a)) && (T f && z)) h
-        ∙ same 2 (λ x y. x && (y && false)) (λ x y. false) refl (is_clear_of n f a b (f a) (f b) && is_clear_of n (exchanged f a b) a b (f b) (f a)) (T f)
+        ∙ same 2 (λ x y. x && (y && false)) (λ x y. false) refl
+        (is_clear_of n f a b (f a) (f b) && is_clear_of n (exchanged f a b) a b (f b) (f a)) (T f)
 
     no_corner : (a b j k : ℕ) → a ≢ s → b ≢ s → up_twice a b j k ≡ false
     no_corner a b j k p q =
         let x : Bool = unmarked n O X a b j k in
         let y : Bool = unmarked n (O' n r s w O X) (X' n r s w O X) a b k j in
-        (λ i. (((ne_eqb a s p i || ne_eqb b s q i) && (between j k w && (free n (two r s) (between a b) (marks O X (between j k)) && (lacks O X s (between j w) && lacks O X r (above_of w k))))) && y)
-        ⊻ (x && ((ne_eqb a s p i || ne_eqb b s q i) && (between k j w && (free n (two r s) (between a b) (marks O X (between k j)) && (lacks O X s (between k w) && lacks O X r (above_of w j)))))))
+        (λ i. (((ne_eqb a s p i || ne_eqb b s q i)
+        && (between j k w
+        && (free n (two r s) (between a b) (marks O X (between j k))
+        && (lacks O X s (between j w) && lacks O X r (above_of w k))))) && y)
+        ⊻ (x && ((ne_eqb a s p i || ne_eqb b s q i)
+        && (between k j w
+        && (free n (two r s) (between a b) (marks O X (between k j))
+        && (lacks O X s (between k w) && lacks O X r (above_of w j)))))))
         ∙ and-false x
 
-    two_is : (a b : ℕ) → a < n → b < n → at_two n steps a b ≡ (eqb a s && (eqb b e && rest_of)) ⊻ (eqb a r && (eqb b s && rest_of))
+    two_is : (a b : ℕ) → a < n → b < n
+        → at_two n steps a b ≡ (eqb a s && (eqb b e && rest_of)) ⊻ (eqb a r && (eqb b s && rest_of))
     two_is a b la lb = elim (cases_eq a b) [
       | inl i ↦
           ap (λ z. z && (steps a b a b ⊻ steps a b b a)) (ap (λ z. differ z b) i ∙ differ-self b)
-          ∙ sym (ap₂ (λ x y. (x && (eqb b e && rest_of)) ⊻ (y && (eqb b s && rest_of))) (ap (λ z. eqb z s) i) (ap (λ z. eqb z r) i)
-          ∙ same 5 (λ x y z t u. (x && (y && u)) ⊻ (z && (x && u))) (λ x y z t u. ((x && y) && u) ⊻ ((z && x) && u)) refl (eqb b s) (eqb b e) (eqb b r) true rest_of
+          ∙ sym (ap₂ (λ x y. (x && (eqb b e && rest_of)) ⊻ (y && (eqb b s && rest_of))) (ap (λ z. eqb z s) i)
+          (ap (λ z. eqb z r) i)
+          ∙ same 5 (λ x y z t u. (x && (y && u)) ⊻ (z && (x && u)))
+          (λ x y z t u. ((x && y) && u) ⊻ ((z && x) && u)) refl (eqb b s) (eqb b e) (eqb b r) true rest_of
           ∙ (λ v. (not_both b s e (λ x. thin.apart (sym x)) v && rest_of) ⊻ (not_both b r s d.apart v && rest_of)))
       | inr p ↦ elim (cases_eq a s) [
         | inl i ↦
             let ar : a ≢ r = λ x. d.apart (sym x ∙ i) in
             elim (cases_eq b e) [
               | inl j ↦
-                  at_thin a b la lb p (λ t l q. subst₂ (λ (x y : ℕ). between x y t ≡ false) (sym i) (sym j) (thin.right t l (λ x. q (x ∙ sym i))))
-                  (ap₂ (λ x y. up_twice x y (f x) (f y)) i j ∙ up_right (f s) (f e) (one.apart s e d.s-lt thin.e-lt (λ x. thin.apart (sym x))))
-                  ∙ sym ((λ v. (eq-eqb a s i v && (eq-eqb b e j v && rest_of)) ⊻ (ne_eqb a r ar v && (eqb b s && rest_of))) ∙ xor-false rest_of)
+                  at_thin a b la lb p (λ t l q. subst₂ (λ (x y : ℕ). between x y t ≡ false) (sym i) (sym j)
+                  (thin.right t l (λ x. q (x ∙ sym i))))
+                  (ap₂ (λ x y. up_twice x y (f x) (f y)) i j
+                  ∙ up_right (f s) (f e) (one.apart s e d.s-lt thin.e-lt (λ x. thin.apart (sym x))))
+                  ∙ sym ((λ v. (eq-eqb a s i v && (eq-eqb b e j v && rest_of))
+                  ⊻ (ne_eqb a r ar v && (eqb b s && rest_of))) ∙ xor-false rest_of)
               | inr q ↦
                   at_none a b la lb p
                   (up_none a b (f a) (f b) e thin.e-lt
-                  (λ x. true≢false (sym (ap (λ y. between s b y) (sym x) ∙ thin.after b lb (λ y. p (i ∙ sym y)) q) ∙ before_s b lb (λ y. p (i ∙ sym y))))
+                  (λ x. true≢false (sym (ap (λ y. between s b y) (sym x) ∙ thin.after b lb (λ y. p (i ∙ sym y)) q)
+                  ∙ before_s b lb (λ y. p (i ∙ sym y))))
                   thin.apart
                   (ap (λ x. between x b e) i ∙ thin.after b lb (λ x. p (i ∙ sym x)) q) (one.apart a b la lb p))
-                  ∙ sym ((λ v. (eqb a s && (ne_eqb b e q v && rest_of)) ⊻ (ne_eqb a r ar v && (eqb b s && rest_of))) ∙ xor-false (eqb a s && false) ∙ and-false (eqb a s))
+                  ∙ sym ((λ v. (eqb a s && (ne_eqb b e q v && rest_of)) ⊻ (ne_eqb a r ar v && (eqb b s && rest_of)))
+                  ∙ xor-false (eqb a s && false) ∙ and-false (eqb a s))
             ]
         | inr q ↦ elim (cases_eq b s) [
           | inl j ↦ elim (cases_eq a r) [
             | inl i ↦
-                at_thin a b la lb p (λ t l z. subst₂ (λ (x y : ℕ). between x y t ≡ false) (sym i) (sym j) (thin.left t l (λ x. z (x ∙ sym i))))
+                at_thin a b la lb p (λ t l z. subst₂ (λ (x y : ℕ). between x y t ≡ false) (sym i) (sym j)
+                (thin.left t l (λ x. z (x ∙ sym i))))
                 (ap₂ (λ x y. up_twice x y (f x) (f y)) i j ∙ up_left (f r) (f s) (one.apart r s d.r-lt d.s-lt d.apart))
                 ∙ sym (λ v. (ne_eqb a s q v && (eqb b e && rest_of)) ⊻ (eq-eqb a r i v && (eq-eqb b s j v && rest_of)))
             | inr z ↦
@@ -275,7 +366,8 @@ module _ (n r s e w : ℕ) (O X : ℕ → ℕ) (d : AreSides n r s) (thin : IsTh
           ]
           | inr z ↦
               at_none a b la lb p (no_corner a b (f a) (f b) q z)
-              ∙ sym ((λ v. (ne_eqb a s q v && (eqb b e && rest_of)) ⊻ (eqb a r && (ne_eqb b s z v && rest_of))) ∙ and-false (eqb a r))
+              ∙ sym ((λ v. (ne_eqb a s q v && (eqb b e && rest_of)) ⊻ (eqb a r && (ne_eqb b s z v && rest_of)))
+              ∙ and-false (eqb a r))
         ]
       ]
     ]
@@ -288,12 +380,16 @@ module _ (n r s e w : ℕ) (O X : ℕ → ℕ) (d : AreSides n r s) (thin : IsTh
 
     twice_sum : parity_below n (λ a. parity_below n (at_two n steps a)) ≡ false
     twice_sum =
-        parity_below-same n (λ a. parity_below n (at_two n steps a)) (λ a. (eqb a s && rest_of) ⊻ (eqb a r && rest_of)) (λ a la.
-        parity_below-same n (at_two n steps a) (λ b. (eqb a s && (eqb b e && rest_of)) ⊻ (eqb a r && (eqb b s && rest_of))) (λ b lb. two_is a b la lb)
+        parity_below-same n (λ a. parity_below n (at_two n steps a)) (λ a. (eqb a s && rest_of) ⊻ (eqb a r && rest_of))
+        (λ a la.
+        parity_below-same n (at_two n steps a)
+        (λ b. (eqb a s && (eqb b e && rest_of)) ⊻ (eqb a r && (eqb b s && rest_of))) (λ b lb. two_is a b la lb)
         ∙ parity-xor (λ b. eqb a s && (eqb b e && rest_of)) (λ b. eqb a r && (eqb b s && rest_of)) (below n)
         ∙ ap₂ (λ x y. x ⊻ y)
-        (parity-and (eqb a s) (λ b. eqb b e && rest_of) (below n) ∙ ap (λ z. eqb a s && z) (parity_below-one n e (λ b. rest_of) thin.e-lt))
-        (parity-and (eqb a r) (λ b. eqb b s && rest_of) (below n) ∙ ap (λ z. eqb a r && z) (parity_below-one n s (λ b. rest_of) d.s-lt)))
+        (parity-and (eqb a s) (λ b. eqb b e && rest_of) (below n)
+        ∙ ap (λ z. eqb a s && z) (parity_below-one n e (λ b. rest_of) thin.e-lt))
+        (parity-and (eqb a r) (λ b. eqb b s && rest_of) (below n)
+        ∙ ap (λ z. eqb a r && z) (parity_below-one n s (λ b. rest_of) d.s-lt)))
         ∙ parity-xor (λ a. eqb a s && rest_of) (λ a. eqb a r && rest_of) (below n)
         ∙ ap₂ (λ x y. x ⊻ y) (parity_below-one n s (λ a. rest_of) d.s-lt) (parity_below-one n r (λ a. rest_of) d.r-lt)
         ∙ xor_self rest_of
@@ -303,11 +399,18 @@ module _ (n r s e w : ℕ) (O X : ℕ → ℕ) (d : AreSides n r s) (thin : IsTh
     pairs_none =
         steps_cancel n steps
         (λ a c d. let no : differ a a ≡ false = differ-self a in
-        λ v. ((no v && (is_clear_of n f a a (f a) (f a) && penta n r s w O X a a (f a) (f a))) && (is_open n (O' n r s w O X) (X' n r s w O X) (exchanged f a a) c d && T (exchanged (exchanged f a a) c d)))
-        ⊻ ((no v && (is_clear_of n f a a (f a) (f a) && unmarked n O X a a (f a) (f a))) && (is_open_pentagon n r s w O X (exchanged f a a) c d && T (exchanged (exchanged f a a) c d))))
+        λ v. ((no v && (is_clear_of n f a a (f a) (f a) && penta n r s w O X a a (f a) (f a)))
+        && (is_open n (O' n r s w O X) (X' n r s w O X) (exchanged f a a) c d
+        && T (exchanged (exchanged f a a) c d)))
+        ⊻ ((no v && (is_clear_of n f a a (f a) (f a) && unmarked n O X a a (f a) (f a)))
+        && (is_open_pentagon n r s w O X (exchanged f a a) c d && T (exchanged (exchanged f a a) c d))))
         (λ a b c. let no : differ c c ≡ false = differ-self c in let g : ℕ → ℕ = exchanged f a b in
-        (λ v. (is_open_pentagon n r s w O X f a b && ((no v && (is_clear_of n g c c (g c) (g c) && unmarked n (O' n r s w O X) (X' n r s w O X) c c (g c) (g c))) && T (exchanged g c c)))
-        ⊻ (is_open n O X f a b && ((no v && (is_clear_of n g c c (g c) (g c) && penta n r s w O X c c (g c) (g c))) && T (exchanged g c c))))
+        (λ v. (is_open_pentagon n r s w O X f a b
+        && ((no v
+        && (is_clear_of n g c c (g c) (g c) && unmarked n (O' n r s w O X) (X' n r s w O X) c c (g c) (g c)))
+        && T (exchanged g c c)))
+        ⊻ (is_open n O X f a b
+        && ((no v && (is_clear_of n g c c (g c) (g c) && penta n r s w O X c c (g c) (g c))) && T (exchanged g c c))))
         ∙ ap₂ (λ x y. x ⊻ y) (and-false (is_open_pentagon n r s w O X f a b)) (and-false (is_open n O X f a b)))
         (four_none n r s w O X f T d one)
         (three_none n r s w O X f T d one)

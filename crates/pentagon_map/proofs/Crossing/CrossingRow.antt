@@ -71,7 +71,8 @@ module _ (g : Marks) (s : IsGrid g) (c : ℕ) (lc : c < size g) (h : are_commuti
   apart : beq (between o p t) (between o p q) ≡ true
   apart =
       beq_from _ _
-      (sym (λ i. are_same (in_range-between n o p t (s.o.small b lb) (s.x.small b lb) (s.o.small c lc) i) (in_range-between n o p q (s.o.small b lb) (s.x.small b lb) (s.x.small c lc) i))
+      (sym (λ i. are_same (in_range-between n o p t (s.o.small b lb) (s.x.small b lb) (s.o.small c lc) i)
+      (in_range-between n o p q (s.o.small b lb) (s.x.small b lb) (s.x.small c lc) i))
       ∙ not_separated g c lc h)
 
   over_at : (z : Bool) → between o q t ≡ z → IsCrossing g c (cond z t q)
@@ -96,7 +97,8 @@ module _ (g : Marks) (s : IsGrid g) (c : ℕ) (lc : c < size g) (h : are_commuti
 
   -- where `Under` is
   pub crossing_row-under : crossing_row g c Under ≡ cond (between t p o) p o
-  crossing_row-under = ap (λ z. cond z p o) (in_range-between n t p o (s.o.small c lc) (s.x.small b lb) (s.o.small b lb))
+  crossing_row-under =
+      ap (λ z. cond z p o) (in_range-between n t p o (s.o.small c lc) (s.x.small b lb) (s.o.small b lb))
 
   -- Up to a row of the right column there is no other row of the left one.
   pub crossing_row_IsCrossing : (corner : Corner) → IsCrossing g c (crossing_row g c corner)

@@ -52,15 +52,24 @@ leb_add x t k = grind arith
 leb_sub : (x t b : ℕ) → b ≤ x → b ≤ t → leb (x - b) (t - b) ≡ leb x t
 leb_sub x t b h k = grind arith
 
-leb-counted_from : (n b x t : ℕ) → b < n → x < n → t < n → leb (counted_from n b x) (counted_from n b t) ≡ order (leb b x) (leb b t) (leb x t)
+leb-counted_from : (n b x t : ℕ) → b < n → x < n → t < n
+    → leb (counted_from n b x) (counted_from n b t) ≡ order (leb b x) (leb b t) (leb x t)
 leb-counted_from n b x t lb lx lt = elim (cases_lt x b) [
   | inl h ↦ elim (cases_lt t b) [
-    | inl k ↦ ap₂ leb (counted_from-low n b x h) (counted_from-low n b t k) ∙ leb_add x t (n - b) ∙ sym (λ i. order (leb_high b x h i) (leb_high b t k i) (leb x t))
-    | inr k ↦ ap₂ leb (counted_from-low n b x h) (counted_from-high n b t k) ∙ leb_high (x + (n - b)) (t - b) (omega arith) ∙ sym (λ i. order (leb_high b x h i) (leb_low b t k i) (leb x t))
+    | inl k ↦
+        ap₂ leb (counted_from-low n b x h) (counted_from-low n b t k) ∙ leb_add x t (n - b)
+        ∙ sym (λ i. order (leb_high b x h i) (leb_high b t k i) (leb x t))
+    | inr k ↦
+        ap₂ leb (counted_from-low n b x h) (counted_from-high n b t k) ∙ leb_high (x + (n - b)) (t - b) (omega arith)
+        ∙ sym (λ i. order (leb_high b x h i) (leb_low b t k i) (leb x t))
   ]
   | inr h ↦ elim (cases_lt t b) [
-    | inl k ↦ ap₂ leb (counted_from-high n b x h) (counted_from-low n b t k) ∙ leb_low (x - b) (t + (n - b)) (omega arith) ∙ sym (λ i. order (leb_low b x h i) (leb_high b t k i) (leb x t))
-    | inr k ↦ ap₂ leb (counted_from-high n b x h) (counted_from-high n b t k) ∙ leb_sub x t b h k ∙ sym (λ i. order (leb_low b x h i) (leb_low b t k i) (leb x t))
+    | inl k ↦
+        ap₂ leb (counted_from-high n b x h) (counted_from-low n b t k) ∙ leb_low (x - b) (t + (n - b)) (omega arith)
+        ∙ sym (λ i. order (leb_low b x h i) (leb_high b t k i) (leb x t))
+    | inr k ↦
+        ap₂ leb (counted_from-high n b x h) (counted_from-high n b t k) ∙ leb_sub x t b h k
+        ∙ sym (λ i. order (leb_low b x h i) (leb_low b t k i) (leb x t))
   ]
 ]
 
@@ -82,9 +91,12 @@ turned_holds : (bx by bt xt yt xy : Bool) → turned_table bx by bt xt yt xy ≡
 unfolding turned_table
 turned_holds = same 6 turned_table (λ bx by bt xt yt xy. true) refl
 
-pub between-counted_from : (n b x y t : ℕ) → b < n → x < n → y < n → t < n → between (counted_from n b x) (counted_from n b y) (counted_from n b t) ≡ between x y t
+pub between-counted_from : (n b x y t : ℕ) → b < n → x < n → y < n → t < n
+    → between (counted_from n b x) (counted_from n b y) (counted_from n b t) ≡ between x y t
 unfolding turned_table
 between-counted_from n b x y t lb lx ly lt =
-    (λ i. leb-counted_from n b x t lb lx lt i ⊻ leb-counted_from n b y t lb ly lt i ⊻ (ltb_is (counted_from n b x) (counted_from n b y) ∙ ap not (leb-counted_from n b x y lb lx ly)) i)
-    ∙ beq_same _ _ (given _ _ (and_from _ _ (held_is b x t) (and_from _ _ (held_is b y t) (held_is b x y))) (turned_holds (leb b x) (leb b y) (leb b t) (leb x t) (leb y t) (leb x y)))
+    (λ i. leb-counted_from n b x t lb lx lt i ⊻ leb-counted_from n b y t lb ly lt i
+    ⊻ (ltb_is (counted_from n b x) (counted_from n b y) ∙ ap not (leb-counted_from n b x y lb lx ly)) i)
+    ∙ beq_same _ _ (given _ _ (and_from _ _ (held_is b x t) (and_from _ _ (held_is b y t) (held_is b x y)))
+    (turned_holds (leb b x) (leb b y) (leb b t) (leb x t) (leb y t) (leb x y)))
     ∙ sym (λ i. leb x t ⊻ leb y t ⊻ ltb_is x y i)

@@ -41,19 +41,30 @@ module _ (n : ℕ) (o x : ℕ → ℕ) (oo : IsOneToOne n o) (ox : IsOneToOne n 
     where
       each_small : (d : ℕ) → d < n → (d ≡ r) ⊎ (d ≢ r) → (d ≡ c) ⊎ (d ≢ c) → o' d < n
       each_small d l (inl i) v = let e = ap o' i ∙ exchanged-first o r c in let k = oo.small c lc in omega arith
-      each_small d l (inr u) (inl i) = let e = ap o' i ∙ exchanged-second o r c rc in let k = oo.small r lr in omega arith
+      each_small d l (inr u) (inl i) = let e = ap o' i ∙ exchanged-second o r c rc in let k = oo.small r lr in
+          omega arith
       each_small d l (inr u) (inr v) = let e = exchanged-other o r c d u v in let k = oo.small d l in omega arith
 
-      apart : (d e : ℕ) → d < n → e < n → d ≢ e → o' d ≡ o' e → (d ≡ r) ⊎ (d ≢ r) → (d ≡ c) ⊎ (d ≢ c) → (e ≡ r) ⊎ (e ≢ r) → (e ≡ c) ⊎ (e ≢ c) → ⊥
+      apart : (d e : ℕ) → d < n → e < n → d ≢ e → o' d ≡ o' e → (d ≡ r) ⊎ (d ≢ r) → (d ≡ c) ⊎ (d ≢ c)
+          → (e ≡ r) ⊎ (e ≢ r) → (e ≡ c) ⊎ (e ≢ c) → ⊥
       apart d e ld le p q (inl i) v (inl j) w = p (i ∙ sym j)
-      apart d e ld le p q (inl i) v (inr j) (inl k) = oo.apart c r lc lr (λ z. rc (sym z)) (sym (ap o' i ∙ exchanged-first o r c) ∙ q ∙ ap o' k ∙ exchanged-second o r c rc)
-      apart d e ld le p q (inl i) v (inr j) (inr k) = oo.apart c e lc le (λ z. k (sym z)) (sym (ap o' i ∙ exchanged-first o r c) ∙ q ∙ exchanged-other o r c e j k)
-      apart d e ld le p q (inr u) (inl i) (inl j) w = oo.apart r c lr lc rc (sym (ap o' i ∙ exchanged-second o r c rc) ∙ q ∙ ap o' j ∙ exchanged-first o r c)
+      apart d e ld le p q (inl i) v (inr j) (inl k) =
+          oo.apart c r lc lr (λ z. rc (sym z))
+          (sym (ap o' i ∙ exchanged-first o r c) ∙ q ∙ ap o' k ∙ exchanged-second o r c rc)
+      apart d e ld le p q (inl i) v (inr j) (inr k) =
+          oo.apart c e lc le (λ z. k (sym z)) (sym (ap o' i ∙ exchanged-first o r c) ∙ q ∙ exchanged-other o r c e j k)
+      apart d e ld le p q (inr u) (inl i) (inl j) w =
+          oo.apart r c lr lc rc (sym (ap o' i ∙ exchanged-second o r c rc) ∙ q ∙ ap o' j ∙ exchanged-first o r c)
       apart d e ld le p q (inr u) (inl i) (inr j) (inl k) = p (i ∙ sym k)
-      apart d e ld le p q (inr u) (inl i) (inr j) (inr k) = oo.apart r e lr le (λ z. j (sym z)) (sym (ap o' i ∙ exchanged-second o r c rc) ∙ q ∙ exchanged-other o r c e j k)
-      apart d e ld le p q (inr u) (inr v) (inl j) w = oo.apart d c ld lc v (sym (exchanged-other o r c d u v) ∙ q ∙ ap o' j ∙ exchanged-first o r c)
-      apart d e ld le p q (inr u) (inr v) (inr j) (inl k) = oo.apart d r ld lr u (sym (exchanged-other o r c d u v) ∙ q ∙ ap o' k ∙ exchanged-second o r c rc)
-      apart d e ld le p q (inr u) (inr v) (inr j) (inr k) = oo.apart d e ld le p (sym (exchanged-other o r c d u v) ∙ q ∙ exchanged-other o r c e j k)
+      apart d e ld le p q (inr u) (inl i) (inr j) (inr k) =
+          oo.apart r e lr le (λ z. j (sym z))
+          (sym (ap o' i ∙ exchanged-second o r c rc) ∙ q ∙ exchanged-other o r c e j k)
+      apart d e ld le p q (inr u) (inr v) (inl j) w =
+          oo.apart d c ld lc v (sym (exchanged-other o r c d u v) ∙ q ∙ ap o' j ∙ exchanged-first o r c)
+      apart d e ld le p q (inr u) (inr v) (inr j) (inl k) =
+          oo.apart d r ld lr u (sym (exchanged-other o r c d u v) ∙ q ∙ ap o' k ∙ exchanged-second o r c rc)
+      apart d e ld le p q (inr u) (inr v) (inr j) (inr k) =
+          oo.apart d e ld le p (sym (exchanged-other o r c d u v) ∙ q ∙ exchanged-other o r c e j k)
 
   exchange : IsExchange n r c (o r) (o c) o o'
   exchange = record {
@@ -72,8 +83,12 @@ module _ (n : ℕ) (o x : ℕ → ℕ) (oo : IsOneToOne n o) (ox : IsOneToOne n 
   -- no column is strictly between them
   none_inside : points_within n o r c (o r) (o c) ≡ pos 0
   none_inside = sum_below_vanishes n _ (λ d l. ap one_if (elim (cases_eq d r) [
-    | inl e ↦ ap (λ t. (between r c d && t) && is_between (o r) (o c) (o d)) (ap (λ k. not (eqb k r)) e ∙ differ-self r) ∙ same 2 (λ u v. (u && false) && v) (λ u v. false) refl (between r c d) (is_between (o r) (o c) (o d))
-    | inr p ↦ ap (λ t. (t && differ d r) && is_between (o r) (o c) (o d)) (ap (λ z. between r z d) (sym (one_up-one_down n c lc)) ∙ between-thin n r d lr l p)
+    | inl e ↦
+        ap (λ t. (between r c d && t) && is_between (o r) (o c) (o d)) (ap (λ k. not (eqb k r)) e ∙ differ-self r)
+        ∙ same 2 (λ u v. (u && false) && v) (λ u v. false) refl (between r c d) (is_between (o r) (o c) (o d))
+    | inr p ↦
+        ap (λ t. (t && differ d r) && is_between (o r) (o c) (o d))
+        (ap (λ z. between r z d) (sym (one_up-one_down n c lc)) ∙ between-thin n r d lr l p)
   ]))
 
   -- between the columns moved by one there is circle c alone
@@ -97,7 +112,9 @@ module _ (n : ℕ) (o x : ℕ → ℕ) (oo : IsOneToOne n o) (ox : IsOneToOne n 
 
   one_row : marks_between n x (r + 1) (c + 1) (o r + 1) (o c + 1) ≡ one_if (between (o r + 1) (o c + 1) (x c))
   one_row =
-      sum_below_same n _ (at_only c (λ d. one_if (between (o r + 1) (o c + 1) (x d)))) (λ d l. ap (λ t. one_if (t && between (o r + 1) (o c + 1) (x d))) (only_circle d l) ∙ by (eqb d c) (between (o r + 1) (o c + 1) (x d)))
+      sum_below_same n _ (at_only c (λ d. one_if (between (o r + 1) (o c + 1) (x d))))
+      (λ d l. ap (λ t. one_if (t && between (o r + 1) (o c + 1) (x d))) (only_circle d l)
+      ∙ by (eqb d c) (between (o r + 1) (o c + 1) (x d)))
       ∙ sum_below-at_only n c (λ d. one_if (between (o r + 1) (o c + 1) (x d))) lc
     where
       by : (t v : Bool) → one_if (t && v) ≡ cond t (one_if v) (pos 0)
@@ -106,7 +123,9 @@ module _ (n : ℕ) (o x : ℕ → ℕ) (oo : IsOneToOne n o) (ox : IsOneToOne n 
 
   -- M after is M before, less 1, and 2 more where the row of the point is past that of the left mark, up to that of the
   -- right one
-  pub maslov-columns : maslov_by_pairs n o' x +ℤ pos 1 ≡ maslov_by_pairs n o x +ℤ (one_if (between (o r + 1) (o c + 1) (x c)) +ℤ one_if (between (o r + 1) (o c + 1) (x c)))
+  pub maslov-columns : maslov_by_pairs n o' x +ℤ pos 1
+      ≡ maslov_by_pairs n o x
+      +ℤ (one_if (between (o r + 1) (o c + 1) (x c)) +ℤ one_if (between (o r + 1) (o c + 1) (x c)))
   maslov-columns =
       let on_the_left = pairs-exchanged_left n r c (o r) (o c) o o' exchange x ox in
       let of_marks = pairs-exchanged_both n r c (o r) (o c) o o' exchange in

@@ -51,7 +51,8 @@ pub record IsPentagonOf (n : ℕ) (o x : ℕ → ℕ) (c w a b : ℕ) : Type 0 w
   pub crossing : above_of w (o c) (o (one_down n c)) ≡ false
   pub empty : points_within n x a b (x a) (x b) ≡ pos 0
 
-module _ (n : ℕ) (o x y : ℕ → ℕ) (oo : IsOneToOne n o) (ox : IsOneToOne n x) (c w a b : ℕ) (lc : c < n) (big : 2 ≤ n) (d : IsPentagonOf n o x c w a b) where
+module _ (n : ℕ) (o x y : ℕ → ℕ) (oo : IsOneToOne n o) (ox : IsOneToOne n x) (c w a b : ℕ) (lc : c < n) (big : 2 ≤ n)
+    (d : IsPentagonOf n o x c w a b) where
   abbrev r : ℕ
   r = one_down n c
 
@@ -88,9 +89,12 @@ module _ (n : ℕ) (o x y : ℕ → ℕ) (oo : IsOneToOne n o) (ox : IsOneToOne 
   abbrev o' : ℕ → ℕ
   o' = exchanged o (one_down n c) c
 
-  one_column : (e : ℕ) → e < n → (v : Bool) → ((t : ℕ) → t < n → (between a b t && between (x a) (x b) (o' t)) ≡ (eqb t e && v)) → marks_between n o' a b (x a) (x b) ≡ one_if v
+  one_column : (e : ℕ) → e < n → (v : Bool)
+      → ((t : ℕ) → t < n → (between a b t && between (x a) (x b) (o' t)) ≡ (eqb t e && v))
+      → marks_between n o' a b (x a) (x b) ≡ one_if v
   one_column e le v each =
-      sum_below_same n _ (at_only e (λ t. one_if v)) (λ t l. ap one_if (each t l) ∙ by (eqb t e) v) ∙ sum_below-at_only n e (λ t. one_if v) le
+      sum_below_same n _ (at_only e (λ t. one_if v)) (λ t l. ap one_if (each t l) ∙ by (eqb t e) v)
+      ∙ sum_below-at_only n e (λ t. one_if v) le
     where
       by : (s v : Bool) → one_if (s && v) ≡ cond s (one_if v) (pos 0)
       by true v = refl
@@ -98,19 +102,24 @@ module _ (n : ℕ) (o x y : ℕ → ℕ) (oo : IsOneToOne n o) (ox : IsOneToOne 
 
   -- elsewhere there is none
   beside : (t : ℕ) → t < n → t ≢ r → t ≢ c → (between a b t && between (x a) (x b) (o' t)) ≡ false
-  beside t l p q = ap (λ k. between a b t && between (x a) (x b) k) (exchanged-other o r c t p q) ∙ d.none_beside t l p q
+  beside t l p q =
+      ap (λ k. between a b t && between (x a) (x b) k) (exchanged-other o r c t p q) ∙ d.none_beside t l p q
 
   marks_left : a ≡ c → marks_between n o' a b (x a) (x b) ≡ one_if (between (x c) (o c) (o r))
   marks_left e =
       one_column c lc (between (x c) (o c) (o r)) (λ t l. elim (cases_eq t c) [
         | inl i ↦
-            ap₂ (λ u v. u && between (x a) (x b) v) (ap (between a b) (i ∙ sym e) ∙ between_start a b d.apart) (ap o' i ∙ exchanged-second o r c rc)
+            ap₂ (λ u v. u && between (x a) (x b) v) (ap (between a b) (i ∙ sym e) ∙ between_start a b d.apart)
+            (ap o' i ∙ exchanged-second o r c rc)
             ∙ left_in n (x a) (x b) w (o r) (o c) rows ∙ ap (λ k. between (x k) (o c) (o r)) e
             ∙ sym (ap (λ s. s && between (x c) (o c) (o r)) (eq-eqb t c i))
         | inr p ↦
             elim (cases_eq t r) [
-              | inl i ↦ ap (λ s. s && between (x a) (x b) (o' t)) (ap (between a b) i ∙ between-one_down n a b c d.a_below d.b_below lc d.apart
-                  ∙ ap₂ (λ u v. (between a b c && u) || v) (ap (differ c) e ∙ differ-self c) (ne_eqb b c (λ k. d.apart (e ∙ sym k)))
+              | inl i ↦
+                  ap (λ s. s && between (x a) (x b) (o' t))
+                  (ap (between a b) i ∙ between-one_down n a b c d.a_below d.b_below lc d.apart
+                  ∙ ap₂ (λ u v. (between a b c && u) || v) (ap (differ c) e ∙ differ-self c)
+                  (ne_eqb b c (λ k. d.apart (e ∙ sym k)))
                   ∙ same 1 (λ u. (u && false) || false) (λ u. false) refl (between a b c))
               | inr q ↦ beside t l q p
             ]
@@ -122,7 +131,9 @@ module _ (n : ℕ) (o x y : ℕ → ℕ) (oo : IsOneToOne n o) (ox : IsOneToOne 
       one_column r lr (between (x c) (o c) (o r)) (λ t l. elim (cases_eq t r) [
         | inl i ↦
             ap₂ (λ u v. u && between (x a) (x b) v)
-            (ap (between a b) i ∙ between-one_down n a b c d.a_below d.b_below lc d.apart ∙ ap (λ u. (between a b c && differ c a) || u) (eq-eqb b c e) ∙ same 1 (λ u. u || true) (λ u. true) refl (between a b c && differ c a))
+            (ap (between a b) i ∙ between-one_down n a b c d.a_below d.b_below lc d.apart
+            ∙ ap (λ u. (between a b c && differ c a) || u) (eq-eqb b c e)
+            ∙ same 1 (λ u. u || true) (λ u. true) refl (between a b c && differ c a))
             (ap o' i ∙ exchanged-first o r c)
             ∙ right_in n (x a) (x b) w (o r) (o c) rows ∙ ap (λ k. between (x k) (o c) (o r)) e
             ∙ sym (ap (λ s. s && between (x c) (o c) (o r)) (eq-eqb t r i))

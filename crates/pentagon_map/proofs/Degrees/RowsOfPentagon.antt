@@ -26,12 +26,15 @@ pub less_is : (x y : ℕ) → ltb x y ≡ not (leb y x)
 less_is x y = grind arith
 
 -- with 0 for the crossing row
-left_from_zero : (j k a b : ℕ) → j ≢ k → a ≢ b → 0 < k → between j k 0 ≡ true → between j 0 b ≡ false → (0 < a → k ≤ a) → (0 < a → b < a) → between j k a ≡ between j b a
+left_from_zero : (j k a b : ℕ) → j ≢ k → a ≢ b → 0 < k → between j k 0 ≡ true → between j 0 b ≡ false → (0 < a → k ≤ a)
+    → (0 < a → b < a) → between j k a ≡ between j b a
 left_from_zero j k a b p q some h1 h2 h3 h4 = elim (cases_eq a 0) [
   | inl e ↦ at_zero a j k b e p q h1 h2
   | inr r ↦ elim (cases_eq j 0) [
     | inl e ↦ first_row j k a b e (h3 (omega arith)) (h4 (omega arith))
-    | inr t ↦ wrapped j k a b (omega arith) (h3 (omega arith)) (h4 (omega arith)) (past j b (omega arith) h2) (goes_round j k (omega arith) some h1)
+    | inr t ↦
+        wrapped j k a b (omega arith) (h3 (omega arith)) (h4 (omega arith)) (past j b (omega arith) h2)
+        (goes_round j k (omega arith) some h1)
   ]
 ]
   where
@@ -41,8 +44,10 @@ left_from_zero j k a b p q some h1 h2 h3 h4 = elim (cases_eq a 0) [
     goes_round : (j k : ℕ) → 0 < j → 0 < k → between j k 0 ≡ true → k < j
     goes_round j k s t h = grind arith
 
-    at_zero : (a j k b : ℕ) → a ≡ 0 → j ≢ k → a ≢ b → between j k 0 ≡ true → between j 0 b ≡ false → between j k a ≡ between j b a
-    at_zero a j k b e p q h1 h2 = ap (between j k) e ∙ h1 ∙ sym (ap (between j b) e ∙ (let some : 0 < b = omega arith in round j b some h2))
+    at_zero : (a j k b : ℕ) → a ≡ 0 → j ≢ k → a ≢ b → between j k 0 ≡ true → between j 0 b ≡ false
+        → between j k a ≡ between j b a
+    at_zero a j k b e p q h1 h2 =
+        ap (between j k) e ∙ h1 ∙ sym (ap (between j b) e ∙ (let some : 0 < b = omega arith in round j b some h2))
       where
         round : (j b : ℕ) → 0 < b → between j 0 b ≡ false → between j b 0 ≡ true
         round j b s h = grind arith
@@ -59,7 +64,8 @@ left_from_zero j k a b p q some h1 h2 h3 h4 = elim (cases_eq a 0) [
         from_start : (j k a : ℕ) → k < j → k ≤ a → between j k a ≡ leb j a
         from_start j k a h i = grind arith
 
-right_from_zero : (j k a b : ℕ) → j ≢ k → a ≢ b → 0 < k → between j k 0 ≡ true → between j 0 b ≡ false → (0 < a → k ≤ a) → (0 < a → b < a) → between j k b ≡ between k b a
+right_from_zero : (j k a b : ℕ) → j ≢ k → a ≢ b → 0 < k → between j k 0 ≡ true → between j 0 b ≡ false → (0 < a → k ≤ a)
+    → (0 < a → b < a) → between j k b ≡ between k b a
 right_from_zero j k a b p q some h1 h2 h3 h4 = elim (cases_eq a 0) [
   | inl e ↦ elim (cases_eq j 0) [
     | inl f ↦ in_low j k a b e f some (omega arith)
@@ -67,7 +73,9 @@ right_from_zero j k a b p q some h1 h2 h3 h4 = elim (cases_eq a 0) [
   ]
   | inr r ↦ elim (cases_eq j 0) [
     | inl f ↦ low_row j k a b f some (h3 (omega arith)) (h4 (omega arith))
-    | inr t ↦ wrap_row j k a b (h3 (omega arith)) (h4 (omega arith)) (past j b (omega arith) h2) (goes_round j k (omega arith) some h1)
+    | inr t ↦
+        wrap_row j k a b (h3 (omega arith)) (h4 (omega arith)) (past j b (omega arith) h2)
+        (goes_round j k (omega arith) some h1)
   ]
 ]
   where
@@ -84,13 +92,15 @@ right_from_zero j k a b p q some h1 h2 h3 h4 = elim (cases_eq a 0) [
     in_low j k a b e f s z = low j k b f ∙ sym (before k b a e s z)
       where
         low : (j k b : ℕ) → j ≡ 0 → between j k b ≡ ltb b k
-        low j k b f = (λ v. is_up j b (omega arith) v ⊻ leb k b ⊻ not_less k j (omega arith) v) ∙ same 1 (λ t. (true ⊻ t) ⊻ false) (λ t. not t) refl (leb k b) ∙ sym (less_is b k)
+        low j k b f = (λ v. is_up j b (omega arith) v ⊻ leb k b ⊻ not_less k j (omega arith) v)
+            ∙ same 1 (λ t. (true ⊻ t) ⊻ false) (λ t. not t) refl (leb k b) ∙ sym (less_is b k)
 
     in_wrap : (j k a b : ℕ) → a ≡ 0 → 0 < k → 0 < b → b < j → k < j → between j k b ≡ between k b a
     in_wrap j k a b e s z h i = wrap j k b h i ∙ sym (before k b a e s z)
       where
         wrap : (j k b : ℕ) → b < j → k < j → between j k b ≡ ltb b k
-        wrap j k b h i = (λ v. not_up j b h v ⊻ leb k b ⊻ is_less k j i v) ∙ same 1 (λ t. (false ⊻ t) ⊻ true) (λ t. not t) refl (leb k b) ∙ sym (less_is b k)
+        wrap j k b h i = (λ v. not_up j b h v ⊻ leb k b ⊻ is_less k j i v)
+            ∙ same 1 (λ t. (false ⊻ t) ⊻ true) (λ t. not t) refl (leb k b) ∙ sym (less_is b k)
 
     under : (k a b : ℕ) → k ≤ a → b < a → between k b a ≡ ltb b k
     under k a b h i = λ v. is_up k a h v ⊻ is_up b a (omega arith) v ⊻ ltb b k
@@ -99,13 +109,15 @@ right_from_zero j k a b p q some h1 h2 h3 h4 = elim (cases_eq a 0) [
     low_row j k a b f s h i = low j k b f ∙ sym (under k a b h i)
       where
         low : (j k b : ℕ) → j ≡ 0 → between j k b ≡ ltb b k
-        low j k b f = (λ v. is_up j b (omega arith) v ⊻ leb k b ⊻ not_less k j (omega arith) v) ∙ same 1 (λ t. (true ⊻ t) ⊻ false) (λ t. not t) refl (leb k b) ∙ sym (less_is b k)
+        low j k b f = (λ v. is_up j b (omega arith) v ⊻ leb k b ⊻ not_less k j (omega arith) v)
+            ∙ same 1 (λ t. (true ⊻ t) ⊻ false) (λ t. not t) refl (leb k b) ∙ sym (less_is b k)
 
     wrap_row : (j k a b : ℕ) → k ≤ a → b < a → b < j → k < j → between j k b ≡ between k b a
     wrap_row j k a b h i u v = wrap j k b u v ∙ sym (under k a b h i)
       where
         wrap : (j k b : ℕ) → b < j → k < j → between j k b ≡ ltb b k
-        wrap j k b h i = (λ v. not_up j b h v ⊻ leb k b ⊻ is_less k j i v) ∙ same 1 (λ t. (false ⊻ t) ⊻ true) (λ t. not t) refl (leb k b) ∙ sym (less_is b k)
+        wrap j k b h i = (λ v. not_up j b h v ⊻ leb k b ⊻ is_less k j i v)
+            ∙ same 1 (λ t. (false ⊻ t) ⊻ true) (λ t. not t) refl (leb k b) ∙ sym (less_is b k)
 
 -- the rows of a pentagon: j and k its low and high rows, w the crossing row, a the row of a mark of the left column
 -- and b that of the mark of the right one
@@ -126,7 +138,8 @@ module _ (n j k w a b : ℕ) (d : AreRows n j k w a b) where
   at : ℕ → ℕ
   at i = counted_from n w i
 
-  same_range : (x y i : ℕ) → x < n → y < n → i < n → between (counted_from n w x) (counted_from n w y) (counted_from n w i) ≡ between x y i
+  same_range : (x y i : ℕ) → x < n → y < n → i < n
+      → between (counted_from n w x) (counted_from n w y) (counted_from n w i) ≡ between x y i
   same_range x y i lx ly li = between-counted_from n w x y i d.w_below lx ly li
 
   zero_is : counted_from n w w ≡ 0
@@ -139,10 +152,12 @@ module _ (n j k w a b : ℕ) (d : AreRows n j k w a b) where
   wide = counted_from-apart n w k d.w_below kw
 
   h1 : between (counted_from n w j) (counted_from n w k) 0 ≡ true
-  h1 = ap (between (counted_from n w j) (counted_from n w k)) (sym zero_is) ∙ same_range j k w d.j_below d.k_below d.w_below ∙ d.crosses
+  h1 = ap (between (counted_from n w j) (counted_from n w k)) (sym zero_is)
+      ∙ same_range j k w d.j_below d.k_below d.w_below ∙ d.crosses
 
   h2 : between (counted_from n w j) 0 (counted_from n w b) ≡ false
-  h2 = ap (λ z. between (counted_from n w j) z (counted_from n w b)) (sym zero_is) ∙ same_range j w b d.j_below d.w_below d.b_below ∙ d.below
+  h2 = ap (λ z. between (counted_from n w j) z (counted_from n w b)) (sym zero_is)
+      ∙ same_range j w b d.j_below d.w_below d.b_below ∙ d.below
 
   not_w : 0 < counted_from n w a → a ≢ w
   not_w l e = let z = ap (counted_from n w) e ∙ zero_is in absurd (omega arith)
@@ -159,7 +174,8 @@ module _ (n j k w a b : ℕ) (d : AreRows n j k w a b) where
   outside : (i : ℕ) → i < n → i ≢ w → above_of w i a ≡ false → a ≢ w → counted_from n w i ≤ counted_from n w a
   outside i li p h q =
       past_zero (counted_from n w i) (counted_from n w a)
-      (ap (λ z. between z (counted_from n w i) (counted_from n w a)) (sym zero_is) ∙ same_range w i a d.w_below li d.a_below
+      (ap (λ z. between z (counted_from n w i) (counted_from n w a)) (sym zero_is)
+      ∙ same_range w i a d.w_below li d.a_below
       ∙ sym (ap (λ z. between w i a && z) (differ-true a w q) ∙ and-true (between w i a)) ∙ h)
       (counted_from-apart n w i d.w_below p)
 
@@ -172,19 +188,22 @@ module _ (n j k w a b : ℕ) (d : AreRows n j k w a b) where
   h4 : 0 < counted_from n w a → counted_from n w b < counted_from n w a
   h4 l = elim (cases_eq b w) [
     | inl e ↦ let z = ap (counted_from n w) e ∙ zero_is in omega arith
-    | inr p ↦ let m = outside b d.b_below p d.crossing (not_w l) in let q = apart a b d.a_below d.b_below d.ab in omega arith
+    | inr p ↦ let m = outside b d.b_below p d.crossing (not_w l) in let q = apart a b d.a_below d.b_below d.ab in
+        omega arith
   ]
 
   -- the row of the left column is in the rows of the pentagon, by the low row
   pub left_in : between j k a ≡ between j b a
   left_in =
       sym (same_range j k a d.j_below d.k_below d.a_below)
-      ∙ left_from_zero (counted_from n w j) (counted_from n w k) (counted_from n w a) (counted_from n w b) (apart j k d.j_below d.k_below d.jk) (apart a b d.a_below d.b_below d.ab) wide h1 h2 h3 h4
+      ∙ left_from_zero (counted_from n w j) (counted_from n w k) (counted_from n w a) (counted_from n w b)
+      (apart j k d.j_below d.k_below d.jk) (apart a b d.a_below d.b_below d.ab) wide h1 h2 h3 h4
       ∙ same_range j b a d.j_below d.b_below d.a_below
 
   -- and the row of the right one, by the high row
   pub right_in : between j k b ≡ between k b a
   right_in =
       sym (same_range j k b d.j_below d.k_below d.b_below)
-      ∙ right_from_zero (counted_from n w j) (counted_from n w k) (counted_from n w a) (counted_from n w b) (apart j k d.j_below d.k_below d.jk) (apart a b d.a_below d.b_below d.ab) wide h1 h2 h3 h4
+      ∙ right_from_zero (counted_from n w j) (counted_from n w k) (counted_from n w a) (counted_from n w b)
+      (apart j k d.j_below d.k_below d.jk) (apart a b d.a_below d.b_below d.ab) wide h1 h2 h3 h4
       ∙ same_range k b a d.k_below d.b_below d.a_below

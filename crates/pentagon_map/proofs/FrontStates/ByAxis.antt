@@ -34,7 +34,8 @@ plus_state-transposed g s =
     let y : List ℕ = plus_state g in
     let sy = IsBijection-plus_state g s in
     let one = one_to_one n g.x s.x in
-    same_list n (transpose y) (plus_state (transposed g)) (IsBijection-transposed n y sy).long (length-plus_state n (transposed g) (size-transposed g)) (λ r l.
+    same_list n (transpose y) (plus_state (transposed g)) (IsBijection-transposed n y sy).long
+    (length-plus_state n (transposed g) (size-transposed g)) (λ r l.
     let k = one_down_below n r l in
     let d : ℕ = column_of n (slice_index g.x) (one_down n r) in
     let ld = column_of-below n (slice_index g.x) one (one_down n r) k in
@@ -47,12 +48,16 @@ plus_state-transposed g s =
     ∙ one_up-one_down n r l in
     ap (slice_index (transpose y)) (sym is)
     ∙ transpose-at n y sy c lc
-    ∙ sym (plus_state-at n (transposed g) (size-transposed g) r l ∙ ap (one_up n) (slice_index-transpose n g.x (one_down n r) s.x.long k)))
+    ∙ sym (plus_state-at n (transposed g) (size-transposed g) r l
+    ∙ ap (one_up n) (slice_index-transpose n g.x (one_down n r) s.x.long k)))
 
 -- the image of a chain of one state
-pub image-single : (axis : Axis) (g : Marks) (c : ℕ) (corner : Corner) (x : List ℕ) → IsBijection (size g) x → image axis g c corner (single (rank x)) ≡ image_of_state axis g c corner x
+pub image-single : (axis : Axis) (g : Marks) (c : ℕ) (corner : Corner) (x : List ℕ) → IsBijection (size g) x
+    → image axis g c corner (single (rank x)) ≡ image_of_state axis g c corner x
 unfolding image
-image-single axis g c corner x sx = sum_over-single (rank x) (λ code. image_of_state axis g c corner (unrank (size g) code)) ∙ ap (image_of_state axis g c corner) (unrank-rank (size g) x sx)
+image-single axis g c corner x sx =
+    sum_over-single (rank x) (λ code. image_of_state axis g c corner (unrank (size g) code))
+    ∙ ap (image_of_state axis g c corner) (unrank-rank (size g) x sx)
 
 module _ (g : Marks) (s : IsGrid g) (c : ℕ) (lc : c < size g) (h : are_commuting Rows g c ≡ true) where
   abbrev n : ℕ
@@ -77,19 +82,24 @@ module _ (g : Marks) (s : IsGrid g) (c : ℕ) (lc : c < size g) (h : are_commuti
   rows-plus_state =
       ap (λ y. transposed_chain n (column_image t c Over y)) (plus_state-transposed g s)
       ∙ ap (transposed_chain n) (column_image-plus_state t st c lt h)
-      ∙ carried-single n transpose transpose (transpose_AreInverse n) (plus_state (swapped_columns t c)) (subst (λ m. IsBijection m (plus_state (swapped_columns t c))) same_size (IsBijection-plus_state (swapped_columns t c) there))
+      ∙ carried-single n transpose transpose (transpose_AreInverse n) (plus_state (swapped_columns t c))
+      (subst (λ m. IsBijection m (plus_state (swapped_columns t c))) same_size
+      (IsBijection-plus_state (swapped_columns t c) there))
       ∙ ap (λ y. single (rank y)) (plus_state-transposed (swapped_columns t c) there)
 
   rows-minus_state : image_of_state Rows g c Under (minus_state g) ≡ single (rank (minus_state (swapped Rows g c)))
   rows-minus_state =
       ap (transposed_chain n) (column_image-minus_state t st c lt h)
-      ∙ carried-single n transpose transpose (transpose_AreInverse n) (swapped_columns t c).x (subst (λ m. IsBijection m (swapped_columns t c).x) same_size there.x)
+      ∙ carried-single n transpose transpose (transpose_AreInverse n) (swapped_columns t c).x
+      (subst (λ m. IsBijection m (swapped_columns t c).x) same_size there.x)
 
 -- `Over` carries x+ to x+.
 pub image-plus_state : (axis : Axis) (g : Marks) → IsGrid g → (c : ℕ) → c < size g → are_commuting axis g c ≡ true
     → image axis g c Over (single (rank (plus_state g))) ≡ single (rank (plus_state (swapped axis g c)))
-image-plus_state Cols g s c l h = image-single Cols g c Over (plus_state g) (IsBijection-plus_state g s) ∙ column_image-plus_state g s c l h
-image-plus_state Rows g s c l h = image-single Rows g c Over (plus_state g) (IsBijection-plus_state g s) ∙ rows-plus_state g s c l h
+image-plus_state Cols g s c l h =
+    image-single Cols g c Over (plus_state g) (IsBijection-plus_state g s) ∙ column_image-plus_state g s c l h
+image-plus_state Rows g s c l h =
+    image-single Rows g c Over (plus_state g) (IsBijection-plus_state g s) ∙ rows-plus_state g s c l h
 
 -- `Under` carries x- to x-.
 pub image-minus_state : (axis : Axis) (g : Marks) → IsGrid g → (c : ℕ) → c < size g → are_commuting axis g c ≡ true

@@ -13,7 +13,8 @@ use Rattle.pentagon_map.proofs.ChainMap.RowArcs.{above_of}
 pub last_column : (n a b : ℕ) → a < n → b < n → a ≢ b → between a b (one_down n b) ≡ true
 last_column n a b la lb p =
     between-one_down n a b b la lb lb p
-    ∙ ap (λ z. (between a b b && differ b a) || z) (eq-eqb b b refl) ∙ same 1 (λ z. z || true) (λ z. true) refl (between a b b && differ b a)
+    ∙ ap (λ z. (between a b b && differ b a) || z) (eq-eqb b b refl)
+    ∙ same 1 (λ z. z || true) (λ z. true) refl (between a b b && differ b a)
 
 last_low : (j k m : ℕ) → k ≡ m + 1 → j ≢ k → between j k m ≡ true
 last_low j k m e p = grind arith
@@ -35,11 +36,13 @@ begin_up n p k i lp lk li q h = between-one_up n p k i lp lk li q ∙ ap (λ z. 
 end_low : (t q k i : ℕ) → k ≡ q + 1 → t ≢ q → i ≢ q → between t q i ≡ false → between t k i ≡ false
 end_low t q k i e p r h = grind arith
 
-end_top : (n t q k i : ℕ) → q + 1 ≡ n → k ≡ 0 → t < n → i < n → t ≢ q → i ≢ q → between t q i ≡ false → between t k i ≡ false
+end_top : (n t q k i : ℕ) → q + 1 ≡ n → k ≡ 0 → t < n → i < n → t ≢ q → i ≢ q → between t q i ≡ false
+    → between t k i ≡ false
 end_top n t q k i e f lt li p r h = grind arith
 
 -- a range that ends one further
-pub end_up : (n t q i : ℕ) → t < n → q < n → i < n → t ≢ q → i ≢ q → between t q i ≡ false → between t (one_up n q) i ≡ false
+pub end_up : (n t q i : ℕ) → t < n → q < n → i < n → t ≢ q → i ≢ q → between t q i ≡ false
+    → between t (one_up n q) i ≡ false
 end_up n t q i lt lq li p r h = elim (one_up_cases n q lq) [
   | inl k ↦ end_low t q (one_up n q) i k.1 p r h
   | inr k ↦ end_top n t q (one_up n q) i k.0 k.1 lt li p r h
@@ -48,14 +51,17 @@ end_up n t q i lt lq li p r h = elim (one_up_cases n q lq) [
 both_low : (p q j k t : ℕ) → j ≡ p + 1 → k ≡ q + 1 → t ≢ p → between p q t ≡ true → between j k t ≡ true
 both_low p q j k t e f r h = grind arith
 
-both_first : (n p q j k t : ℕ) → p + 1 ≡ n → j ≡ 0 → k ≡ q + 1 → t < n → t ≢ p → between p q t ≡ true → between j k t ≡ true
+both_first : (n p q j k t : ℕ) → p + 1 ≡ n → j ≡ 0 → k ≡ q + 1 → t < n → t ≢ p → between p q t ≡ true
+    → between j k t ≡ true
 both_first n p q j k t e f i lt r h = grind arith
 
-both_last : (n p q j k t : ℕ) → j ≡ p + 1 → q + 1 ≡ n → k ≡ 0 → j < n → t < n → t ≢ p → between p q t ≡ true → between j k t ≡ true
+both_last : (n p q j k t : ℕ) → j ≡ p + 1 → q + 1 ≡ n → k ≡ 0 → j < n → t < n → t ≢ p → between p q t ≡ true
+    → between j k t ≡ true
 both_last n p q j k t e f i lj lt r h = grind arith
 
 -- a range that begins and ends one further
-pub both_up : (n p q t : ℕ) → p < n → q < n → t < n → p ≢ q → t ≢ p → between p q t ≡ true → between (one_up n p) (one_up n q) t ≡ true
+pub both_up : (n p q t : ℕ) → p < n → q < n → t < n → p ≢ q → t ≢ p → between p q t ≡ true
+    → between (one_up n p) (one_up n q) t ≡ true
 both_up n p q t lp lq lt pq r h = elim (one_up_cases n p lp) [
   | inl a ↦ elim (one_up_cases n q lq) [
     | inl b ↦ both_low p q (one_up n p) (one_up n q) t a.1 b.1 r h
@@ -70,7 +76,9 @@ both_up n p q t lp lq lt pq r h = elim (one_up_cases n p lp) [
 -- up to the number after w there is w alone
 pub above_none : (n w i : ℕ) → w < n → i < n → above_of w (one_up n w) i ≡ false
 above_none n w i lw li = elim (cases_eq i w) [
-  | inl e ↦ ap (λ z. between w (one_up n w) i && z) (ap (λ v. differ v w) e ∙ differ-self w) ∙ and-false (between w (one_up n w) i)
+  | inl e ↦
+      ap (λ z. between w (one_up n w) i && z) (ap (λ v. differ v w) e ∙ differ-self w)
+      ∙ and-false (between w (one_up n w) i)
   | inr p ↦ ap (λ z. z && differ i w) (between-thin n w i lw li p)
 ]
 

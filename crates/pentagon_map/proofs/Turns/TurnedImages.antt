@@ -29,17 +29,21 @@ use Rattle.pentagon_map.specs.declared.Corner.{Corner}
 use Rattle.pentagon_map.specs.declared.Corner.TheVariants.{Over, Under}
 
 -- what the image of a state holds, for a grid whose size is given by a name
-holds-named : (g : Marks) (s : IsGrid g) (n : ℕ) → size g ≡ n → (c : ℕ) (corner : Corner) → c < n → (x : List ℕ) → IsBijection n x → (q : ℕ)
+holds-named : (g : Marks) (s : IsGrid g) (n : ℕ) → size g ≡ n → (c : ℕ) (corner : Corner) → c < n → (x : List ℕ)
+    → IsBijection n x → (q : ℕ)
     → holds (column_image g c corner x) q
-    ≡ parity_below n (λ a. parity_below n (λ b. is_open_pentagon n (one_down n c) c (crossing_row g c corner) (slice_index g.o) (slice_index g.x) (slice_index x) a b && eqb q (rank (swap x a b))))
+    ≡ parity_below n (λ a. parity_below n (λ b. is_open_pentagon n (one_down n c) c (crossing_row g c corner)
+    (slice_index g.o) (slice_index g.x) (slice_index x) a b && eqb q (rank (swap x a b))))
 holds-named g s n e c corner =
     let P : ℕ → Type 0 = λ m. c < m → (x : List ℕ) → IsBijection m x → (q : ℕ)
     → holds (column_image g c corner x) q
-    ≡ parity_below m (λ a. parity_below m (λ b. is_open_pentagon m (one_down m c) c (crossing_row g c corner) (slice_index g.o) (slice_index g.x) (slice_index x) a b && eqb q (rank (swap x a b)))) in
+    ≡ parity_below m (λ a. parity_below m (λ b. is_open_pentagon m (one_down m c) c (crossing_row g c corner)
+    (slice_index g.o) (slice_index g.x) (slice_index x) a b && eqb q (rank (swap x a b)))) in
     subst P e (λ lc x sx q. holds-column_image g s c corner lc (crossing_row-below g s c lc corner) x sx q)
 
 -- of rows that are moved, the one that is met first, or last
-first_met-moved : (n : ℕ) (h : ℕ → ℕ) → IsShift n h → (i j k : ℕ) → i < n → j < n → k < n → first_met n (h i) (h j) (h k) ≡ h (first_met n i j k)
+first_met-moved : (n : ℕ) (h : ℕ → ℕ) → IsShift n h → (i j k : ℕ) → i < n → j < n → k < n
+    → first_met n (h i) (h j) (h k) ≡ h (first_met n i j k)
 first_met-moved n h sh i j k li lj lk =
     ap (λ z. cond z (h j) (h k)) (sh.range i k j li lk lj)
     ∙ by (in_range n i k j)
@@ -48,7 +52,8 @@ first_met-moved n h sh i j k li lj lk =
     by true = refl
     by false = refl
 
-last_met-moved : (n : ℕ) (h : ℕ → ℕ) → IsShift n h → (i j k : ℕ) → i < n → j < n → k < n → last_met n (h i) (h j) (h k) ≡ h (last_met n i j k)
+last_met-moved : (n : ℕ) (h : ℕ → ℕ) → IsShift n h → (i j k : ℕ) → i < n → j < n → k < n
+    → last_met n (h i) (h j) (h k) ≡ h (last_met n i j k)
 last_met-moved n h sh i j k li lj lk =
     ap (λ z. cond z (h k) (h j)) (sh.range i k j li lk lj)
     ∙ by (in_range n i k j)
@@ -90,39 +95,52 @@ module _ (side : Side) (g : Marks) (s : IsGrid g) (c : ℕ) (lc : c < size g) (c
   crossing-turned Over =
       ap (λ m. first_met m (slice_index t.o (one_down m (f c))) (slice_index t.o (f c)) (slice_index t.x (f c))) size_is
       ∙ ap (λ d. first_met n (slice_index t.o d) (slice_index t.o (f c)) (slice_index t.x (f c))) (sf.before c lc)
-      ∙ (λ i. first_met n (at_target side n g.o (one_down n c) lr i) (at_target side n g.o c lc i) (at_target side n g.x c lc i))
+      ∙ (λ i. first_met n (at_target side n g.o (one_down n c) lr i) (at_target side n g.o c lc i)
+      (at_target side n g.x c lc i))
       ∙ first_met-moved n h sh _ _ _ (s.o.small (one_down n c) lr) (s.o.small c lc) (s.x.small c lc)
   crossing-turned Under =
-      ap (λ m. last_met m (slice_index t.o (f c)) (slice_index t.o (one_down m (f c))) (slice_index t.x (one_down m (f c)))) size_is
+      ap (λ m. last_met m (slice_index t.o (f c)) (slice_index t.o (one_down m (f c)))
+      (slice_index t.x (one_down m (f c)))) size_is
       ∙ ap (λ d. last_met n (slice_index t.o (f c)) (slice_index t.o d) (slice_index t.x d)) (sf.before c lc)
-      ∙ (λ i. last_met n (at_target side n g.o c lc i) (at_target side n g.o (one_down n c) lr i) (at_target side n g.x (one_down n c) lr i))
+      ∙ (λ i. last_met n (at_target side n g.o c lc i) (at_target side n g.o (one_down n c) lr i)
+      (at_target side n g.x (one_down n c) lr i))
       ∙ last_met-moved n h sh _ _ _ (s.o.small c lc) (s.o.small (one_down n c) lr) (s.x.small (one_down n c) lr)
 
   same_rank : (y z : List ℕ) → IsBijection n y → IsBijection n z → eqb (rank (T y)) (rank (T z)) ≡ eqb (rank y) (rank z)
   same_rank y z sy sz =
       eqb_alike (rank (T y)) (rank (T z)) (rank y) (rank z)
-      (λ e. ap rank (sym (turned_state-back side n y sy) ∙ ap (turned_state (opposite side)) (rank_one_to_one n (T y) (T z) (IsBijection-turned_state side n y sy) (IsBijection-turned_state side n z sz) e) ∙ turned_state-back side n z sz))
+      (λ e. ap rank (sym (turned_state-back side n y sy) ∙ ap (turned_state (opposite side))
+      (rank_one_to_one n (T y) (T z) (IsBijection-turned_state side n y sy)
+      (IsBijection-turned_state side n z sz) e) ∙ turned_state-back side n z sz))
       (λ e. ap (λ w. rank (T w)) (rank_one_to_one n y z sy sz e))
 
-  steps : (x y : List ℕ) → IsBijection n x → IsBijection n y → holds (column_image t (f c) corner (T x)) (rank (T y)) ≡ holds (column_image g c corner x) (rank y)
+  steps : (x y : List ℕ) → IsBijection n x → IsBijection n y
+      → holds (column_image t (f c) corner (T x)) (rank (T y)) ≡ holds (column_image g c corner x) (rank y)
   steps x y sx sy =
       let w : ℕ = crossing_row g c corner in
       let lw = crossing_row-below g s c lc corner in
       let st = IsBijection-turned_state side n x sx in
       holds-named t (IsGrid-turned side g s) n size_is (f c) corner (sf.one.small c lc) (T x) st (rank (T y))
-      ∙ sym (parity_below_reindex_both n f sf.one (λ a b. is_open_pentagon n (one_down n (f c)) (f c) (crossing_row t (f c) corner) (slice_index t.o) (slice_index t.x) (slice_index (T x)) a b && eqb (rank (T y)) (rank (swap (T x) a b))))
+      ∙ sym (parity_below_reindex_both n f sf.one
+      (λ a b. is_open_pentagon n (one_down n (f c)) (f c) (crossing_row t (f c) corner) (slice_index t.o)
+      (slice_index t.x) (slice_index (T x)) a b && eqb (rank (T y)) (rank (swap (T x) a b))))
       ∙ parity_below-same n _ _ (λ a la. parity_below-same n _ _ (λ b lb.
       ap₂ (λ u v. u && v)
-      ((λ i. is_open_pentagon n (sf.before c lc i) (f c) (crossing-turned corner i) (slice_index t.o) (slice_index t.x) (slice_index (T x)) (f a) (f b))
-      ∙ pentagon-turned n f h sf sh (slice_index g.o) (slice_index g.x) (slice_index t.o) (slice_index t.x) s.o.small s.x.small (at_target side n g.o) (at_target side n g.x)
+      ((λ i. is_open_pentagon n (sf.before c lc i) (f c) (crossing-turned corner i) (slice_index t.o) (slice_index t.x)
+      (slice_index (T x)) (f a) (f b))
+      ∙ pentagon-turned n f h sf sh (slice_index g.o) (slice_index g.x) (slice_index t.o)
+      (slice_index t.x) s.o.small s.x.small (at_target side n g.o) (at_target side n g.x)
       (slice_index x) (slice_index (T x)) sx.small (state-at_target side n x sx) (one_down n c) c w a b lr lc lw la lb)
-      (ap (λ z. eqb (rank (T y)) (rank z)) (swap-turned side n x sx a b la lb) ∙ same_rank y (swap x a b) sy (IsBijection-swap n x a b la lb sx))))
+      (ap (λ z. eqb (rank (T y)) (rank z)) (swap-turned side n x sx a b la lb)
+      ∙ same_rank y (swap x a b) sy (IsBijection-swap n x a b la lb sx))))
       ∙ sym (holds-named g s n refl c corner lc x sx (rank y))
 
   -- A turn carries the image of a chain to that of the turned chain.
-  pub image_by_columns-turned : (z : Chain) → image_by_columns t (f c) corner (turned_chain side n z) ≡ turned_chain side n (image_by_columns g c corner z)
+  pub image_by_columns-turned : (z : Chain)
+      → image_by_columns t (f c) corner (turned_chain side n z) ≡ turned_chain side n (image_by_columns g c corner z)
   unfolding image_by_columns
   image_by_columns-turned z =
       ap (λ m. sum_over (turned_chain side n z) (λ code. column_image t (f c) corner (unrank m code))) size_is
-      ∙ sum_over-carried n (turned_state side) (turned_state (opposite side)) (turned_AreInverse side n) (column_image g c corner) (column_image t (f c) corner)
+      ∙ sum_over-carried n (turned_state side) (turned_state (opposite side)) (turned_AreInverse side n)
+      (column_image g c corner) (column_image t (f c) corner)
       (column_image_IsOfStates g n refl c corner) (column_image_IsOfStates t n size_is (f c) corner) steps z

@@ -1,5 +1,6 @@
 -- The pentagons of one state, and the order in which the states come out that they lead to.
---     across axis g                  the grid whose columns are exchanged: the grid itself, or for rows the transposed one
+--     across axis g                  the grid whose columns are exchanged: the grid itself, or for rows the transposed
+--                                    one
 --     is_pentagon_at g c w x a b     the rectangle from the point of x on circle a up to its point on circle b is a
 --                                    pentagon, of the crossing in row w
 --     is_odd_circle g c w x b        exactly one of the two rectangles between the circles c and b is a pentagon
@@ -31,7 +32,8 @@ is_pentagon_at g c w x a b = is_empty x (leaving x a b) && is_pentagonal g c w (
 unfoldable pub is_odd_circle : Marks → ℕ → ℕ → List ℕ → ℕ → Bool
 is_odd_circle g c w x b =
     not (b == c)
-    && ((is_pentagon_at g c w x c b && not (is_pentagon_at g c w x b c)) || (not (is_pentagon_at g c w x c b) && is_pentagon_at g c w x b c))
+    && ((is_pentagon_at g c w x c b && not (is_pentagon_at g c w x b c))
+    || (not (is_pentagon_at g c w x c b) && is_pentagon_at g c w x b c))
 
 abbrev pub is_set : ℕ → ℕ → Bool
 is_set bits i = bit_at bits i == 1

@@ -20,15 +20,19 @@ pub grid_complex_rules : (g : Marks) → IsGrid g → IsComplex (grid_complex g)
 grid_complex_rules g s = grid_complex_IsComplex g s (lowers_degrees g s)
 
 -- a state of the border of x has the degree below that of x
-pub bidegree-border_of_state : (g : Marks) → IsGrid g → (x y : List ℕ) → IsBijection (size g) x → IsBijection (size g) y → holds (border_of_state g x) (rank y) ≡ true
+pub bidegree-border_of_state : (g : Marks) → IsGrid g → (x y : List ℕ) → IsBijection (size g) x → IsBijection (size g) y
+    → holds (border_of_state g x) (rank y) ≡ true
     → bidegree g x ≡ up_m (bidegree g y)
 bidegree-border_of_state g s x y sx sy h =
     let (u, su, is, (r, proper, step)) = step_of_border g x (rank y) h in
     lowers_degrees g s x u r sx su proper step ∙ ap (λ z. up_m (bidegree g z)) (rank_one_to_one (size g) u y su sy is)
 
-module _ (g : Marks) (s : IsGrid g) (x y : List ℕ) (sx : IsState x) (sy : IsState y) (ex : length x ≡ size g) (ey : length y ≡ size g) (h : holds (border_of_state g x) (rank y) ≡ true) where
+module _ (g : Marks) (s : IsGrid g) (x y : List ℕ) (sx : IsState x) (sy : IsState y) (ex : length x ≡ size g)
+    (ey : length y ≡ size g) (h : holds (border_of_state g x) (rank y) ≡ true) where
   lowered : bidegree g x ≡ up_m (bidegree g y)
-  lowered = bidegree-border_of_state g s x y (subst (λ n. IsBijection n x) ex sx.bijection) (subst (λ n. IsBijection n y) ey sy.bijection) h
+  lowered =
+      bidegree-border_of_state g s x y (subst (λ n. IsBijection n x) ex sx.bijection)
+      (subst (λ n. IsBijection n y) ey sy.bijection) h
 
   -- its Maslov degree is one lower
   pub maslov_o-border_of_state : maslov_o g x ≡ maslov_o g y +ℤ pos 1
@@ -39,13 +43,15 @@ module _ (g : Marks) (s : IsGrid g) (x y : List ℕ) (sx : IsState x) (sy : IsSt
   alexander-border_of_state = ap (λ d. d.1) lowered
 
 -- the same of each of a list of states whose ranks are the codes of the border
-pub bidegree-listed : (g : Marks) → IsGrid g → (x : List ℕ) → IsBijection (size g) x → (ys : List (List ℕ)) → map rank ys ≡ codes (border_of_state g x)
+pub bidegree-listed : (g : Marks) → IsGrid g → (x : List ℕ) → IsBijection (size g) x → (ys : List (List ℕ))
+    → map rank ys ≡ codes (border_of_state g x)
     → All (λ y. IsState y × (length y ≡ size g)) ys → All (λ y. bidegree g x ≡ up_m (bidegree g y)) ys
 bidegree-listed g s x sx ys listed states k d l =
     let y : List ℕ = get_or ys k d in
     let (sy, ey) = states k d l in
     let held : All (λ c. holds (border_of_state g x) c ≡ true) (map rank ys) =
-    subst (All (λ c. holds (border_of_state g x) c ≡ true)) (sym listed) (All-codes (λ c. holds (border_of_state g x) c ≡ true) (border_of_state g x) (λ c h. h)) in
+    subst (All (λ c. holds (border_of_state g x) c ≡ true)) (sym listed)
+    (All-codes (λ c. holds (border_of_state g x) c ≡ true) (border_of_state g x) (λ c h. h)) in
     let long : length (map rank ys) ≡ length ys = length-map ys rank in
     let at : get_or (map rank ys) k 0 ≡ rank y = get_or-map rank ys k d 0 l in
     bidegree-border_of_state g s x y sx (subst (λ n. IsBijection n y) ey sy.bijection)

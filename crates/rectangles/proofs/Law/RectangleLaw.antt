@@ -36,7 +36,8 @@ pub record IsWay (n : ℕ) (x y : List ℕ) (r : Rect) : Type 0 where
   pub others : (c : ℕ) → c < n → c ≢ r.left → c ≢ r.right → slice_index x c ≡ slice_index y c
 
 -- the two points moved, along a rectangle with these corners
-pub IsWay-swap : (n : ℕ) (x : List ℕ) (r : Rect) → IsBijection n x → r.left < n → r.right < n → r.left ≢ r.right → slice_index x r.left ≡ r.low → slice_index x r.right ≡ r.high
+pub IsWay-swap : (n : ℕ) (x : List ℕ) (r : Rect) → IsBijection n x → r.left < n → r.right < n → r.left ≢ r.right
+    → slice_index x r.left ≡ r.low → slice_index x r.right ≡ r.high
     → IsWay n x (swap x r.left r.right) r
 IsWay-swap n x r state left right apart low high =
     let left_in : r.left < length x = let long = state.long in omega arith in
@@ -75,16 +76,26 @@ module _ (n : ℕ) (x y : List ℕ) (r : Rect) (way : IsWay n x y r) where
   }
 
   -- for each set of marks that is a bijection
-  pub maslov-rectangle : (o : List ℕ) → IsBijection n o → maslov n o x -ℤ maslov n o y ≡ pos 1 -ℤ pos 2 *ℤ marks_in n o r +ℤ pos 2 *ℤ points_inside n x r
+  pub maslov-rectangle : (o : List ℕ) → IsBijection n o
+      → maslov n o x -ℤ maslov n o y ≡ pos 1 -ℤ pos 2 *ℤ marks_in n o r +ℤ pos 2 *ℤ points_inside n x r
   maslov-rectangle o bo =
       let proper = way.proper in
       let of_x = maslov-by_pairs n o x bo way.from in
       let of_y = maslov-by_pairs n o y bo way.to in
-      let law = maslov-exchanged n r.left r.right r.low r.high (slice_index x) (slice_index y) exchange (slice_index o) (one_to_one n o bo) in
-      let marks : marks_in n o r ≡ marks_between n (slice_index o) r.left r.right r.low r.high = sum_below_same n (λ c. one_if (in_range n r.left r.right c && in_range n r.low r.high (slice_index o c))) (λ c. one_if _) (λ c l.
-      λ i. one_if (in_range-between n r.left r.right c proper.left_below proper.right_below l i && in_range-between n r.low r.high (slice_index o c) proper.low_below proper.high_below (bo.small c l) i)) in
-      let points : points_inside n x r ≡ points_within n (slice_index x) r.left r.right r.low r.high = sum_below_same n (λ c. one_if (is_inside n r.left r.right c && is_inside n r.low r.high (slice_index x c))) (λ c. one_if _) (λ c l.
-      λ i. one_if (is_inside-between n r.left r.right c proper.left_below proper.right_below l i && is_inside-between n r.low r.high (slice_index x c) proper.low_below proper.high_below (way.from.small c l) i)) in
+      let law =
+      maslov-exchanged n r.left r.right r.low r.high (slice_index x) (slice_index y) exchange (slice_index o)
+      (one_to_one n o bo) in
+      let marks : marks_in n o r ≡ marks_between n (slice_index o) r.left r.right r.low r.high =
+      sum_below_same n (λ c. one_if (in_range n r.left r.right c && in_range n r.low r.high (slice_index o c)))
+      (λ c. one_if _) (λ c l.
+      λ i. one_if (in_range-between n r.left r.right c proper.left_below proper.right_below l i
+      && in_range-between n r.low r.high (slice_index o c) proper.low_below proper.high_below (bo.small c l) i)) in
+      let points : points_inside n x r ≡ points_within n (slice_index x) r.left r.right r.low r.high =
+      sum_below_same n (λ c. one_if (is_inside n r.left r.right c && is_inside n r.low r.high (slice_index x c)))
+      (λ c. one_if _) (λ c l.
+      λ i. one_if (is_inside-between n r.left r.right c proper.left_below proper.right_below l i
+      && is_inside-between n r.low r.high (slice_index x c) proper.low_below proper.high_below
+      (way.from.small c l) i)) in
       omega (arith, ints)
 
 -- ---- steps of the border
@@ -99,7 +110,8 @@ none_of_two true false true h = absurd (false≢true h)
 none_of_two true false false h = (refl, refl)
 none_of_two false v w h = (refl, refl)
 
-module _ (g : Marks) (grid : IsGrid g) (x y : List ℕ) (r : Rect) (from : IsBijection (size g) x) (to : IsBijection (size g) y) (proper : IsProper (size g) r) (step : is_step g x y r ≡ true) where
+module _ (g : Marks) (grid : IsGrid g) (x y : List ℕ) (r : Rect) (from : IsBijection (size g) x)
+    (to : IsBijection (size g) y) (proper : IsProper (size g) r) (step : is_step g x y r ≡ true) where
   abbrev n : ℕ
   n = size g
 
@@ -107,28 +119,36 @@ module _ (g : Marks) (grid : IsGrid g) (x y : List ℕ) (r : Rect) (from : IsBij
   leading = (and_parts (leads r x y) (is_empty x r && is_unmarked g r) step).0
 
   empty : is_empty x r ≡ true
-  empty = (and_parts (is_empty x r) (is_unmarked g r) (and_parts (leads r x y) (is_empty x r && is_unmarked g r) step).1).0
+  empty = (and_parts (is_empty x r) (is_unmarked g r)
+      (and_parts (leads r x y) (is_empty x r && is_unmarked g r) step).1).0
 
   unmarked : is_unmarked g r ≡ true
-  unmarked = (and_parts (is_empty x r) (is_unmarked g r) (and_parts (leads r x y) (is_empty x r && is_unmarked g r) step).1).1
+  unmarked =
+      (and_parts (is_empty x r) (is_unmarked g r) (and_parts (leads r x y) (is_empty x r && is_unmarked g r) step).1).1
 
   low : slice_index x r.left ≡ r.low
-  low = eqb-true (slice_index x r.left) r.low (and_parts (eqb (slice_index x r.left) r.low) (eqb (slice_index x r.right) r.high && is_same (swap x r.left r.right) y) leading).0
+  low = eqb-true (slice_index x r.left) r.low
+      (and_parts (eqb (slice_index x r.left) r.low)
+      (eqb (slice_index x r.right) r.high && is_same (swap x r.left r.right) y) leading).0
 
   rest : (eqb (slice_index x r.right) r.high && is_same (swap x r.left r.right) y) ≡ true
-  rest = (and_parts (eqb (slice_index x r.left) r.low) (eqb (slice_index x r.right) r.high && is_same (swap x r.left r.right) y) leading).1
+  rest = (and_parts (eqb (slice_index x r.left) r.low)
+      (eqb (slice_index x r.right) r.high && is_same (swap x r.left r.right) y) leading).1
 
   high : slice_index x r.right ≡ r.high
-  high = eqb-true (slice_index x r.right) r.high (and_parts (eqb (slice_index x r.right) r.high) (is_same (swap x r.left r.right) y) rest).0
+  high = eqb-true (slice_index x r.right) r.high
+      (and_parts (eqb (slice_index x r.right) r.high) (is_same (swap x r.left r.right) y) rest).0
 
   same_rows : (c : ℕ) → c < n → slice_index (swap x r.left r.right) c ≡ slice_index y c
   same_rows c l =
       let z : List ℕ = swap x r.left r.right in
-      let same = (and_parts (eqb (length z) (length y)) (all_below (length z) (λ c. eqb (slice_index z c) (slice_index y c)))
+      let same =
+      (and_parts (eqb (length z) (length y)) (all_below (length z) (λ c. eqb (slice_index z c) (slice_index y c)))
       (and_parts (eqb (slice_index x r.right) r.high) (is_same z y) rest).1).1 in
       let long : length (swap x r.left r.right) ≡ n = length-swap x r.left r.right ∙ from.long in
       eqb-true (slice_index (swap x r.left r.right) c) (slice_index y c)
-      (at_all_below (length (swap x r.left r.right)) (λ c. eqb (slice_index (swap x r.left r.right) c) (slice_index y c)) same c (omega arith))
+      (at_all_below (length (swap x r.left r.right))
+      (λ c. eqb (slice_index (swap x r.left r.right) c) (slice_index y c)) same c (omega arith))
 
   way : IsWay n x y r
   way =
@@ -145,20 +165,31 @@ module _ (g : Marks) (grid : IsGrid g) (x y : List ℕ) (r : Rect) (from : IsBij
       }
 
   no_points : points_inside n x r ≡ pos 0
-  no_points = count_below_none n (λ c. is_inside n r.left r.right c && is_inside n r.low r.high (slice_index x c)) (λ c l.
+  no_points =
+      count_below_none n (λ c. is_inside n r.left r.right c && is_inside n r.low r.high (slice_index x c)) (λ c l.
       not-true (is_inside n r.left r.right c && is_inside n r.low r.high (slice_index x c))
-      (at_all_below n (λ c. not (is_inside n r.left r.right c && is_inside n r.low r.high (slice_index x c))) (subst (λ m. all_below m (λ c. not (is_inside m r.left r.right c && is_inside m r.low r.high (slice_index x c))) ≡ true) from.long empty) c l))
+      (at_all_below n (λ c. not (is_inside n r.left r.right c && is_inside n r.low r.high (slice_index x c)))
+      (subst (λ m. all_below m (λ c. not (is_inside m r.left r.right c && is_inside m r.low r.high (slice_index x c)))
+      ≡ true) from.long empty) c l))
 
-  no_marks : (c : ℕ) → c < n → ((in_range n r.left r.right c && in_range n r.low r.high (slice_index g.o c)) ≡ false) × ((in_range n r.left r.right c && in_range n r.low r.high (slice_index g.x c)) ≡ false)
-  no_marks c l = none_of_two (in_range n r.left r.right c) (in_range n r.low r.high (slice_index g.o c)) (in_range n r.low r.high (slice_index g.x c))
-      (at_all_below n (λ c. not (in_range n r.left r.right c && (in_range n r.low r.high (slice_index g.o c) || in_range n r.low r.high (slice_index g.x c)))) unmarked c l)
+  no_marks : (c : ℕ) → c < n
+      → ((in_range n r.left r.right c && in_range n r.low r.high (slice_index g.o c)) ≡ false)
+      × ((in_range n r.left r.right c && in_range n r.low r.high (slice_index g.x c)) ≡ false)
+  no_marks c l =
+      none_of_two (in_range n r.left r.right c) (in_range n r.low r.high (slice_index g.o c))
+      (in_range n r.low r.high (slice_index g.x c))
+      (at_all_below n (λ c. not (in_range n r.left r.right c
+      && (in_range n r.low r.high (slice_index g.o c) || in_range n r.low r.high (slice_index g.x c)))) unmarked
+      c l)
 
   -- M falls by one, by the O
   pub step_lowers_maslov : maslov_o g x ≡ maslov_o g y +ℤ pos 1
   step_lowers_maslov =
       let law = maslov-rectangle n x y r way g.o grid.o in
       let points = no_points in
-      let marks = count_below_none n (λ c. in_range n r.left r.right c && in_range n r.low r.high (slice_index g.o c)) (λ c l. (no_marks c l).0) in
+      let marks =
+      count_below_none n (λ c. in_range n r.left r.right c && in_range n r.low r.high (slice_index g.o c))
+      (λ c l. (no_marks c l).0) in
       omega (arith, ints)
 
   -- and by the X
@@ -166,7 +197,9 @@ module _ (g : Marks) (grid : IsGrid g) (x y : List ℕ) (r : Rect) (from : IsBij
   step_lowers_maslov_x =
       let law = maslov-rectangle n x y r way g.x grid.x in
       let points = no_points in
-      let marks = count_below_none n (λ c. in_range n r.left r.right c && in_range n r.low r.high (slice_index g.x c)) (λ c l. (no_marks c l).1) in
+      let marks =
+      count_below_none n (λ c. in_range n r.left r.right c && in_range n r.low r.high (slice_index g.x c))
+      (λ c l. (no_marks c l).1) in
       omega (arith, ints)
 
   -- A stays
@@ -181,4 +214,7 @@ module _ (g : Marks) (grid : IsGrid g) (x y : List ℕ) (r : Rect) (from : IsBij
 -- each step lowers the Maslov degree by one and keeps the Alexander degree
 pub lowers_degrees : (g : Marks) → IsGrid g → LowersDegrees g
 lowers_degrees g grid x y r from to proper step =
-    λ i. (step_lowers_maslov g grid x y r from to proper step i, step_keeps_alexander g grid x y r from to proper step i)
+    λ i. (
+      step_lowers_maslov g grid x y r from to proper step i,
+      step_keeps_alexander g grid x y r from to proper step i,
+    )

@@ -63,7 +63,8 @@ no_step g y =
 border_of_state-nil : (g : Marks) → border_of_state g [] ≡ nothing
 unfolding border_of_state
 border_of_state-nil g =
-    ap (λ ys. of_codes (map rank ys)) (filter-none (λ y. is_odd (length (filter (is_step g [] y) (rectangles (size g))))) (states (size g)) (no_step g))
+    ap (λ ys. of_codes (map rank ys))
+    (filter-none (λ y. is_odd (length (filter (is_step g [] y) (rectangles (size g))))) (states (size g)) (no_step g))
 
 -- ---- states as lists of a function's values
 tabulate-slice_index : (x : List ℕ) → tabulate (length x) (slice_index x) ≡ x
@@ -78,17 +79,21 @@ module _ (g : Marks) (s : IsGrid g) where
   abbrev has_rank : ℕ → (ℕ → ℕ) → Bool
   has_rank q f = eqb q (rank (tabulate (size g) f))
 
-  swap-exchanged : (x : List ℕ) → IsBijection (size g) x → (a b : ℕ) → a < size g → b < size g → slice_index (swap x a b) ≡ exchanged (slice_index x) a b
+  swap-exchanged : (x : List ℕ) → IsBijection (size g) x → (a b : ℕ) → a < size g → b < size g
+      → slice_index (swap x a b) ≡ exchanged (slice_index x) a b
   swap-exchanged x sx a b la lb = let e = sx.long in slice_index-swap x a b (omega arith) (omega arith)
 
-  swap-tabulate : (x : List ℕ) → IsBijection (size g) x → (a b : ℕ) → a < size g → b < size g → swap x a b ≡ tabulate (size g) (exchanged (slice_index x) a b)
+  swap-tabulate : (x : List ℕ) → IsBijection (size g) x → (a b : ℕ) → a < size g → b < size g
+      → swap x a b ≡ tabulate (size g) (exchanged (slice_index x) a b)
   swap-tabulate x sx a b la lb =
       let sy = IsBijection-swap (size g) x a b la lb sx in
       sym (tabulate-slice_index (swap x a b)) ∙ ap₂ (λ m f. tabulate m f) sy.long (swap-exchanged x sx a b la lb)
 
   -- whether the border of a state holds q
   pub holds-border_of_state : (x : List ℕ) → IsBijection (size g) x → (q : ℕ)
-      → holds (border_of_state g x) q ≡ parity_below (size g) (λ a. parity_below (size g) (λ b. step_at (slice_index x) a b && has_rank q (exchanged (slice_index x) a b)))
+      → holds (border_of_state g x) q
+      ≡ parity_below (size g) (λ a. parity_below (size g)
+      (λ b. step_at (slice_index x) a b && has_rank q (exchanged (slice_index x) a b)))
   holds-border_of_state x sx q =
       sym (weight-at (border_of_state g x) q)
       ∙ weight-border_of_state g s x sx (λ t. eqb q t)
@@ -96,28 +101,40 @@ module _ (g : Marks) (s : IsGrid g) where
       ap (λ y. step_at (slice_index x) a b && eqb q (rank y)) (swap-tabulate x sx a b la lb)))
 
   -- the border of the border of a state is empty
-  square_of_state : (x : List ℕ) → IsBijection (size g) x → (q : ℕ) → weight (λ c. holds (border_of_state g (unrank (size g) c)) q) (border_of_state g x) ≡ false
+  square_of_state : (x : List ℕ) → IsBijection (size g) x → (q : ℕ)
+      → weight (λ c. holds (border_of_state g (unrank (size g) c)) q) (border_of_state g x) ≡ false
   square_of_state x sx q =
       let n : ℕ = size g in
       let f : ℕ → ℕ = slice_index x in
       weight-border_of_state g s x sx (λ c. holds (border_of_state g (unrank n c)) q)
-      ∙ parity_below-same n _ (λ a. parity_below n (λ b. parity_below n (λ c. parity_below n (two_steps n (slice_index g.o) (slice_index g.x) f (has_rank q) a b c)))) (λ a la.
-      parity_below-same n _ (λ b. parity_below n (λ c. parity_below n (two_steps n (slice_index g.o) (slice_index g.x) f (has_rank q) a b c))) (λ b lb.
+      ∙ parity_below-same n _ (λ a. parity_below n (λ b. parity_below n
+      (λ c. parity_below n (two_steps n (slice_index g.o) (slice_index g.x) f (has_rank q) a b c)))) (λ a la.
+      parity_below-same n _ (λ b. parity_below n (λ c. parity_below n
+      (two_steps n (slice_index g.o) (slice_index g.x) f (has_rank q) a b c))) (λ b lb.
       let u : List ℕ = swap x a b in
       let su = IsBijection-swap n x a b la lb sx in
       ap (λ y. step_at f a b && holds (border_of_state g y) q) (unrank-rank n u su)
       ∙ ap (λ t. step_at f a b && t) (holds-border_of_state u su q)
-      ∙ ap (λ h. step_at f a b && parity_below n (λ c. parity_below n (λ d. step_at h c d && has_rank q (exchanged h c d)))) (swap-exchanged x sx a b la lb)
-      ∙ sym (parity-and (step_at f a b) (λ c. parity_below n (λ d. step_at (exchanged f a b) c d && has_rank q (exchanged (exchanged f a b) c d))) (below n))
-      ∙ parity_below-same n _ (λ c. parity_below n (two_steps n (slice_index g.o) (slice_index g.x) f (has_rank q) a b c)) (λ c lc.
-      sym (parity-and (step_at f a b) (λ d. step_at (exchanged f a b) c d && has_rank q (exchanged (exchanged f a b) c d)) (below n)))))
-      ∙ twice_none n (slice_index g.o) (slice_index g.x) f (has_rank q) (onto n (slice_index g.o) s.o.small s.o.apart) (one_to_one n x sx)
+      ∙ ap (λ h. step_at f a b
+      && parity_below n (λ c. parity_below n (λ d. step_at h c d && has_rank q (exchanged h c d))))
+      (swap-exchanged x sx a b la lb)
+      ∙ sym (parity-and (step_at f a b)
+      (λ c. parity_below n (λ d. step_at (exchanged f a b) c d && has_rank q (exchanged (exchanged f a b) c d)))
+      (below n))
+      ∙ parity_below-same n _ (λ c. parity_below n (two_steps n (slice_index g.o) (slice_index g.x) f
+      (has_rank q) a b c)) (λ c lc.
+      sym (parity-and (step_at f a b)
+      (λ d. step_at (exchanged f a b) c d && has_rank q (exchanged (exchanged f a b) c d)) (below n)))))
+      ∙ twice_none n (slice_index g.o) (slice_index g.x) f (has_rank q) (onto n (slice_index g.o) s.o.small s.o.apart)
+      (one_to_one n x sx)
 
-  square_of_code : (q c : ℕ) → weight (λ d. holds (border_of_state g (unrank (size g) d)) q) (border_of_state g (unrank (size g) c)) ≡ false
+  square_of_code : (q c : ℕ)
+      → weight (λ d. holds (border_of_state g (unrank (size g) d)) q) (border_of_state g (unrank (size g) c)) ≡ false
   square_of_code q c = elim (cases_lt c (factorial (size g))) [
     | inl l ↦ square_of_state (unrank (size g) c) (IsBijection-unrank (size g) c l) q
     | inr l ↦
-        ap (λ x. weight (λ d. holds (border_of_state g (unrank (size g) d)) q) (border_of_state g x)) (unrank-past (size g) c l)
+        ap (λ x. weight (λ d. holds (border_of_state g (unrank (size g) d)) q) (border_of_state g x))
+        (unrank-past (size g) c l)
         ∙ ap (weight (λ d. holds (border_of_state g (unrank (size g) d)) q)) (border_of_state-nil g) ∙ weight-nothing _
   ]
 
@@ -125,8 +142,10 @@ module _ (g : Marks) (s : IsGrid g) where
   pub border-border : (z : Chain) → border g (border g z) ≡ nothing
   unfolding border
   border-border z = same_chain _ _ (λ q.
-      holds-sum_over (sum_over z (λ code. border_of_state g (unrank (size g) code))) (λ code. border_of_state g (unrank (size g) code)) q
-      ∙ weight-sum_over (λ d. holds (border_of_state g (unrank (size g) d)) q) z (λ code. border_of_state g (unrank (size g) code))
+      holds-sum_over (sum_over z (λ code. border_of_state g (unrank (size g) code)))
+      (λ code. border_of_state g (unrank (size g) code)) q
+      ∙ weight-sum_over (λ d. holds (border_of_state g (unrank (size g) d)) q) z
+      (λ code. border_of_state g (unrank (size g) code))
       ∙ weight-same _ (λ c. false) z (λ c _. square_of_code q c) ∙ weight-none z ∙ sym (holds-nothing q))
 
 -- the border of a sum is the sum of the borders
@@ -144,18 +163,24 @@ border-single g c = sum_over-single c (λ code. border_of_state g (unrank (size 
 targets-grid_complex : (g : Marks) (c : ℕ) → (grid_complex g).targets c ≡ border_of_state g (unrank (size g) c)
 targets-grid_complex g c = by (ltb c (factorial (size g))) refl
   where
-    by : (b : Bool) → ltb c (factorial (size g)) ≡ b → cond b (border_of_state g (unrank (size g) c)) nothing ≡ border_of_state g (unrank (size g) c)
+    by : (b : Bool) → ltb c (factorial (size g)) ≡ b
+        → cond b (border_of_state g (unrank (size g) c)) nothing ≡ border_of_state g (unrank (size g) c)
     by true e = refl
-    by false e = sym (ap (border_of_state g) (unrank-past (size g) c (ltb-false c (factorial (size g)) e)) ∙ border_of_state-nil g)
+    by false e =
+        sym (ap (border_of_state g) (unrank-past (size g) c (ltb-false c (factorial (size g)) e))
+        ∙ border_of_state-nil g)
 
 -- its border is the border of chains
 pub border-grid_complex : (g : Marks) (z : Chain) → complex.border (grid_complex g) z ≡ border g z
 unfolding border
-border-grid_complex g z = sum_over-same z (grid_complex g).targets (λ code. border_of_state g (unrank (size g) code)) (λ c _. targets-grid_complex g c)
+border-grid_complex g z =
+    sum_over-same z (grid_complex g).targets (λ code. border_of_state g (unrank (size g) code))
+    (λ c _. targets-grid_complex g c)
 
 -- each step of a state lowers the Maslov degree by one and keeps the Alexander degree
 abbrev pub LowersDegrees : Marks → Type 0
-LowersDegrees g = (x y : List ℕ) (r : Rect) → IsBijection (size g) x → IsBijection (size g) y → IsProper (size g) r → is_step g x y r ≡ true → bidegree g x ≡ up_m (bidegree g y)
+LowersDegrees g = (x y : List ℕ) (r : Rect) → IsBijection (size g) x → IsBijection (size g) y → IsProper (size g) r
+    → is_step g x y r ≡ true → bidegree g x ≡ up_m (bidegree g y)
 
 some_member : {A : Type 0} (xs : List A) → is_odd (length xs) ≡ true → (x : A) × Contains xs x
 some_member [] h = absurd (false≢true h)
@@ -163,13 +188,15 @@ some_member (x ∷ xs) h = (x, member_head x xs)
 
 -- a state of the border of another is reached by a step
 pub step_of_border : (g : Marks) (x : List ℕ) (c : ℕ) → holds (border_of_state g x) c ≡ true
-    → (y : List ℕ) × IsBijection (size g) y × (rank y ≡ c) × ((r : Rect) × IsProper (size g) r × (is_step g x y r ≡ true))
+    → (y : List ℕ) × IsBijection (size g) y × (rank y ≡ c)
+    × ((r : Rect) × IsProper (size g) r × (is_step g x y r ≡ true))
 unfolding border_of_state
 step_of_border g x c h =
     let n : ℕ = size g in
     let test : List ℕ → Bool = λ y. is_odd (length (filter (is_step g x y) (rectangles n))) in
     let ranks : List ℕ = map rank (filter test (states n)) in
-    let in_ranks : Contains ranks c = Contains-from_any (λ a b. eqb-true a b) c ranks (sym (holds-of_codes ranks c) ∙ h) in
+    let in_ranks : Contains ranks c =
+    Contains-from_any (λ a b. eqb-true a b) c ranks (sym (holds-of_codes ranks c) ∙ h) in
     let (y, in_filter, is) = member_of_map rank (filter test (states n)) c in_ranks in
     let (in_states, odd) = member_of_filter test (states n) y in_filter in
     let (r, in_steps) = some_member (filter (is_step g x y) (rectangles n)) odd in
@@ -177,14 +204,18 @@ step_of_border g x c h =
     (y, member_of_states n y in_states, is, (r, member_of_rectangles n r in_rectangles, step))
 
 -- the border of a state holds ranks of states
-pub border_of_state-below : (g : Marks) (x : List ℕ) (c : ℕ) → holds (border_of_state g x) c ≡ true → c < factorial (size g)
-border_of_state-below g x c h = let (y, sy, is, step) = step_of_border g x c h in subst (λ k. k < factorial (size g)) is (rank-below (size g) y sy)
+pub border_of_state-below : (g : Marks) (x : List ℕ) (c : ℕ) → holds (border_of_state g x) c ≡ true
+    → c < factorial (size g)
+border_of_state-below g x c h = let (y, sy, is, step) = step_of_border g x c h in
+    subst (λ k. k < factorial (size g)) is (rank-below (size g) y sy)
 
 -- and so does that of a chain
 pub border-below : (g : Marks) (z : Chain) (c : ℕ) → holds (border g z) c ≡ true → c < factorial (size g)
 unfolding border
 border-below g z c h =
-    let (s, in_z, in_border) = weight-some (λ s. holds (border_of_state g (unrank (size g) s)) c) z (sym (holds-sum_over z (λ code. border_of_state g (unrank (size g) code)) c) ∙ h) in
+    let (s, in_z, in_border) =
+    weight-some (λ s. holds (border_of_state g (unrank (size g) s)) c) z
+    (sym (holds-sum_over z (λ code. border_of_state g (unrank (size g) code)) c) ∙ h) in
     border_of_state-below g (unrank (size g) s) c in_border
 
 module _ (g : Marks) where
@@ -194,7 +225,8 @@ module _ (g : Marks) where
   lowers : LowersDegrees g → (c d : ℕ) → arrow (grid_complex g) c d ≡ true → IsAbove (grid_complex g) c d
   lowers degrees c d h = by (ltb c (factorial (size g))) refl h
     where
-      by : (b : Bool) → ltb c (factorial (size g)) ≡ b → holds (cond b (border_of_state g (unrank (size g) c)) nothing) d ≡ true → IsAbove (grid_complex g) c d
+      by : (b : Bool) → ltb c (factorial (size g)) ≡ b
+          → holds (cond b (border_of_state g (unrank (size g) c)) nothing) d ≡ true → IsAbove (grid_complex g) c d
       by false e h = absurd (false≢true (sym (holds-nothing d) ∙ h))
       by true e h =
           let n : ℕ = size g in

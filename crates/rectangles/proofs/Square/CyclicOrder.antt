@@ -14,7 +14,8 @@ is_cyclic a b c = ltb a b ⊻ ltb c b ⊻ ltb c a
 
 -- for a number that is neither end
 pub between_other : (a b c : ℕ) → c ≢ a → c ≢ b → between a b c ≡ ltb a c ⊻ ltb b c ⊻ ltb b a
-between_other a b c p q = let e : leb a c ≡ ltb a c = grind arith in let f : leb b c ≡ ltb b c = grind arith in ap₂ (λ x y. x ⊻ y ⊻ ltb b a) e f
+between_other a b c p q = let e : leb a c ≡ ltb a c = grind arith in let f : leb b c ≡ ltb b c = grind arith in
+    ap₂ (λ x y. x ⊻ y ⊻ ltb b a) e f
 
 -- a range from a number to itself is empty
 pub between_same : (a t : ℕ) → between a a t ≡ false
@@ -33,7 +34,8 @@ abbrev passes : Bool → Bool → Bool → Bool
 passes ab x y = (not ab || (not y || x)) && (ab || (not x || y))
 
 -- the orders of three different numbers
-pub orders_hold : (a b c : ℕ) → a ≢ b → b ≢ c → c ≢ a → orders (ltb a b) (ltb b a) (ltb b c) (ltb c b) (ltb c a) (ltb a c) ≡ true
+pub orders_hold : (a b c : ℕ) → a ≢ b → b ≢ c → c ≢ a
+    → orders (ltb a b) (ltb b a) (ltb b c) (ltb c b) (ltb c a) (ltb a c) ≡ true
 orders_hold a b c p q r = grind arith
 
 -- the tests of one number against two
@@ -76,7 +78,9 @@ test_row second s xa xb xc ab ba bc cb ca ac = cond s (xb ⊻ xc ⊻ cb) (xc ⊻
 test_row third s xa xb xc ab ba bc cb ca ac = cond s (xc ⊻ xa ⊻ ac) (xa ⊻ xc ⊻ ca)
 
 test_row-span : (p : Place → ℕ) (s : Bool) (m : Place) (t : ℕ)
-    → test_row m s (leb (p first) t) (leb (p second) t) (leb (p third) t) (ltb (p first) (p second)) (ltb (p second) (p first)) (ltb (p second) (p third)) (ltb (p third) (p second)) (ltb (p third) (p first)) (ltb (p first) (p third)) ≡ span p s m t
+    → test_row m s (leb (p first) t) (leb (p second) t) (leb (p third) t) (ltb (p first) (p second))
+    (ltb (p second) (p first)) (ltb (p second) (p third)) (ltb (p third) (p second)) (ltb (p third) (p first))
+    (ltb (p first) (p third)) ≡ span p s m t
 test_row-span p true first t = refl
 test_row-span p true second t = refl
 test_row-span p true third t = refl
@@ -85,19 +89,24 @@ test_row-span p false second t = refl
 test_row-span p false third t = refl
 
 abbrev all_of : Bool → Bool → Bool → Bool → Bool → Bool → Bool → Bool → Bool → Bool
-all_of xa xb xc ab ba bc cb ca ac = orders ab ba bc cb ca ac && (passes ab xa xb && (passes bc xb xc && passes ca xc xa))
+all_of xa xb xc ab ba bc cb ca ac =
+    orders ab ba bc cb ca ac && (passes ab xa xb && (passes bc xb xc && passes ca xc xa))
 
 all_hold : (p : Place → ℕ) → AreApart p → (t : ℕ)
-    → all_of (leb (p first) t) (leb (p second) t) (leb (p third) t) (ltb (p first) (p second)) (ltb (p second) (p first)) (ltb (p second) (p third)) (ltb (p third) (p second)) (ltb (p third) (p first)) (ltb (p first) (p third)) ≡ true
+    → all_of (leb (p first) t) (leb (p second) t) (leb (p third) t) (ltb (p first) (p second))
+    (ltb (p second) (p first)) (ltb (p second) (p third)) (ltb (p third) (p second)) (ltb (p third) (p first))
+    (ltb (p first) (p third)) ≡ true
 all_hold p d t =
     and_from _ _ (orders_hold (p first) (p second) (p third) d.ab d.bc d.ca)
-    (and_from _ _ (passes_hold (p first) (p second) t d.ab) (and_from _ _ (passes_hold (p second) (p third) t d.bc) (passes_hold (p third) (p first) t d.ca)))
+    (and_from _ _ (passes_hold (p first) (p second) t d.ab)
+    (and_from _ _ (passes_hold (p second) (p third) t d.bc) (passes_hold (p third) (p first) t d.ca)))
 
 union_table : (m : Place) → Table 9
 union_table m xa xb xc ab ba bc cb ca ac =
     let u = ab ⊻ cb ⊻ ca in
     implies (all_of xa xb xc ab ba bc cb ca ac)
-    (beq (test_row m (not u) xa xb xc ab ba bc cb ca ac) (test_row (next m) u xa xb xc ab ba bc cb ca ac || test_row (next (next m)) u xa xb xc ab ba bc cb ca ac))
+    (beq (test_row m (not u) xa xb xc ab ba bc cb ca ac)
+    (test_row (next m) u xa xb xc ab ba bc cb ca ac || test_row (next (next m)) u xa xb xc ab ba bc cb ca ac))
 
 union_holds : (m : Place) → (xa xb xc ab ba bc cb ca ac : Bool) → union_table m xa xb xc ab ba bc cb ca ac ≡ true
 unfolding union_table
@@ -111,7 +120,9 @@ pub span_union : (p : Place → ℕ) → AreApart p → (m : Place) (t : ℕ)
 unfolding union_table
 span_union p d m t =
     sym (test_row-span p (not (order_of p)) m t)
-    ∙ beq_same _ _ (given _ _ (all_hold p d t) (union_holds m (leb (p first) t) (leb (p second) t) (leb (p third) t) (ltb (p first) (p second)) (ltb (p second) (p first)) (ltb (p second) (p third)) (ltb (p third) (p second)) (ltb (p third) (p first)) (ltb (p first) (p third))))
+    ∙ beq_same _ _ (given _ _ (all_hold p d t) (union_holds m (leb (p first) t) (leb (p second) t) (leb (p third) t)
+    (ltb (p first) (p second)) (ltb (p second) (p first)) (ltb (p second) (p third)) (ltb (p third) (p second))
+    (ltb (p third) (p first)) (ltb (p first) (p third))))
     ∙ ap₂ (λ x y. x || y) (test_row-span p (order_of p) (next m) t) (test_row-span p (order_of p) (next (next m)) t)
 
 -- exactly one of three tests holds
@@ -122,21 +133,27 @@ one_table : Table 9
 one_table xa xb xc ab ba bc cb ca ac =
     let u = ab ⊻ cb ⊻ ca in
     implies (all_of xa xb xc ab ba bc cb ca ac)
-    (exactly (test_row first u xa xb xc ab ba bc cb ca ac) (test_row second u xa xb xc ab ba bc cb ca ac) (test_row third u xa xb xc ab ba bc cb ca ac))
+    (exactly (test_row first u xa xb xc ab ba bc cb ca ac) (test_row second u xa xb xc ab ba bc cb ca ac)
+    (test_row third u xa xb xc ab ba bc cb ca ac))
 
 one_holds : (xa xb xc ab ba bc cb ca ac : Bool) → one_table xa xb xc ab ba bc cb ca ac ≡ true
 unfolding one_table
 one_holds = same 9 one_table (λ xa xb xc ab ba bc cb ca ac. true) refl
 
 -- each number is in exactly one of the three arcs
-pub one_arc : (p : Place → ℕ) → AreApart p → (t : ℕ) → exactly (span p (order_of p) first t) (span p (order_of p) second t) (span p (order_of p) third t) ≡ true
+pub one_arc : (p : Place → ℕ) → AreApart p → (t : ℕ)
+    → exactly (span p (order_of p) first t) (span p (order_of p) second t) (span p (order_of p) third t) ≡ true
 unfolding one_table
 one_arc p d t =
-    sym (λ i. exactly (test_row-span p (order_of p) first t i) (test_row-span p (order_of p) second t i) (test_row-span p (order_of p) third t i))
-    ∙ given _ _ (all_hold p d t) (one_holds (leb (p first) t) (leb (p second) t) (leb (p third) t) (ltb (p first) (p second)) (ltb (p second) (p first)) (ltb (p second) (p third)) (ltb (p third) (p second)) (ltb (p third) (p first)) (ltb (p first) (p third)))
+    sym (λ i. exactly (test_row-span p (order_of p) first t i) (test_row-span p (order_of p) second t i)
+    (test_row-span p (order_of p) third t i))
+    ∙ given _ _ (all_hold p d t) (one_holds (leb (p first) t) (leb (p second) t) (leb (p third) t)
+    (ltb (p first) (p second)) (ltb (p second) (p first)) (ltb (p second) (p third)) (ltb (p third) (p second))
+    (ltb (p third) (p first)) (ltb (p first) (p third)))
 
 -- the third number is in the long range alone
-pub span_third : (p : Place → ℕ) → AreApart p → (s : Bool) (m : Place) → span p s m (p (next (next m))) ≡ not (beq (order_of p) s)
+pub span_third : (p : Place → ℕ) → AreApart p → (s : Bool) (m : Place)
+    → span p s m (p (next (next m))) ≡ not (beq (order_of p) s)
 span_third p d true first = grind (arith, d.ab, d.bc, d.ca)
 span_third p d true second = grind (arith, d.ab, d.bc, d.ca)
 span_third p d true third = grind (arith, d.ab, d.bc, d.ca)
@@ -181,5 +198,7 @@ four_hold a b c d ab ac ad bc bd cd =
     let q1 = under c d a cd ac ad in
     let q2 = under c d b cd bc bd in
     (λ i. four (p1 i) (p2 i) (q1 i) (q2 i))
-    ∙ given _ _ (and_from _ _ (chain_holds a b c ab bc ac) (and_from _ _ (chain_holds a b d ab bd ad) (and_from _ _ (chain_holds a c d ac cd ad) (chain_holds b c d bc cd bd))))
+    ∙ given _ _ (and_from _ _ (chain_holds a b c ab bc ac)
+    (and_from _ _ (chain_holds a b d ab bd ad)
+    (and_from _ _ (chain_holds a c d ac cd ad) (chain_holds b c d bc cd bd))))
     (four_holds (ltb a b) (ltb a c) (ltb a d) (ltb b c) (ltb b d) (ltb c d))

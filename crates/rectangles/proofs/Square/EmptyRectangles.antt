@@ -38,15 +38,19 @@ is_between-end a b = ap (λ r. r && differ b a) (between_end a b)
 -- two tests of columns that stand end to end
 pub free_cols : (n : ℕ) (skip P Q h : ℕ → Bool) → free n skip (λ t. P t || Q t) h ≡ (free n skip P h && free n skip Q h)
 free_cols n skip P Q h =
-    all_below-same n (λ t. skip t || not ((P t || Q t) && h t)) (λ t. (skip t || not (P t && h t)) && (skip t || not (Q t && h t))) (λ t l.
-    same 4 (λ s p q h. s || not ((p || q) && h)) (λ s p q h. (s || not (p && h)) && (s || not (q && h))) refl (skip t) (P t) (Q t) (h t))
+    all_below-same n (λ t. skip t || not ((P t || Q t) && h t))
+    (λ t. (skip t || not (P t && h t)) && (skip t || not (Q t && h t))) (λ t l.
+    same 4 (λ s p q h. s || not ((p || q) && h)) (λ s p q h. (s || not (p && h)) && (s || not (q && h))) refl (skip t)
+    (P t) (Q t) (h t))
     ∙ all_below-and n (λ t. skip t || not (P t && h t)) (λ t. skip t || not (Q t && h t))
 
 -- two tests of rows that stand end to end
 pub free_rows : (n : ℕ) (skip P h k : ℕ → Bool) → free n skip P (λ t. h t || k t) ≡ (free n skip P h && free n skip P k)
 free_rows n skip P h k =
-    all_below-same n (λ t. skip t || not (P t && (h t || k t))) (λ t. (skip t || not (P t && h t)) && (skip t || not (P t && k t))) (λ t l.
-    same 4 (λ s p h k. s || not (p && (h || k))) (λ s p h k. (s || not (p && h)) && (s || not (p && k))) refl (skip t) (P t) (h t) (k t))
+    all_below-same n (λ t. skip t || not (P t && (h t || k t)))
+    (λ t. (skip t || not (P t && h t)) && (skip t || not (P t && k t))) (λ t l.
+    same 4 (λ s p h k. s || not (p && (h || k))) (λ s p h k. (s || not (p && h)) && (s || not (p && k))) refl (skip t)
+    (P t) (h t) (k t))
     ∙ all_below-and n (λ t. skip t || not (P t && h t)) (λ t. skip t || not (P t && k t))
 
 -- ---- four columns
@@ -54,25 +58,36 @@ rest : ℕ → (ℕ → ℕ) → ℕ → ℕ → ℕ → ℕ → ℕ → ℕ →
 rest n g a b c d j k = all_below n (λ t. eqb t d || (eqb t c || not (is_between a b t && is_between j k (g t))))
 
 split_two : (n : ℕ) (g : ℕ → ℕ) (a b c d j k : ℕ) → c < n → d < n → c ≢ d → c ≢ a → d ≢ a → g c ≢ j → g d ≢ j
-    → is_clear_of n g a b j k ≡ (not (between a b c && between j k (g c)) && (not (between a b d && between j k (g d)) && rest n g a b c d j k))
+    → is_clear_of n g a b j k
+    ≡ (not (between a b c && between j k (g c)) && (not (between a b d && between j k (g d)) && rest n g a b c d j k))
 unfolding rest
 split_two n g a b c d j k lc ld cd ca da cj dj =
     all_below-split n c (λ t. not (is_between a b t && is_between j k (g t))) lc
-    ∙ ap (λ r. not (is_between a b c && is_between j k (g c)) && r) (all_below-split n d (λ t. eqb t c || not (is_between a b t && is_between j k (g t))) ld
-    ∙ ap (λ r. (r || not (is_between a b d && is_between j k (g d))) && rest n g a b c d j k) (ne_eqb d c (λ e. cd (sym e))))
-    ∙ (λ i. not (is_between-other a b c ca i && is_between-other j k (g c) cj i) && (not (is_between-other a b d da i && is_between-other j k (g d) dj i) && rest n g a b c d j k))
+    ∙ ap (λ r. not (is_between a b c && is_between j k (g c)) && r)
+    (all_below-split n d (λ t. eqb t c || not (is_between a b t && is_between j k (g t))) ld
+    ∙ ap (λ r. (r || not (is_between a b d && is_between j k (g d))) && rest n g a b c d j k)
+    (ne_eqb d c (λ e. cd (sym e))))
+    ∙ (λ i. not (is_between-other a b c ca i && is_between-other j k (g c) cj i)
+    && (not (is_between-other a b d da i && is_between-other j k (g d) dj i) && rest n g a b c d j k))
 
 rest_other : (n : ℕ) (f : ℕ → ℕ) (a b c d j k : ℕ) → rest n (exchanged f c d) a b c d j k ≡ rest n f a b c d j k
 unfolding rest
 rest_other n f a b c d j k =
-    all_below-same n (λ t. eqb t d || (eqb t c || not (is_between a b t && is_between j k (exchanged f c d t)))) (λ t. eqb t d || (eqb t c || not (is_between a b t && is_between j k (f t)))) (λ t l. each t (cases_eq t c) (cases_eq t d))
+    all_below-same n (λ t. eqb t d || (eqb t c || not (is_between a b t && is_between j k (exchanged f c d t))))
+    (λ t. eqb t d || (eqb t c || not (is_between a b t && is_between j k (f t))))
+    (λ t l. each t (cases_eq t c) (cases_eq t d))
   where
     each : (t : ℕ) → (t ≡ c) ⊎ (t ≢ c) → (t ≡ d) ⊎ (t ≢ d)
-        → (eqb t d || (eqb t c || not (is_between a b t && is_between j k (exchanged f c d t)))) ≡ (eqb t d || (eqb t c || not (is_between a b t && is_between j k (f t))))
-    each t p (inl e) = ap (λ r. r || (eqb t c || not (is_between a b t && is_between j k (exchanged f c d t)))) (eq-eqb t d e) ∙ sym (ap (λ r. r || (eqb t c || not (is_between a b t && is_between j k (f t)))) (eq-eqb t d e))
+        → (eqb t d || (eqb t c || not (is_between a b t && is_between j k (exchanged f c d t))))
+        ≡ (eqb t d || (eqb t c || not (is_between a b t && is_between j k (f t))))
+    each t p (inl e) =
+        ap (λ r. r || (eqb t c || not (is_between a b t && is_between j k (exchanged f c d t)))) (eq-eqb t d e)
+        ∙ sym (ap (λ r. r || (eqb t c || not (is_between a b t && is_between j k (f t)))) (eq-eqb t d e))
     each t (inl e) (inr q) =
-        ap (λ r. eqb t d || (r || not (is_between a b t && is_between j k (exchanged f c d t)))) (eq-eqb t c e) ∙ sym (ap (λ r. eqb t d || (r || not (is_between a b t && is_between j k (f t)))) (eq-eqb t c e))
-    each t (inr p) (inr q) = ap (λ r. eqb t d || (eqb t c || not (is_between a b t && is_between j k r))) (exchanged-other f c d t p q)
+        ap (λ r. eqb t d || (r || not (is_between a b t && is_between j k (exchanged f c d t)))) (eq-eqb t c e)
+        ∙ sym (ap (λ r. eqb t d || (r || not (is_between a b t && is_between j k (f t)))) (eq-eqb t c e))
+    each t (inr p) (inr q) =
+        ap (λ r. eqb t d || (eqb t c || not (is_between a b t && is_between j k r))) (exchanged-other f c d t p q)
 
 four_table : Table 10
 four_table p1 p2 q1 q2 P1 P2 Q1 Q2 x y =
@@ -94,18 +109,29 @@ pub record AreFourApart (a b c d : ℕ) : Type 0 where
   pub cd : c ≢ d
 
 -- two steps at four columns may be taken in either order
-pub empty_apart : (n : ℕ) (f : ℕ → ℕ) (a b c d : ℕ) → a < n → b < n → c < n → d < n → AreFourApart a b c d → AreFourApart (f a) (f b) (f c) (f d)
-    → (is_clear_of n f a b (f a) (f b) && is_clear_of n (exchanged f a b) c d (f c) (f d)) ≡ (is_clear_of n f c d (f c) (f d) && is_clear_of n (exchanged f c d) a b (f a) (f b))
+pub empty_apart : (n : ℕ) (f : ℕ → ℕ) (a b c d : ℕ) → a < n → b < n → c < n → d < n → AreFourApart a b c d
+    → AreFourApart (f a) (f b) (f c) (f d)
+    → (is_clear_of n f a b (f a) (f b) && is_clear_of n (exchanged f a b) c d (f c) (f d))
+    ≡ (is_clear_of n f c d (f c) (f d) && is_clear_of n (exchanged f c d) a b (f a) (f b))
 unfolding four_table
 empty_apart n f a b c d la lb lc ld o r =
     ap₂ (λ x y. x && y)
-    (split_two n f a b c d (f a) (f b) lc ld o.cd (λ e. o.ac (sym e)) (λ e. o.ad (sym e)) (λ e. r.ac (sym e)) (λ e. r.ad (sym e)))
-    (split_two n (exchanged f a b) c d a b (f c) (f d) la lb o.ab o.ac o.bc (λ e. r.bc (sym (exchanged-first f a b) ∙ e)) (λ e. r.ac (sym (exchanged-second f a b o.ab) ∙ e))
-    ∙ (λ i. not (between c d a && between (f c) (f d) (exchanged-first f a b i)) && (not (between c d b && between (f c) (f d) (exchanged-second f a b o.ab i)) && rest_other n f c d a b (f c) (f d) i)))
-    ∙ beq_same _ _ (given _ _ (and_from _ _ (four_hold a b c d o.ab o.ac o.ad o.bc o.bd o.cd) (four_hold (f a) (f b) (f c) (f d) r.ab r.ac r.ad r.bc r.bd r.cd))
+    (split_two n f a b c d (f a) (f b) lc ld o.cd (λ e. o.ac (sym e)) (λ e. o.ad (sym e)) (λ e. r.ac (sym e))
+    (λ e. r.ad (sym e)))
+    (split_two n (exchanged f a b) c d a b (f c) (f d) la lb o.ab o.ac o.bc
+    (λ e. r.bc (sym (exchanged-first f a b) ∙ e)) (λ e. r.ac (sym (exchanged-second f a b o.ab) ∙ e))
+    ∙ (λ i. not (between c d a && between (f c) (f d) (exchanged-first f a b i))
+    && (not (between c d b && between (f c) (f d) (exchanged-second f a b o.ab i))
+    && rest_other n f c d a b (f c) (f d) i)))
+    ∙ beq_same _ _ (given _ _ (and_from _ _ (four_hold a b c d o.ab o.ac o.ad o.bc o.bd o.cd)
+    (four_hold (f a) (f b) (f c) (f d) r.ab r.ac r.ad r.bc r.bd r.cd))
     (four_holds (between a b c) (between a b d) (between c d a) (between c d b)
-    (between (f a) (f b) (f c)) (between (f a) (f b) (f d)) (between (f c) (f d) (f a)) (between (f c) (f d) (f b)) (rest n f a b c d (f a) (f b)) (rest n f c d a b (f c) (f d))))
+    (between (f a) (f b) (f c)) (between (f a) (f b) (f d)) (between (f c) (f d) (f a)) (between (f c) (f d) (f b))
+    (rest n f a b c d (f a) (f b)) (rest n f c d a b (f c) (f d))))
     ∙ sym (ap₂ (λ x y. x && y)
     (split_two n f c d a b (f c) (f d) la lb o.ab o.ac o.bc r.ac r.bc)
-    (split_two n (exchanged f c d) a b c d (f a) (f b) lc ld o.cd (λ e. o.ac (sym e)) (λ e. o.ad (sym e)) (λ e. r.ad (sym (sym (exchanged-first f c d) ∙ e))) (λ e. r.ac (sym (sym (exchanged-second f c d o.cd) ∙ e)))
-    ∙ (λ i. not (between a b c && between (f a) (f b) (exchanged-first f c d i)) && (not (between a b d && between (f a) (f b) (exchanged-second f c d o.cd i)) && rest_other n f a b c d (f a) (f b) i))))
+    (split_two n (exchanged f c d) a b c d (f a) (f b) lc ld o.cd (λ e. o.ac (sym e)) (λ e. o.ad (sym e))
+    (λ e. r.ad (sym (sym (exchanged-first f c d) ∙ e))) (λ e. r.ac (sym (sym (exchanged-second f c d o.cd) ∙ e)))
+    ∙ (λ i. not (between a b c && between (f a) (f b) (exchanged-first f c d i))
+    && (not (between a b d && between (f a) (f b) (exchanged-second f c d o.cd i))
+    && rest_other n f a b c d (f a) (f b) i))))

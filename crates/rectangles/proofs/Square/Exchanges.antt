@@ -14,7 +14,8 @@ exchanged-first f a b = ap (λ r. cond r (f b) (cond (eqb a b) (f a) (f a))) (eq
 
 -- at b it has the row of a
 pub exchanged-second : (f : ℕ → ℕ) (a b : ℕ) → a ≢ b → exchanged f a b b ≡ f a
-exchanged-second f a b p = ap₂ (λ r s. cond r (f b) (cond s (f a) (f b))) (ne_eqb b a (λ e. p (sym e))) (eq-eqb b b refl)
+exchanged-second f a b p =
+    ap₂ (λ r s. cond r (f b) (cond s (f a) (f b))) (ne_eqb b a (λ e. p (sym e))) (eq-eqb b b refl)
 
 -- elsewhere it has its row
 pub exchanged-other : (f : ℕ → ℕ) (a b c : ℕ) → c ≢ a → c ≢ b → exchanged f a b c ≡ f c
@@ -28,7 +29,8 @@ exchanged_comm f a b = fun_ext (λ c. grind arith)
 pub not_both : (t a b : ℕ) → a ≢ b → (eqb t a && eqb t b) ≡ false
 not_both t a b p = grind arith
 
-order4 : (ta tb tc td : Bool) (x y z w v : ℕ) → (ta && tc) ≡ false → (ta && td) ≡ false → (tb && tc) ≡ false → (tb && td) ≡ false
+order4 : (ta tb tc td : Bool) (x y z w v : ℕ) → (ta && tc) ≡ false → (ta && td) ≡ false → (tb && tc) ≡ false
+    → (tb && td) ≡ false
     → cond tc w (cond td z (cond ta y (cond tb x v))) ≡ cond ta y (cond tb x (cond tc w (cond td z v)))
 order4 ta tb tc td x y z w v ac ad bc bd = grind arith
 
@@ -37,18 +39,27 @@ order3 : (ta tb tc : Bool) (x y z v : ℕ) → (ta && tb) ≡ false → (tb && t
 order3 ta tb tc x y z v ab bc ca = grind arith
 
 -- exchanges at four columns commute
-pub exchanged_apart : (f : ℕ → ℕ) (a b c d : ℕ) → a ≢ c → a ≢ d → b ≢ c → b ≢ d → exchanged (exchanged f a b) c d ≡ exchanged (exchanged f c d) a b
+pub exchanged_apart : (f : ℕ → ℕ) (a b c d : ℕ) → a ≢ c → a ≢ d → b ≢ c → b ≢ d
+    → exchanged (exchanged f a b) c d ≡ exchanged (exchanged f c d) a b
 exchanged_apart f a b c d ac ad bc bd = fun_ext (λ t.
-    ap₂ (λ x y. cond (eqb t c) x (cond (eqb t d) y (exchanged f a b t))) (exchanged-other f a b d (λ e. ad (sym e)) (λ e. bd (sym e))) (exchanged-other f a b c (λ e. ac (sym e)) (λ e. bc (sym e)))
-    ∙ order4 (eqb t a) (eqb t b) (eqb t c) (eqb t d) (f a) (f b) (f c) (f d) (f t) (not_both t a c ac) (not_both t a d ad) (not_both t b c bc) (not_both t b d bd)
-    ∙ sym (ap₂ (λ x y. cond (eqb t a) x (cond (eqb t b) y (exchanged f c d t))) (exchanged-other f c d b bc bd) (exchanged-other f c d a ac ad)))
+    ap₂ (λ x y. cond (eqb t c) x (cond (eqb t d) y (exchanged f a b t)))
+    (exchanged-other f a b d (λ e. ad (sym e)) (λ e. bd (sym e)))
+    (exchanged-other f a b c (λ e. ac (sym e)) (λ e. bc (sym e)))
+    ∙ order4 (eqb t a) (eqb t b) (eqb t c) (eqb t d) (f a) (f b) (f c) (f d) (f t) (not_both t a c ac)
+    (not_both t a d ad) (not_both t b c bc) (not_both t b d bd)
+    ∙ sym (ap₂ (λ x y. cond (eqb t a) x (cond (eqb t b) y (exchanged f c d t))) (exchanged-other f c d b bc bd)
+    (exchanged-other f c d a ac ad)))
 
 -- exchanges at three columns, the next two after the first two, turn in a circle
-pub exchanged_three : (f : ℕ → ℕ) (a b c : ℕ) → a ≢ b → b ≢ c → c ≢ a → exchanged (exchanged f a b) b c ≡ exchanged (exchanged f b c) c a
+pub exchanged_three : (f : ℕ → ℕ) (a b c : ℕ) → a ≢ b → b ≢ c → c ≢ a
+    → exchanged (exchanged f a b) b c ≡ exchanged (exchanged f b c) c a
 exchanged_three f a b c p q r = fun_ext (λ t.
-    ap₂ (λ x y. cond (eqb t b) x (cond (eqb t c) y (exchanged f a b t))) (exchanged-other f a b c r (λ e. q (sym e))) (exchanged-second f a b p)
-    ∙ order3 (eqb t a) (eqb t b) (eqb t c) (f a) (f b) (f c) (f t) (not_both t a b p) (not_both t b c q) (not_both t c a r)
-    ∙ sym (ap₂ (λ x y. cond (eqb t c) x (cond (eqb t a) y (exchanged f b c t))) (exchanged-other f b c a p (λ e. r (sym e))) (exchanged-second f b c q)))
+    ap₂ (λ x y. cond (eqb t b) x (cond (eqb t c) y (exchanged f a b t))) (exchanged-other f a b c r (λ e. q (sym e)))
+    (exchanged-second f a b p)
+    ∙ order3 (eqb t a) (eqb t b) (eqb t c) (f a) (f b) (f c) (f t) (not_both t a b p) (not_both t b c q)
+    (not_both t c a r)
+    ∙ sym (ap₂ (λ x y. cond (eqb t c) x (cond (eqb t a) y (exchanged f b c t)))
+    (exchanged-other f b c a p (λ e. r (sym e))) (exchanged-second f b c q)))
 
 -- an exchange undoes itself
 pub exchanged-exchanged : (f : ℕ → ℕ) (a b : ℕ) → exchanged (exchanged f a b) a b ≡ f

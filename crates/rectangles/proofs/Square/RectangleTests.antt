@@ -41,10 +41,12 @@ abbrev pub corners : ℕ → ℕ → ℕ → ℕ → Rect
 corners a b j k = record { left = a; right = b; low = j; high = k }
 
 -- a rectangle of a state is empty by the one test where it is by the other
-pub is_empty-corners : (n : ℕ) (x : List ℕ) → IsBijection n x → (a b j k : ℕ) → a < n → b < n → j < n → k < n → is_empty x (corners a b j k) ≡ is_clear_of n (slice_index x) a b j k
+pub is_empty-corners : (n : ℕ) (x : List ℕ) → IsBijection n x → (a b j k : ℕ) → a < n → b < n → j < n → k < n
+    → is_empty x (corners a b j k) ≡ is_clear_of n (slice_index x) a b j k
 is_empty-corners n x s a b j k la lb lj lk =
     ap (λ m. all_below m (λ c. not (is_inside m a b c && is_inside m j k (slice_index x c)))) s.long
-    ∙ all_below-same n (λ c. not (is_inside n a b c && is_inside n j k (slice_index x c))) (λ c. not (is_between a b c && is_between j k (slice_index x c))) (λ c l.
+    ∙ all_below-same n (λ c. not (is_inside n a b c && is_inside n j k (slice_index x c)))
+    (λ c. not (is_between a b c && is_between j k (slice_index x c))) (λ c l.
     λ i. not (is_inside-between n a b c la lb l i && is_inside-between n j k (slice_index x c) lj lk (s.small c l) i))
 
 -- and unmarked
@@ -52,20 +54,26 @@ pub is_unmarked-corners : (g : Marks) → IsGrid g → (a b j k : ℕ) → a < s
     → is_unmarked g (corners a b j k) ≡ unmarked (size g) (slice_index g.o) (slice_index g.x) a b j k
 is_unmarked-corners g s a b j k la lb lj lk =
     let n = size g in
-    all_below-same n (λ c. not (in_range n a b c && (in_range n j k (slice_index g.o c) || in_range n j k (slice_index g.x c))))
+    all_below-same n (λ c. not (in_range n a b c && (in_range n j k (slice_index g.o c)
+    || in_range n j k (slice_index g.x c))))
     (λ c. not (between a b c && marks (slice_index g.o) (slice_index g.x) (between j k) c)) (λ c l.
-    λ i. not (in_range-between n a b c la lb l i && (in_range-between n j k (slice_index g.o c) lj lk (s.o.small c l) i || in_range-between n j k (slice_index g.x c) lj lk (s.x.small c l) i)))
+    λ i. not (in_range-between n a b c la lb l i
+    && (in_range-between n j k (slice_index g.o c) lj lk (s.o.small c l) i
+    || in_range-between n j k (slice_index g.x c) lj lk (s.x.small c l) i)))
 
 -- ---- the exchange of two rows
 -- a list with two elements exchanged, as a function
-pub slice_index-swap : (x : List ℕ) (a b : ℕ) → a < length x → b < length x → slice_index (swap x a b) ≡ exchanged (slice_index x) a b
+pub slice_index-swap : (x : List ℕ) (a b : ℕ) → a < length x → b < length x
+    → slice_index (swap x a b) ≡ exchanged (slice_index x) a b
 slice_index-swap x a b la lb = fun_ext (λ c. each c (cases_eq c a) (cases_eq c b))
   where
-    each : (c : ℕ) → (c ≡ a) ⊎ (c ≢ a) → (c ≡ b) ⊎ (c ≢ b) → slice_index (swap x a b) c ≡ exchanged (slice_index x) a b c
+    each : (c : ℕ) → (c ≡ a) ⊎ (c ≢ a) → (c ≡ b) ⊎ (c ≢ b)
+        → slice_index (swap x a b) c ≡ exchanged (slice_index x) a b c
     each c (inl i) q =
         ap (slice_index (swap x a b)) i ∙ (swapped_from_swap x (swap x a b) a b 0 la lb refl).0
         ∙ sym (ap (λ z. cond z (slice_index x b) (cond (eqb c b) (slice_index x a) (slice_index x c))) (eq-eqb c a i))
     each c (inr p) (inl j) =
         ap (slice_index (swap x a b)) j ∙ (swapped_from_swap x (swap x a b) a b 0 la lb refl).1
         ∙ sym (λ v. cond (ne_eqb c a p v) (slice_index x b) (cond (eq-eqb c b j v) (slice_index x a) (slice_index x c)))
-    each c (inr p) (inr q) = (swapped_from_swap x (swap x a b) a b 0 la lb refl).2 c p q ∙ sym (exchanged-other (slice_index x) a b c p q)
+    each c (inr p) (inr q) =
+        (swapped_from_swap x (swap x a b) a b 0 la lb refl).2 c p q ∙ sym (exchanged-other (slice_index x) a b c p q)

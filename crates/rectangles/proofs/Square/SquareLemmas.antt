@@ -31,7 +31,8 @@ AreFourApart-from a b c d h =
     }
 
 -- the rows of four different columns are different
-pub AreFourApart-rows : (n : ℕ) (f : ℕ → ℕ) → IsOneToOne n f → (a b c d : ℕ) → a < n → b < n → c < n → d < n → AreFourApart a b c d → AreFourApart (f a) (f b) (f c) (f d)
+pub AreFourApart-rows : (n : ℕ) (f : ℕ → ℕ) → IsOneToOne n f → (a b c d : ℕ) → a < n → b < n → c < n → d < n
+    → AreFourApart a b c d → AreFourApart (f a) (f b) (f c) (f d)
 AreFourApart-rows n f one a b c d la lb lc ld o = record {
   ab = one.apart a b la lb o.ab;
   ac = one.apart a c la lc o.ac;
@@ -54,21 +55,29 @@ AreColumns-from n a b c la lb lc h =
 module _ (n : ℕ) (O X : ℕ → ℕ) (f : ℕ → ℕ) (T : (ℕ → ℕ) → Bool) where
   -- two steps from f to a state that T passes
   abbrev pub two_steps : ℕ → ℕ → ℕ → ℕ → Bool
-  two_steps a b c d = is_open n O X f a b && (is_open n O X (exchanged f a b) c d && T (exchanged (exchanged f a b) c d))
+  two_steps a b c d =
+      is_open n O X f a b && (is_open n O X (exchanged f a b) c d && T (exchanged (exchanged f a b) c d))
 
   module _ (onto : (r : ℕ) → r < n → (c : ℕ) × (c < n) × (O c ≡ r)) (one : IsOneToOne n f) where
     first_is : (p : Place → ℕ) → AreColumns n p → (s : Bool) (m : Place)
-        → is_open n O X f (start_of p s m) (end_of p s m) ≡ rectangle_value (order_of p) (order_of (rows_of f p)) (arc_values n O X f (λ t. false) p) s m s m
-    first_is p d s m = ap₂ (λ x y. x && y) (differ-true _ _ (start_of-end_of p d.apart s m)) (first_step-value n O X f (λ t. false) p one d s m)
+        → is_open n O X f (start_of p s m) (end_of p s m)
+        ≡ rectangle_value (order_of p) (order_of (rows_of f p)) (arc_values n O X f (λ t. false) p) s m s m
+    first_is p d s m =
+        ap₂ (λ x y. x && y) (differ-true _ _ (start_of-end_of p d.apart s m))
+        (first_step-value n O X f (λ t. false) p one d s m)
 
     second_is : (p : Place → ℕ) → AreColumns n p → (s : Bool) (m : Place)
         → is_open n O X (exchanged f (p m) (p (next m))) (start_of p s (next m)) (end_of p s (next m))
-        ≡ rectangle_value (order_of p) (order_of (rows_of f p)) (arc_values n O X f (λ t. false) p) s (next m) (not s) (next (next m))
-    second_is p d s m = ap₂ (λ x y. x && y) (differ-true _ _ (start_of-end_of p d.apart s (next m))) (second_step-value n O X f (λ t. false) p one d s m)
+        ≡ rectangle_value (order_of p) (order_of (rows_of f p)) (arc_values n O X f (λ t. false) p) s (next m) (not s)
+        (next (next m))
+    second_is p d s m =
+        ap₂ (λ x y. x && y) (differ-true _ _ (start_of-end_of p d.apart s (next m)))
+        (second_step-value n O X f (λ t. false) p one d s m)
 
     three_is : (p : Place → ℕ) → AreColumns n p → (m : Place)
         → at_three n two_steps (p m) (p (next m)) (p (next (next m)))
-        ≡ (terms (order_of p) (order_of (rows_of f p)) (arc_values n O X f (λ t. false) p) m && T (exchanged (exchanged f (p m) (p (next m))) (p (next m)) (p (next (next m)))))
+        ≡ (terms (order_of p) (order_of (rows_of f p)) (arc_values n O X f (λ t. false) p) m
+        && T (exchanged (exchanged f (p m) (p (next m))) (p (next m)) (p (next (next m)))))
     three_is p d m =
         let a : ℕ = p m in
         let b : ℕ = p (next m) in
@@ -78,16 +87,25 @@ module _ (n : ℕ) (O X : ℕ → ℕ) (f : ℕ → ℕ) (T : (ℕ → ℕ) → 
         let u : Bool = order_of p in
         let v : Bool = order_of (rows_of f p) in
         let k : Place → Place → Bool = arc_values n O X f (λ t. false) p in
-        (λ i. ((is_open n O X f a b && (is_open n O X g b c && w)) ⊻ (is_open n O X f a b && (is_open n O X g c b && T (exchanged_comm g c b i))))
-        ⊻ ((is_open n O X f b a && (is_open n O X (exchanged_comm f b a i) b c && T (exchanged (exchanged_comm f b a i) b c)))
-        ⊻ (is_open n O X f b a && (is_open n O X (exchanged_comm f b a i) c b && T (exchanged (exchanged_comm f b a i) c b)))))
-        ∙ ap (λ (y : Bool). ((is_open n O X f a b && (is_open n O X g b c && w)) ⊻ (is_open n O X f a b && (is_open n O X g c b && w)))
-        ⊻ ((is_open n O X f b a && (is_open n O X g b c && w)) ⊻ (is_open n O X f b a && (is_open n O X g c b && y)))) (ap T (exchanged_comm g c b))
-        ∙ (λ i. ((first_is p d true m i && (second_is p d true m i && w)) ⊻ (first_is p d true m i && (second_is p d false m i && w)))
-        ⊻ ((first_is p d false m i && (second_is p d true m i && w)) ⊻ (first_is p d false m i && (second_is p d false m i && w))))
+        (λ i. ((is_open n O X f a b && (is_open n O X g b c && w))
+        ⊻ (is_open n O X f a b && (is_open n O X g c b && T (exchanged_comm g c b i))))
+        ⊻ ((is_open n O X f b a
+        && (is_open n O X (exchanged_comm f b a i) b c && T (exchanged (exchanged_comm f b a i) b c)))
+        ⊻ (is_open n O X f b a
+        && (is_open n O X (exchanged_comm f b a i) c b && T (exchanged (exchanged_comm f b a i) c b)))))
+        ∙ ap (λ (y : Bool). ((is_open n O X f a b && (is_open n O X g b c && w))
+        ⊻ (is_open n O X f a b && (is_open n O X g c b && w)))
+        ⊻ ((is_open n O X f b a && (is_open n O X g b c && w)) ⊻ (is_open n O X f b a && (is_open n O X g c b && y))))
+        (ap T (exchanged_comm g c b))
+        ∙ (λ i. ((first_is p d true m i && (second_is p d true m i && w))
+        ⊻ (first_is p d true m i && (second_is p d false m i && w)))
+        ⊻ ((first_is p d false m i && (second_is p d true m i && w))
+        ⊻ (first_is p d false m i && (second_is p d false m i && w))))
         ∙ same 5 (λ x y z t w. ((x && (z && w)) ⊻ (x && (t && w))) ⊻ ((y && (z && w)) ⊻ (y && (t && w))))
         (λ x y z t w. ((x && z ⊻ (x && t)) ⊻ ((y && z) ⊻ (y && t))) && w) refl
-        (rectangle_value u v k true m true m) (rectangle_value u v k false m false m) (rectangle_value u v k true (next m) false (next (next m))) (rectangle_value u v k false (next m) true (next (next m))) w
+        (rectangle_value u v k true m true m) (rectangle_value u v k false m false m)
+        (rectangle_value u v k true (next m) false (next (next m)))
+        (rectangle_value u v k false (next m) true (next (next m))) w
 
     three_none : (a b c : ℕ) → a < n → b < n → c < n → three_differ a b c ≡ true
         → at_three n two_steps a b c ⊻ (at_three n two_steps b c a ⊻ at_three n two_steps c a b) ≡ false
@@ -97,15 +115,21 @@ module _ (n : ℕ) (O X : ℕ → ℕ) (f : ℕ → ℕ) (T : (ℕ → ℕ) → 
         let q : Place → ℕ = rows_of f p in
         let k : Place → Place → Bool = arc_values n O X f (λ t. false) p in
         let w : Bool = T (exchanged (exchanged f a b) b c) in
-        let e1 : exchanged (exchanged f b c) c a ≡ exchanged (exchanged f a b) b c = sym (exchanged_three f a b c d.apart.ab d.apart.bc d.apart.ca) in
-        let e2 : exchanged (exchanged f c a) a b ≡ exchanged (exchanged f a b) b c = exchanged_three f c a b d.apart.ca d.apart.ab d.apart.bc in
+        let e1 : exchanged (exchanged f b c) c a ≡ exchanged (exchanged f a b) b c =
+        sym (exchanged_three f a b c d.apart.ab d.apart.bc d.apart.ca) in
+        let e2 : exchanged (exchanged f c a) a b ≡ exchanged (exchanged f a b) b c =
+        exchanged_three f c a b d.apart.ca d.apart.ab d.apart.bc in
         (λ i. three_is p d first i ⊻ (three_is p d second i ⊻ three_is p d third i))
-        ∙ (λ i. (terms (order_of p) (order_of q) k first && w) ⊻ ((terms (order_of p) (order_of q) k second && T (e1 i)) ⊻ (terms (order_of p) (order_of q) k third && T (e2 i))))
+        ∙ (λ i. (terms (order_of p) (order_of q) k first && w)
+        ⊻ ((terms (order_of p) (order_of q) k second && T (e1 i))
+        ⊻ (terms (order_of p) (order_of q) k third && T (e2 i))))
         ∙ same 4 (λ x y z w. (x && w) ⊻ ((y && w) ⊻ (z && w))) (λ x y z w. (x ⊻ (y ⊻ z)) && w) refl
-        (terms (order_of p) (order_of q) k first) (terms (order_of p) (order_of q) k second) (terms (order_of p) (order_of q) k third) w
+        (terms (order_of p) (order_of q) k first) (terms (order_of p) (order_of q) k second)
+        (terms (order_of p) (order_of q) k third) w
         ∙ ap (λ r. r && w) (terms_cancel (order_of p) (order_of q) k)
 
-    four_none : (a b c d : ℕ) → a < n → b < n → c < n → d < n → four_differ a b c d ≡ true → two_steps a b c d ≡ two_steps c d a b
+    four_none : (a b c d : ℕ) → a < n → b < n → c < n → d < n → four_differ a b c d ≡ true
+        → two_steps a b c d ≡ two_steps c d a b
     four_none a b c d la lb lc ld h =
         let o = AreFourApart-from a b c d h in
         let g : ℕ → ℕ = exchanged f a b in
@@ -119,14 +143,19 @@ module _ (n : ℕ) (O X : ℕ → ℕ) (f : ℕ → ℕ) (T : (ℕ → ℕ) → 
         let ub : Bool = unmarked n O X a b (f a) (f b) in
         let ud : Bool = unmarked n O X c d (f c) (f d) in
         let w : Bool = T (exchanged g c d) in
-        (λ i. (ab && (is_clear_of n f a b (f a) (f b) && ub)) && ((cd && (is_clear_of n g c d (gc i) (gd i) && unmarked n O X c d (gc i) (gd i))) && w))
-        ∙ same 7 (λ p x u q y v w. (p && (x && u)) && ((q && (y && v)) && w)) (λ p x u q y v w. (x && y) && ((p && (q && (u && v))) && w)) refl
+        (λ i. (ab && (is_clear_of n f a b (f a) (f b) && ub))
+        && ((cd && (is_clear_of n g c d (gc i) (gd i) && unmarked n O X c d (gc i) (gd i))) && w))
+        ∙ same 7 (λ p x u q y v w. (p && (x && u)) && ((q && (y && v)) && w))
+        (λ p x u q y v w. (x && y) && ((p && (q && (u && v))) && w)) refl
         ab (is_clear_of n f a b (f a) (f b)) ub cd (is_clear_of n g c d (f c) (f d)) ud w
         ∙ ap₂ (λ x y. x && ((ab && (cd && (ub && ud))) && y))
-        (empty_apart n f a b c d la lb lc ld o (AreFourApart-rows n f one a b c d la lb lc ld o)) (ap T (exchanged_apart f a b c d o.ac o.ad o.bc o.bd))
-        ∙ same 7 (λ p x u q y v w. (y && x) && ((p && (q && (u && v))) && w)) (λ p x u q y v w. (q && (y && v)) && ((p && (x && u)) && w)) refl
+        (empty_apart n f a b c d la lb lc ld o (AreFourApart-rows n f one a b c d la lb lc ld o))
+        (ap T (exchanged_apart f a b c d o.ac o.ad o.bc o.bd))
+        ∙ same 7 (λ p x u q y v w. (y && x) && ((p && (q && (u && v))) && w))
+        (λ p x u q y v w. (q && (y && v)) && ((p && (x && u)) && w)) refl
         ab (is_clear_of n k a b (f a) (f b)) ub cd (is_clear_of n f c d (f c) (f d)) ud (T (exchanged k a b))
-        ∙ sym (λ i. (cd && (is_clear_of n f c d (f c) (f d) && ud)) && ((ab && (is_clear_of n k a b (ka i) (kb i) && unmarked n O X a b (ka i) (kb i))) && T (exchanged k a b)))
+        ∙ sym (λ i. (cd && (is_clear_of n f c d (f c) (f d) && ud))
+        && ((ab && (is_clear_of n k a b (ka i) (kb i) && unmarked n O X a b (ka i) (kb i))) && T (exchanged k a b)))
 
     two_none : (a b : ℕ) → a < n → b < n → at_two n two_steps a b ≡ false
     two_none a b la lb = elim (cases_eq a b) [
@@ -138,17 +167,36 @@ module _ (n : ℕ) (O X : ℕ → ℕ) (f : ℕ → ℕ) (T : (ℕ → ℕ) → 
           let rows = one.apart a b la lb p in
           let ub : Bool = unmarked n O X a b (f a) (f b) in
           let o = onto (f a) (one.small a la) in
-          (λ i. differ a b && (((differ a b && (is_clear_of n f a b (f a) (f b) && ub)) && ((differ a b && (is_clear_of n g a b (g a) (g b) && unmarked n O X a b (ga i) (gb i))) && T (exchanged g a b)))
-          ⊻ ((differ a b && (is_clear_of n f a b (f a) (f b) && ub)) && ((differ b a && (is_clear_of n g b a (g b) (g a) && unmarked n O X b a (gb i) (ga i))) && T (exchanged g b a)))))
-          ∙ same 7 (λ ab x u y v w p. ab && (((ab && (x && u)) && ((ab && (y && v)) && w)) ⊻ p)) (λ ab x u y v w p. ab && (((ab && (x && (ab && (y && w)))) && (u && v)) ⊻ p)) refl
-          (differ a b) (is_clear_of n f a b (f a) (f b)) ub (is_clear_of n g a b (g a) (g b)) (unmarked n O X a b (f b) (f a)) (T (exchanged g a b))
-          ((differ a b && (is_clear_of n f a b (f a) (f b) && ub)) && ((differ b a && (is_clear_of n g b a (g b) (g a) && unmarked n O X b a (f a) (f b))) && T (exchanged g b a)))
-          ∙ ap (λ r. differ a b && (((differ a b && (is_clear_of n f a b (f a) (f b) && (differ a b && (is_clear_of n g a b (g a) (g b) && T (exchanged g a b))))) && r)
-          ⊻ ((differ a b && (is_clear_of n f a b (f a) (f b) && ub)) && ((differ b a && (is_clear_of n g b a (g b) (g a) && unmarked n O X b a (f a) (f b))) && T (exchanged g b a)))))
+          (λ i. differ a b
+          && (((differ a b && (is_clear_of n f a b (f a) (f b) && ub))
+          && ((differ a b && (is_clear_of n g a b (g a) (g b) && unmarked n O X a b (ga i) (gb i)))
+          && T (exchanged g a b)))
+          ⊻ ((differ a b && (is_clear_of n f a b (f a) (f b) && ub))
+          && ((differ b a && (is_clear_of n g b a (g b) (g a) && unmarked n O X b a (gb i) (ga i)))
+          && T (exchanged g b a)))))
+          ∙ same 7 (λ ab x u y v w p. ab && (((ab && (x && u)) && ((ab && (y && v)) && w)) ⊻ p))
+          (λ ab x u y v w p. ab && (((ab && (x && (ab && (y && w)))) && (u && v)) ⊻ p)) refl
+          (differ a b) (is_clear_of n f a b (f a) (f b)) ub (is_clear_of n g a b (g a) (g b))
+          (unmarked n O X a b (f b) (f a)) (T (exchanged g a b))
+          ((differ a b && (is_clear_of n f a b (f a) (f b) && ub))
+          && ((differ b a && (is_clear_of n g b a (g b) (g a) && unmarked n O X b a (f a) (f b)))
+          && T (exchanged g b a)))
+          ∙ ap (λ r. differ a b
+          && (((differ a b
+          && (is_clear_of n f a b (f a) (f b)
+          && (differ a b && (is_clear_of n g a b (g a) (g b) && T (exchanged g a b))))) && r)
+          ⊻ ((differ a b && (is_clear_of n f a b (f a) (f b) && ub))
+          && ((differ b a && (is_clear_of n g b a (g b) (g a) && unmarked n O X b a (f a) (f b)))
+          && T (exchanged g b a)))))
           (no_column n O X a b (f a) (f b) la p rows)
-          ∙ same 8 (λ ab z x u ba y v w. ab && ((z && false) ⊻ ((ab && (x && u)) && ((ba && (y && v)) && w)))) (λ ab z x u ba y v w. (ab && (x && (ba && (y && w)))) && (u && v)) refl
-          (differ a b) (differ a b && (is_clear_of n f a b (f a) (f b) && (differ a b && (is_clear_of n g a b (g a) (g b) && T (exchanged g a b))))) (is_clear_of n f a b (f a) (f b)) ub (differ b a) (is_clear_of n g b a (g b) (g a)) (unmarked n O X b a (f a) (f b)) (T (exchanged g b a))
-          ∙ ap (λ r. (differ a b && (is_clear_of n f a b (f a) (f b) && (differ b a && (is_clear_of n g b a (g b) (g a) && T (exchanged g b a))))) && r)
+          ∙ same 8 (λ ab z x u ba y v w. ab && ((z && false) ⊻ ((ab && (x && u)) && ((ba && (y && v)) && w))))
+          (λ ab z x u ba y v w. (ab && (x && (ba && (y && w)))) && (u && v)) refl
+          (differ a b) (differ a b && (is_clear_of n f a b (f a) (f b)
+          && (differ a b && (is_clear_of n g a b (g a) (g b) && T (exchanged g a b)))))
+          (is_clear_of n f a b (f a) (f b)) ub (differ b a) (is_clear_of n g b a (g b) (g a))
+          (unmarked n O X b a (f a) (f b)) (T (exchanged g b a))
+          ∙ ap (λ r. (differ a b && (is_clear_of n f a b (f a) (f b)
+          && (differ b a && (is_clear_of n g b a (g b) (g a) && T (exchanged g b a))))) && r)
           (no_row n O X a b (f a) (f b) o.0 o.1 o.2 p rows)
           ∙ and-false _
     ]
@@ -157,8 +205,12 @@ module _ (n : ℕ) (O X : ℕ → ℕ) (f : ℕ → ℕ) (T : (ℕ → ℕ) → 
     pub twice_none : over_two_steps n two_steps ≡ false
     twice_none =
         steps_cancel n two_steps
-        (λ a c d. ap (λ r. (r && (is_clear_of n f a a (f a) (f a) && unmarked n O X a a (f a) (f a))) && (is_open n O X (exchanged f a a) c d && T (exchanged (exchanged f a a) c d))) (differ-self a))
+        (λ a c d. ap (λ r. (r && (is_clear_of n f a a (f a) (f a) && unmarked n O X a a (f a) (f a)))
+        && (is_open n O X (exchanged f a a) c d && T (exchanged (exchanged f a a) c d))) (differ-self a))
         (λ a b c. let g : ℕ → ℕ = exchanged f a b in
-        ap (λ r. is_open n O X f a b && ((r && (is_clear_of n g c c (g c) (g c) && unmarked n O X c c (g c) (g c))) && T (exchanged g c c))) (differ-self c) ∙ and-false _)
+        ap (λ r. is_open n O X f a b
+        && ((r && (is_clear_of n g c c (g c) (g c) && unmarked n O X c c (g c) (g c))) && T (exchanged g c c)))
+        (differ-self c) ∙ and-false _)
         four_none three_none
-        (parity_below-none n (λ a. parity_below n (at_two n two_steps a)) (λ a la. parity_below-none n (at_two n two_steps a) (λ b lb. two_none a b la lb)))
+        (parity_below-none n (λ a. parity_below n (at_two n two_steps a))
+        (λ a la. parity_below-none n (at_two n two_steps a) (λ b lb. two_none a b la lb)))

@@ -21,15 +21,19 @@ total-push [] z = add-nothing z ∙ sym (nothing-add z)
 total-push (w ∷ zs) z = ap (λ u. w ⊕ u) (total-push zs z) ∙ sym (add_assoc w (total zs) z)
 
 -- one more element, read at i
-total-take : {A : Type 0} (f : A → Chain) (xs : List A) (i : ℕ) (d : A) → i < length xs → total (map f (take (i + 1) xs)) ≡ total (map f (take i xs)) ⊕ f (get_or xs i d)
-total-take f xs i d l = ap total (ap (map f) (take_more xs i d l) ∙ map-append f (take i xs) (get_or xs i d ∷ [])) ∙ total-push (map f (take i xs)) (f (get_or xs i d))
+total-take : {A : Type 0} (f : A → Chain) (xs : List A) (i : ℕ) (d : A) → i < length xs
+    → total (map f (take (i + 1) xs)) ≡ total (map f (take i xs)) ⊕ f (get_or xs i d)
+total-take f xs i d l = ap total (ap (map f) (take_more xs i d l) ∙ map-append f (take i xs) (get_or xs i d ∷ []))
+    ∙ total-push (map f (take i xs)) (f (get_or xs i d))
 
 -- one more state is toggled
-pub toggled : (ys : List (List ℕ)) (i : ℕ) (y : List ℕ) (first old new : Chain) (c : ℕ) → i < length ys → y ≡ get_or ys i y → c ≡ rank y
+pub toggled : (ys : List (List ℕ)) (i : ℕ) (y : List ℕ) (first old new : Chain) (c : ℕ) → i < length ys
+    → y ≡ get_or ys i y → c ≡ rank y
     → old ≡ first ⊕ sum_of_ranks (take i ys) → new ≡ old ⊕ single c → new ≡ first ⊕ sum_of_ranks (take (i + 1) ys)
 toggled ys i y first old new c l at is before step =
     step ∙ (λ k. before k ⊕ single (is k)) ∙ add_assoc first (sum_of_ranks (take i ys)) (single (rank y))
-    ∙ ap (λ u. first ⊕ u) (ap (λ z. sum_of_ranks (take i ys) ⊕ single (rank z)) at ∙ sym (total-take (λ z. single (rank z)) ys i y l))
+    ∙ ap (λ u. first ⊕ u) (ap (λ z. sum_of_ranks (take i ys) ⊕ single (rank z)) at
+    ∙ sym (total-take (λ z. single (rank z)) ys i y l))
 
 -- when all states of a chain are toggled, the chain is added
 pub all_toggled : (ys : List (List ℕ)) (z : Chain) → map rank ys ≡ codes z → sum_of_ranks ys ≡ z
@@ -37,10 +41,12 @@ unfolding sum_over
 all_toggled ys z e = sym (ap total (map-map single rank ys)) ∙ ap (λ cs. total (map single cs)) e ∙ sum_over-singles z
 
 -- one more border is added
-pub added : (g : Marks) (cs : List ℕ) (i n : ℕ) (x : List ℕ) (old new : Chain) → i < length cs → n ≡ size g → x ≡ unrank n (get_or cs i 0)
+pub added : (g : Marks) (cs : List ℕ) (i n : ℕ) (x : List ℕ) (old new : Chain) → i < length cs → n ≡ size g
+    → x ≡ unrank n (get_or cs i 0)
     → old ≡ sum_of_borders g (take i cs) → new ≡ old ⊕ border_of_state g x → new ≡ sum_of_borders g (take (i + 1) cs)
 added g cs i n x old new l same is before step =
-    step ∙ (λ k. before k ⊕ border_of_state g (is k)) ∙ ap (λ m. sum_of_borders g (take i cs) ⊕ border_of_state g (unrank m (get_or cs i 0))) same
+    step ∙ (λ k. before k ⊕ border_of_state g (is k))
+    ∙ ap (λ m. sum_of_borders g (take i cs) ⊕ border_of_state g (unrank m (get_or cs i 0))) same
     ∙ sym (total-take (λ c. border_of_state g (unrank (size g) c)) cs i 0 l)
 
 -- the borders of all members add up to the border

@@ -27,12 +27,14 @@ pub parity_below-some : (n : ℕ) (f : ℕ → Bool) → parity_below n f ≡ tr
 parity_below-some zero f h = absurd (true≢false (sym h))
 parity_below-some (suc n) f h = elim (cases_Bool (f n)) [
   | inl e ↦ (n, omega arith, e)
-  | inr e ↦ let r = parity_below-some n f (sym (ap (λ b. b ⊻ parity_below n f) e) ∙ h) in let l = r.1 in (r.0, omega arith, r.2)
+  | inr e ↦ let r = parity_below-some n f (sym (ap (λ b. b ⊻ parity_below n f) e) ∙ h) in let l = r.1 in
+      (r.0, omega arith, r.2)
 ]
 
 module _ (g : Marks) (s : IsGrid g) (x : List ℕ) (sx : IsBijection (size g) x) where
   -- the test of the square law is the definition
-  is_open-test : (a b : ℕ) → a < size g → b < size g → tests.is_open (size g) (slice_index g.o) (slice_index g.x) (slice_index x) a b ≡ is_open g x a b
+  is_open-test : (a b : ℕ) → a < size g → b < size g
+      → tests.is_open (size g) (slice_index g.o) (slice_index g.x) (slice_index x) a b ≡ is_open g x a b
   unfolding is_open
   is_open-test a b la lb = sym (ap₂ (λ t u. not (eqb a b) && (t && u))
       (is_empty-corners (size g) x sx a b (slice_index x a) (slice_index x b) la lb (sx.small a la) (sx.small b lb))
@@ -46,32 +48,42 @@ module _ (g : Marks) (s : IsGrid g) (x : List ℕ) (sx : IsBijection (size g) x)
   within a l = let e = sx.long in omega arith
 
   -- the point on a is moved by the exchange at a and b, and at no other circles
-  moved : (a b c : ℕ) → a < size g → b < size g → c < size g → c ≢ a → c ≢ b → slice_index (swap x a b) c ≡ slice_index x c
+  moved : (a b c : ℕ) → a < size g → b < size g → c < size g → c ≢ a → c ≢ b
+      → slice_index (swap x a b) c ≡ slice_index x c
   moved a b c la lb lc p q = slice_index-swap_other x a b c (within a la) (within b lb) p q
 
   -- where an exchange moves the point on d, d is one of its circles
-  one_of_two : (a b c d : ℕ) → a < size g → b < size g → c < size g → d < size g → c ≢ d → swap x c d ≡ swap x a b → (c ≡ a) ⊎ (c ≡ b)
+  one_of_two : (a b c d : ℕ) → a < size g → b < size g → c < size g → d < size g → c ≢ d → swap x c d ≡ swap x a b
+      → (c ≡ a) ⊎ (c ≡ b)
   one_of_two a b c d la lb lc ld p e = elim (cases_eq c a) [
     | inl i ↦ inl i
     | inr q ↦ elim (cases_eq c b) [
       | inl i ↦ inr i
-      | inr r ↦ absurd (sx.apart c d lc ld p (sym (sym (slice_index-swap_first x c d (within c lc) (within d ld)) ∙ ap (λ y. slice_index y c) e ∙ moved a b c la lb lc q r)))
+      | inr r ↦
+          absurd (sx.apart c d lc ld p (sym (sym (slice_index-swap_first x c d (within c lc) (within d ld))
+          ∙ ap (λ y. slice_index y c) e ∙ moved a b c la lb lc q r)))
     ]
   ]
 
   swap_comm : (a b : ℕ) → a < size g → b < size g → a ≢ b → swap x a b ≡ swap x b a
   swap_comm a b la lb p =
-      same_list (size g) (swap x a b) (swap x b a) (IsBijection-swap (size g) x a b la lb sx).long (IsBijection-swap (size g) x b a lb la sx).long (λ c l. elim (cases_eq c a) [
-        | inl e ↦ ap (slice_index (swap x a b)) e ∙ slice_index-swap_first x a b (within a la) (within b lb) ∙ sym (slice_index-swap_second x b a (within b lb) (within a la)) ∙ ap (slice_index (swap x b a)) (sym e)
+      same_list (size g) (swap x a b) (swap x b a) (IsBijection-swap (size g) x a b la lb sx).long
+      (IsBijection-swap (size g) x b a lb la sx).long (λ c l. elim (cases_eq c a) [
+        | inl e ↦
+            ap (slice_index (swap x a b)) e ∙ slice_index-swap_first x a b (within a la) (within b lb)
+            ∙ sym (slice_index-swap_second x b a (within b lb) (within a la)) ∙ ap (slice_index (swap x b a)) (sym e)
         | inr q ↦ elim (cases_eq c b) [
-          | inl e ↦ ap (slice_index (swap x a b)) e ∙ slice_index-swap_second x a b (within a la) (within b lb) ∙ sym (slice_index-swap_first x b a (within b lb) (within a la)) ∙ ap (slice_index (swap x b a)) (sym e)
+          | inl e ↦
+              ap (slice_index (swap x a b)) e ∙ slice_index-swap_second x a b (within a la) (within b lb)
+              ∙ sym (slice_index-swap_first x b a (within b lb) (within a la)) ∙ ap (slice_index (swap x b a)) (sym e)
           | inr r ↦ moved a b c la lb l q r ∙ sym (moved b a c lb la l r q)
         ]
       ])
 
   -- one term of the sum for the exchange at a and b
   term : (a b c d : ℕ) → a < size g → b < size g → c < size g → d < size g → a ≢ b
-      → (is_open g x c d && is_same (swap x c d) (swap x a b)) ≡ ((eqb c a && (eqb d b && is_open g x a b)) ⊻ (eqb c b && (eqb d a && is_open g x b a)))
+      → (is_open g x c d && is_same (swap x c d) (swap x a b))
+      ≡ ((eqb c a && (eqb d b && is_open g x a b)) ⊻ (eqb c b && (eqb d a && is_open g x b a)))
   term a b c d la lb lc ld p = elim (cases_eq c d) [
     | inl e ↦
         let none : is_open g x c d ≡ false = ap (λ i. is_open g x i d) e ∙ is_open-same d in
@@ -80,10 +92,12 @@ module _ (g : Marks) (s : IsGrid g) (x : List ℕ) (sx : IsBijection (size g) x)
       | inl i ↦ elim (cases_eq d b) [
         | inl j ↦
             let first : is_open g x c d ≡ is_open g x a b = λ k. is_open g x (i k) (j k) in
-            let equal : is_same (swap x c d) (swap x a b) ≡ true = (λ k. is_same (swap x (i k) (j k)) (swap x a b)) ∙ is_same-self (swap x a b) in
+            let equal : is_same (swap x c d) (swap x a b) ≡ true =
+            (λ k. is_same (swap x (i k) (j k)) (swap x a b)) ∙ is_same-self (swap x a b) in
             ap₂ (λ t u. t && u) first equal
             ∙ same 1 (λ t. t && true) (λ t. t) refl (is_open g x a b)
-            ∙ sym ((λ k. (eq-eqb c a i k && (eq-eqb d b j k && is_open g x a b)) ⊻ (ne_eqb c b (λ e. p (sym i ∙ e)) k && (eqb d a && is_open g x b a)))
+            ∙ sym ((λ k. (eq-eqb c a i k && (eq-eqb d b j k && is_open g x a b))
+            ⊻ (ne_eqb c b (λ e. p (sym i ∙ e)) k && (eqb d a && is_open g x b a)))
             ∙ same 1 (λ t. t ⊻ false) (λ t. t) refl (is_open g x a b))
         | inr r ↦ other c d lc ld q (λ e. r e.1) (λ e. p (sym i ∙ e.0))
       ]
@@ -91,10 +105,12 @@ module _ (g : Marks) (s : IsGrid g) (x : List ℕ) (sx : IsBijection (size g) x)
         | inl i ↦ elim (cases_eq d a) [
           | inl j ↦
               let first : is_open g x c d ≡ is_open g x b a = λ k. is_open g x (i k) (j k) in
-              let equal : is_same (swap x c d) (swap x a b) ≡ true = (λ k. is_same (swap x (i k) (j k)) (swap x a b)) ∙ ap (λ y. is_same y (swap x a b)) (sym (swap_comm a b la lb p)) ∙ is_same-self (swap x a b) in
+              let equal : is_same (swap x c d) (swap x a b) ≡ true = (λ k. is_same (swap x (i k) (j k)) (swap x a b))
+              ∙ ap (λ y. is_same y (swap x a b)) (sym (swap_comm a b la lb p)) ∙ is_same-self (swap x a b) in
               ap₂ (λ t u. t && u) first equal
               ∙ same 1 (λ t. t && true) (λ t. t) refl (is_open g x b a)
-              ∙ sym (λ k. (ne_eqb c a r k && (eqb d b && is_open g x a b)) ⊻ (eq-eqb c b i k && (eq-eqb d a j k && is_open g x b a)))
+              ∙ sym (λ k. (ne_eqb c a r k && (eqb d b && is_open g x a b))
+              ⊻ (eq-eqb c b i k && (eq-eqb d a j k && is_open g x b a)))
           | inr t ↦ other c d lc ld q (λ e. r e.0) (λ e. t e.1)
         ]
         | inr t ↦ other c d lc ld q (λ e. r e.0) (λ e. t e.0)
@@ -113,14 +129,17 @@ module _ (g : Marks) (s : IsGrid g) (x : List ℕ) (sx : IsBijection (size g) x)
           ap₂ (λ t u. t ⊻ u) (pair_no (eqb c a) (eqb d b) (is_open g x a b) (λ u v. h (eqb-true c a u, eqb-true d b v)))
           (pair_no (eqb c b) (eqb d a) (is_open g x b a) (λ u v. k (eqb-true c b u, eqb-true d a v)))
 
-      ends : (c d : ℕ) → c ≡ d → ((eqb c a && (eqb d b && is_open g x a b)) ⊻ (eqb c b && (eqb d a && is_open g x b a))) ≡ false
+      ends : (c d : ℕ) → c ≡ d
+          → ((eqb c a && (eqb d b && is_open g x a b)) ⊻ (eqb c b && (eqb d a && is_open g x b a))) ≡ false
       ends c d e = neither c d (λ h. p (sym h.0 ∙ e ∙ h.1)) (λ h. p (sym h.1 ∙ sym e ∙ h.0))
 
       other : (c d : ℕ) → c < size g → d < size g → c ≢ d → (((c ≡ a) × (d ≡ b)) → ⊥) → (((c ≡ b) × (d ≡ a)) → ⊥)
-          → (is_open g x c d && is_same (swap x c d) (swap x a b)) ≡ ((eqb c a && (eqb d b && is_open g x a b)) ⊻ (eqb c b && (eqb d a && is_open g x b a)))
+          → (is_open g x c d && is_same (swap x c d) (swap x a b))
+          ≡ ((eqb c a && (eqb d b && is_open g x a b)) ⊻ (eqb c b && (eqb d a && is_open g x b a)))
       other c d lc ld q h k =
           and_right _ _ (false_from_ne_true _ (λ t.
-          let e = is_same-equal (size g) (swap x c d) (swap x a b) (IsBijection-swap (size g) x c d lc ld sx) (IsBijection-swap (size g) x a b la lb sx) t in
+          let e = is_same-equal (size g) (swap x c d) (swap x a b) (IsBijection-swap (size g) x c d lc ld sx)
+          (IsBijection-swap (size g) x a b la lb sx) t in
           let first = one_of_two a b c d la lb lc ld q e in
           let second = one_of_two a b d c la lb ld lc (λ i. q (sym i)) (sym (swap_comm c d lc ld q) ∙ e) in
           elim first [
@@ -130,10 +149,12 @@ module _ (g : Marks) (s : IsGrid g) (x : List ℕ) (sx : IsBijection (size g) x)
           ∙ sym (neither c d h k)
 
   -- a sum with one term
-  one_term : (a b : ℕ) (t : Bool) → a < size g → b < size g → parity_below (size g) (λ c. parity_below (size g) (λ d. eqb c a && (eqb d b && t))) ≡ t
+  one_term : (a b : ℕ) (t : Bool) → a < size g → b < size g
+      → parity_below (size g) (λ c. parity_below (size g) (λ d. eqb c a && (eqb d b && t))) ≡ t
   one_term a b t la lb =
       parity_below-same (size g) _ (λ c. eqb c a && t) (λ c lc.
-      parity_below-same (size g) _ (λ d. eqb d b && (eqb c a && t)) (λ d ld. same 3 (λ u v w. u && (v && w)) (λ u v w. v && (u && w)) refl (eqb c a) (eqb d b) t)
+      parity_below-same (size g) _ (λ d. eqb d b && (eqb c a && t))
+      (λ d ld. same 3 (λ u v w. u && (v && w)) (λ u v w. v && (u && w)) refl (eqb c a) (eqb d b) t)
       ∙ parity_below-one (size g) b (λ d. eqb c a && t) lb)
       ∙ parity_below-one (size g) a (λ c. t) la
 
@@ -141,21 +162,27 @@ module _ (g : Marks) (s : IsGrid g) (x : List ℕ) (sx : IsBijection (size g) x)
   unfoldable pub steps_to : List ℕ → Bool
   steps_to y = is_odd (length (filter (is_step g x y) (rectangles (size g))))
 
-  steps_sum : (y : List ℕ) → steps_to y ≡ parity_below (size g) (λ c. parity_below (size g) (λ d. is_open g x c d && is_same (swap x c d) y))
+  steps_sum : (y : List ℕ)
+      → steps_to y ≡ parity_below (size g) (λ c. parity_below (size g) (λ d. is_open g x c d && is_same (swap x c d) y))
   unfolding steps_to
   steps_sum y =
       is_odd-steps g s x sx y
-      ∙ parity_below-same (size g) _ _ (λ c lc. parity_below-same (size g) _ _ (λ d ld. ap (λ t. t && is_same (swap x c d) y) (is_open-test c d lc ld)))
+      ∙ parity_below-same (size g) _ _
+      (λ c lc. parity_below-same (size g) _ _ (λ d ld. ap (λ t. t && is_same (swap x c d) y) (is_open-test c d lc ld)))
 
   -- whether an odd number of steps lead to the exchange at two circles
   steps-swap : (a b : ℕ) → a < size g → b < size g → a ≢ b → steps_to (swap x a b) ≡ is_odd_pair g x a b
   unfolding is_odd_pair
   steps-swap a b la lb p =
       steps_sum (swap x a b)
-      ∙ parity_below-same (size g) _ (λ c. parity_below (size g) (λ d. eqb c a && (eqb d b && is_open g x a b)) ⊻ parity_below (size g) (λ d. eqb c b && (eqb d a && is_open g x b a))) (λ c lc.
+      ∙ parity_below-same (size g) _
+      (λ c. parity_below (size g) (λ d. eqb c a && (eqb d b && is_open g x a b))
+      ⊻ parity_below (size g) (λ d. eqb c b && (eqb d a && is_open g x b a))) (λ c lc.
       parity_below-same (size g) _ _ (λ d ld. term a b c d la lb lc ld p)
-      ∙ parity-xor (λ d. eqb c a && (eqb d b && is_open g x a b)) (λ d. eqb c b && (eqb d a && is_open g x b a)) (below (size g)))
-      ∙ parity-xor (λ c. parity_below (size g) (λ d. eqb c a && (eqb d b && is_open g x a b))) (λ c. parity_below (size g) (λ d. eqb c b && (eqb d a && is_open g x b a))) (below (size g))
+      ∙ parity-xor (λ d. eqb c a && (eqb d b && is_open g x a b)) (λ d. eqb c b && (eqb d a && is_open g x b a))
+      (below (size g)))
+      ∙ parity-xor (λ c. parity_below (size g) (λ d. eqb c a && (eqb d b && is_open g x a b)))
+      (λ c. parity_below (size g) (λ d. eqb c b && (eqb d a && is_open g x b a))) (below (size g))
       ∙ ap₂ (λ t u. t ⊻ u) (one_term a b (is_open g x a b) la lb) (one_term b a (is_open g x b a) lb la)
       ∙ same 2 (λ t u. t ⊻ u) (λ t u. (t && not u) || (not t && u)) refl (is_open g x a b) (is_open g x b a)
 
@@ -175,19 +202,40 @@ module _ (g : Marks) (s : IsGrid g) (x : List ℕ) (sx : IsBijection (size g) x)
   unfolding reached
   odd_exchange y m =
       let member = member_of_filter steps_to (states (size g)) y m in
-      let sum : parity_below (size g) (λ c. parity_below (size g) (λ d. is_open g x c d && is_same (swap x c d) y)) ≡ true = sym (steps_sum y) ∙ member.1 in
-      let c = parity_below-some (size g) (λ c. parity_below (size g) (λ d. is_open g x c d && is_same (swap x c d) y)) sum in
+      let sum : parity_below (size g) (λ c. parity_below (size g) (λ d. is_open g x c d && is_same (swap x c d) y))
+      ≡ true = sym (steps_sum y) ∙ member.1 in
+      let c = parity_below-some (size g)
+      (λ c. parity_below (size g) (λ d. is_open g x c d && is_same (swap x c d) y)) sum in
       let d = parity_below-some (size g) (λ d. is_open g x c.0 d && is_same (swap x c.0 d) y) c.2 in
       let parts = and_parts (is_open g x c.0 d.0) (is_same (swap x c.0 d.0) y) d.2 in
       let p : c.0 ≢ d.0 = λ e. true≢false (sym parts.0 ∙ ap (λ i. is_open g x i d.0) e ∙ is_open-same d.0) in
-      let is : swap x c.0 d.0 ≡ y = is_same-equal (size g) (swap x c.0 d.0) y (IsBijection-swap (size g) x c.0 d.0 c.1 d.1 sx) (member_of_states (size g) y member.0) parts.1 in
+      let is : swap x c.0 d.0 ≡ y =
+      is_same-equal (size g) (swap x c.0 d.0) y (IsBijection-swap (size g) x c.0 d.0 c.1 d.1 sx)
+      (member_of_states (size g) y member.0) parts.1 in
       elim (cases_order c.0 d.0) [
         | inl e ↦ absurd (p e)
         | inr o ↦ elim o [
-          | inl l ↦ (c.0, d.0, record { order = l; below = d.1; odd = sym (steps-swap c.0 d.0 c.1 d.1 p) ∙ ap steps_to is ∙ member.1; is = is })
+          | inl l ↦ (
+            c.0,
+            d.0,
+            record {
+              order = l;
+              below = d.1;
+              odd = sym (steps-swap c.0 d.0 c.1 d.1 p) ∙ ap steps_to is ∙ member.1;
+              is = is;
+            },
+          )
           | inr l ↦
-              let back : swap x d.0 c.0 ≡ y = sym (swap_comm c.0 d.0 c.1 d.1 p) ∙ is in
-              (d.0, c.0, record { order = l; below = c.1; odd = sym (steps-swap d.0 c.0 d.1 c.1 (λ e. p (sym e))) ∙ ap steps_to back ∙ member.1; is = back })
+              let back : swap x d.0 c.0 ≡ y = sym (swap_comm c.0 d.0 c.1 d.1 p) ∙ is in (
+                d.0,
+                c.0,
+                record {
+                  order = l;
+                  below = c.1;
+                  odd = sym (steps-swap d.0 c.0 d.1 c.1 (λ e. p (sym e))) ∙ ap steps_to back ∙ member.1;
+                  is = back;
+                },
+              )
         ]
       ]
 
@@ -198,4 +246,6 @@ module _ (g : Marks) (s : IsGrid g) (x : List ℕ) (sx : IsBijection (size g) x)
       let o = h.order in let l = h.below in
       let la : a < size g = omega arith in
       subst (Contains (filter steps_to (states (size g)))) h.is
-      (Contains-filter steps_to (states (size g)) (swap x a b) (Contains-states (size g) (swap x a b) (IsBijection-swap (size g) x a b la l sx)) (steps-swap a b la l (omega arith) ∙ h.odd))
+      (Contains-filter steps_to (states (size g)) (swap x a b)
+      (Contains-states (size g) (swap x a b) (IsBijection-swap (size g) x a b la l sx))
+      (steps-swap a b la l (omega arith) ∙ h.odd))

@@ -19,9 +19,12 @@ use Rattle.rectangles.proofs.Sweep.TargetLemmas.{length-numbers, get_or-numbers}
 -- ---- an array that is filled from 0 on
 
 -- one element more
-pub filled_more : (rows : List ℕ) (c v : ℕ) (P : ℕ → ℕ → Type 0) → c < length rows → ((a : ℕ) → a < c → P a (slice_index rows a)) → P c v → (a : ℕ) → a < c + 1 → P a (slice_index (set rows c v) a)
+pub filled_more : (rows : List ℕ) (c v : ℕ) (P : ℕ → ℕ → Type 0) → c < length rows
+    → ((a : ℕ) → a < c → P a (slice_index rows a)) → P c v → (a : ℕ) → a < c + 1 → P a (slice_index (set rows c v) a)
 filled_more rows c v P fits before here a l = elim (cases_eq a c) [
-  | inl e ↦ subst (λ i. P i (slice_index (set rows c v) i)) (sym e) (subst (P c) (sym (get_or-set_same rows c v 0 fits)) here)
+  | inl e ↦
+      subst (λ i. P i (slice_index (set rows c v) i)) (sym e)
+      (subst (P c) (sym (get_or-set_same rows c v 0 fits)) here)
   | inr p ↦ subst (P a) (sym (get_or-set_other rows c a v 0 p)) (before a (omega arith))
 ]
 
@@ -35,12 +38,16 @@ pub record IsOddRows (x opens : List ℕ) (a c rows : ℕ) : Type 0 where
 -- before the first circle
 pub odd_rows_none : (x opens : List ℕ) (a : ℕ) → IsOddRows x opens a (a + 1) 0
 odd_rows_none x opens a = record {
-  near = λ b l m. bit_at-zero (slice_index x b) ∙ sym (ap (λ t. cond t ((bit_at (slice_index opens a) b + bit_at (slice_index opens b) a) % 2) 0) (le-ltb a b (omega arith)));
+  near = λ b l m. bit_at-zero (slice_index x b)
+      ∙ sym (ap (λ t. cond t ((bit_at (slice_index opens a) b + bit_at (slice_index opens b) a) % 2) 0)
+      (le-ltb a b (omega arith)));
   far = λ b l m. bit_at-zero (slice_index x b);
 }
 
-odd_bit-right : (opens : List ℕ) (a b : ℕ) → a < b → odd_bit opens a b ≡ (bit_at (slice_index opens a) b + bit_at (slice_index opens b) a) % 2
-odd_bit-right opens a b l = ap (λ t. cond t ((bit_at (slice_index opens a) b + bit_at (slice_index opens b) a) % 2) 0) (lt-ltb a b l)
+odd_bit-right : (opens : List ℕ) (a b : ℕ) → a < b
+    → odd_bit opens a b ≡ (bit_at (slice_index opens a) b + bit_at (slice_index opens b) a) % 2
+odd_bit-right opens a b l =
+    ap (λ t. cond t ((bit_at (slice_index opens a) b + bit_at (slice_index opens b) a) % 2) 0) (lt-ltb a b l)
 
 odd_sum : (p q : ℕ) → p < 2 → q < 2 → p ≢ q → (p + q) % 2 ≡ 1
 odd_sum zero zero l m d = absurd (d refl)
@@ -54,43 +61,54 @@ odd_sum (suc zero) (suc (suc q)) l m d = absurd (omega arith)
 even_sum : (p q : ℕ) → p ≡ q → (p + q) % 2 ≡ 0
 even_sum p q e = omega arith
 
-module _ (x opens : List ℕ) (s : IsBijection (length x) x) (short : length x ≤ MAX_SIZE) (a c rows : ℕ) (h : IsOddRows x opens a c rows) (right : a < c) (l : c < length x) where
+module _ (x opens : List ℕ) (s : IsBijection (length x) x) (short : length x ≤ MAX_SIZE) (a c rows : ℕ)
+    (h : IsOddRows x opens a c rows) (right : a < c) (l : c < length x) where
   -- one circle more, an odd pair with a
-  pub odd_rows_yes : bit_and (slice_index opens a / 2 ^ c) 1 ≢ bit_and (slice_index opens c / 2 ^ a) 1 → (row : ℕ) → row ≡ slice_index x c → IsOddRows x opens a (c + 1) (bit_or rows (1 * 2 ^ row % 2 ^ 16))
+  pub odd_rows_yes : bit_and (slice_index opens a / 2 ^ c) 1 ≢ bit_and (slice_index opens c / 2 ^ a) 1 → (row : ℕ)
+      → row ≡ slice_index x c → IsOddRows x opens a (c + 1) (bit_or rows (1 * 2 ^ row % 2 ^ 16))
   odd_rows_yes p row row_is =
       let low : row < 16 = let b = s.small c l in omega arith in
       record {
         near = λ b lb m. elim (cases_eq b c) [
           | inl e ↦
-              ap (bit_at (bit_or rows (1 * 2 ^ row % 2 ^ 16))) (ap (slice_index x) e ∙ sym row_is) ∙ bit_at_set_same w16 rows row low
+              ap (bit_at (bit_or rows (1 * 2 ^ row % 2 ^ 16))) (ap (slice_index x) e ∙ sym row_is)
+              ∙ bit_at_set_same w16 rows row low
               ∙ sym (ap (odd_bit opens a) e ∙ odd_bit-right opens a c right
-              ∙ odd_sum _ _ (bit_at-lt (slice_index opens a) c) (bit_at-lt (slice_index opens c) a) (λ i. p (shr_and_one (slice_index opens a) c ∙ i ∙ sym (shr_and_one (slice_index opens c) a))))
-          | inr q ↦ bit_at_set_other w16 rows row low (slice_index x b) (λ i. s.apart b c lb l q (i ∙ row_is)) ∙ h.near b lb (omega arith)
+              ∙ odd_sum _ _ (bit_at-lt (slice_index opens a) c) (bit_at-lt (slice_index opens c) a)
+              (λ i. p (shr_and_one (slice_index opens a) c ∙ i ∙ sym (shr_and_one (slice_index opens c) a))))
+          | inr q ↦
+              bit_at_set_other w16 rows row low (slice_index x b) (λ i. s.apart b c lb l q (i ∙ row_is))
+              ∙ h.near b lb (omega arith)
         ];
-        far = λ b lb m. bit_at_set_other w16 rows row low (slice_index x b) (λ i. s.apart b c lb l (omega arith) (i ∙ row_is)) ∙ h.far b lb (omega arith);
+        far = λ b lb m. bit_at_set_other w16 rows row low (slice_index x b)
+            (λ i. s.apart b c lb l (omega arith) (i ∙ row_is)) ∙ h.far b lb (omega arith);
       }
 
   -- one circle more, not an odd pair with a
-  pub odd_rows_no : bit_and (slice_index opens a / 2 ^ c) 1 ≡ bit_and (slice_index opens c / 2 ^ a) 1 → IsOddRows x opens a (c + 1) rows
+  pub odd_rows_no : bit_and (slice_index opens a / 2 ^ c) 1 ≡ bit_and (slice_index opens c / 2 ^ a) 1
+      → IsOddRows x opens a (c + 1) rows
   odd_rows_no e = record {
     near = λ b lb m. elim (cases_eq b c) [
       | inl i ↦
           h.far b lb (omega arith)
-          ∙ sym (ap (odd_bit opens a) i ∙ odd_bit-right opens a c right ∙ even_sum _ _ (sym (shr_and_one (slice_index opens a) c) ∙ e ∙ shr_and_one (slice_index opens c) a))
+          ∙ sym (ap (odd_bit opens a) i ∙ odd_bit-right opens a c right
+          ∙ even_sum _ _ (sym (shr_and_one (slice_index opens a) c) ∙ e ∙ shr_and_one (slice_index opens c) a))
       | inr q ↦ h.near b lb (omega arith)
     ];
     far = λ b lb m. h.far b lb (omega arith);
   }
 
 -- the bits of the odd pairs, where `opens` has those of the open rectangles
-pub odd_bit-open : (g : Marks) (x opens : List ℕ) (n a b : ℕ) → a < n → b < n → ((a b : ℕ) → a < n → b < n → bit_at (slice_index opens a) b ≡ cond (is_open g x a b) 1 0)
+pub odd_bit-open : (g : Marks) (x opens : List ℕ) (n a b : ℕ) → a < n → b < n
+    → ((a b : ℕ) → a < n → b < n → bit_at (slice_index opens a) b ≡ cond (is_open g x a b) 1 0)
     → odd_bit opens a b ≡ cond (ltb a b && is_odd_pair g x a b) 1 0
 unfolding is_odd_pair
 odd_bit-open g x opens n a b la lb has =
     (λ i. cond (ltb a b) ((has a b la lb i + has b a lb la i) % 2) 0)
     ∙ by (ltb a b) (is_open g x a b) (is_open g x b a)
   where
-    by : (t u v : Bool) → ◌≡◌ {A = ℕ} (cond t ((cond u 1 0 + cond v 1 0) % 2) 0) (cond (t && ((u && not v) || (not u && v))) 1 0)
+    by : (t u v : Bool)
+        → ◌≡◌ {A = ℕ} (cond t ((cond u 1 0 + cond v 1 0) % 2) 0) (cond (t && ((u && not v) || (not u && v))) 1 0)
     by true true true = refl
     by true true false = refl
     by true false true = refl
@@ -102,76 +120,107 @@ odd_bit-open g x opens n a b la lb has =
 module _ (x columns : List ℕ) (a odd : ℕ) where
   -- one row more
   exchanges_more : (rows : List ℕ) (i : ℕ) → i < length rows
-      → exchanges x columns a odd (take (i + 1) rows) ≡ exchanges x columns a odd (take i rows) ++ cond (eqb (bit_at odd (slice_index rows i)) 1) (swap x a (slice_index columns (slice_index rows i)) ∷ []) []
+      → exchanges x columns a odd (take (i + 1) rows)
+      ≡ exchanges x columns a odd (take i rows)
+      ++ cond (eqb (bit_at odd (slice_index rows i)) 1) (swap x a (slice_index columns (slice_index rows i)) ∷ []) []
   exchanges_more rows i l =
       ap (map (λ r. swap x a (slice_index columns r))) (filter_more (λ r. eqb (bit_at odd r) 1) rows i 0 l)
-      ∙ map-append (λ r. swap x a (slice_index columns r)) (filter (λ r. eqb (bit_at odd r) 1) (take i rows)) (cond (eqb (bit_at odd (slice_index rows i)) 1) (slice_index rows i ∷ []) [])
-      ∙ ap (λ ys. exchanges x columns a odd (take i rows) ++ ys) (by (eqb (bit_at odd (slice_index rows i)) 1) (slice_index rows i))
+      ∙ map-append (λ r. swap x a (slice_index columns r)) (filter (λ r. eqb (bit_at odd r) 1) (take i rows))
+      (cond (eqb (bit_at odd (slice_index rows i)) 1) (slice_index rows i ∷ []) [])
+      ∙ ap (λ ys. exchanges x columns a odd (take i rows) ++ ys)
+      (by (eqb (bit_at odd (slice_index rows i)) 1) (slice_index rows i))
     where
-      by : (t : Bool) (r : ℕ) → map (λ r. swap x a (slice_index columns r)) (cond t (r ∷ []) []) ≡ cond t (swap x a (slice_index columns r) ∷ []) []
+      by : (t : Bool) (r : ℕ)
+          → map (λ r. swap x a (slice_index columns r)) (cond t (r ∷ []) [])
+          ≡ cond t (swap x a (slice_index columns r) ∷ []) []
       by true r = refl
       by false r = refl
 
-  exchanges_le : (rows : List ℕ) (i : ℕ) → length (exchanges x columns a odd (take i rows)) ≤ length (exchanges x columns a odd rows)
+  exchanges_le : (rows : List ℕ) (i : ℕ)
+      → length (exchanges x columns a odd (take i rows)) ≤ length (exchanges x columns a odd rows)
   exchanges_le rows i =
-      let e : length (exchanges x columns a odd (take i rows)) ≡ length (filter (λ r. eqb (bit_at odd r) 1) (take i rows)) = length-map (filter (λ r. eqb (bit_at odd r) 1) (take i rows)) (λ r. swap x a (slice_index columns r)) in
-      let f : length (exchanges x columns a odd rows) ≡ length (filter (λ r. eqb (bit_at odd r) 1) rows) = length-map (filter (λ r. eqb (bit_at odd r) 1) rows) (λ r. swap x a (slice_index columns r)) in
+      let e : length (exchanges x columns a odd (take i rows))
+      ≡ length (filter (λ r. eqb (bit_at odd r) 1) (take i rows)) =
+      length-map (filter (λ r. eqb (bit_at odd r) 1) (take i rows)) (λ r. swap x a (slice_index columns r)) in
+      let f : length (exchanges x columns a odd rows) ≡ length (filter (λ r. eqb (bit_at odd r) 1) rows) =
+      length-map (filter (λ r. eqb (bit_at odd r) 1) rows) (λ r. swap x a (slice_index columns r)) in
       let p = length-filter (λ r. eqb (bit_at odd r) 1) (take i rows) in
       let q = length-filter (λ r. eqb (bit_at odd r) 1) rows in
       let l = sum_by-take-le (λ r. cond (eqb (bit_at odd r) 1) 1 0) rows i in
       omega arith
 
-  module _ (from to r : ℕ) (low : from ≤ r) (high : r < to) (old items : List (List ℕ)) (h : items ≡ old ++ exchanges x columns a odd (take (r - from) (numbers from to))) where
+  module _ (from to r : ℕ) (low : from ≤ r) (high : r < to) (old items : List (List ℕ))
+      (h : items ≡ old ++ exchanges x columns a odd (take (r - from) (numbers from to))) where
     place : slice_index (numbers from to) (r - from) ≡ r
     place = get_or-numbers from to (r - from) 0 (omega arith) ∙ omega arith
 
-    next : (t : Bool) → eqb (bit_at odd r) 1 ≡ t → exchanges x columns a odd (take (r + 1 - from) (numbers from to)) ≡ exchanges x columns a odd (take (r - from) (numbers from to)) ++ cond t (swap x a (slice_index columns r) ∷ []) []
+    next : (t : Bool) → eqb (bit_at odd r) 1 ≡ t
+        → exchanges x columns a odd (take (r + 1 - from) (numbers from to))
+        ≡ exchanges x columns a odd (take (r - from) (numbers from to))
+        ++ cond t (swap x a (slice_index columns r) ∷ []) []
     next t e =
         let n : r + 1 - from ≡ r - from + 1 = omega arith in
         ap (λ i. exchanges x columns a odd (take i (numbers from to))) n
         ∙ exchanges_more (numbers from to) (r - from) (let k = length-numbers from to in omega arith)
-        ∙ ap (λ q. exchanges x columns a odd (take (r - from) (numbers from to)) ++ cond (eqb (bit_at odd q) 1) (swap x a (slice_index columns q) ∷ []) []) place
-        ∙ ap (λ b. exchanges x columns a odd (take (r - from) (numbers from to)) ++ cond b (swap x a (slice_index columns r) ∷ []) []) e
+        ∙ ap (λ q. exchanges x columns a odd (take (r - from) (numbers from to))
+        ++ cond (eqb (bit_at odd q) 1) (swap x a (slice_index columns q) ∷ []) []) place
+        ∙ ap (λ b. exchanges x columns a odd (take (r - from) (numbers from to))
+        ++ cond b (swap x a (slice_index columns r) ∷ []) []) e
 
     set_from : bit_and (odd / 2 ^ r) 1 ≡ 1 → eqb (bit_at odd r) 1 ≡ true
     set_from e = eq-eqb _ _ (sym (shr_and_one odd r) ∙ e)
 
     -- one row more, whose bit is set
-    pub push_yes : bit_and (odd / 2 ^ r) 1 ≡ 1 → items ++ (swap x a (slice_index columns r) ∷ []) ≡ old ++ exchanges x columns a odd (take (r + 1 - from) (numbers from to))
-    push_yes e = ap (λ ys. ys ++ (swap x a (slice_index columns r) ∷ [])) h ∙ append_assoc old _ _ ∙ ap (λ ys. old ++ ys) (sym (next true (set_from e)))
+    pub push_yes : bit_and (odd / 2 ^ r) 1 ≡ 1
+        → items ++ (swap x a (slice_index columns r) ∷ [])
+        ≡ old ++ exchanges x columns a odd (take (r + 1 - from) (numbers from to))
+    push_yes e = ap (λ ys. ys ++ (swap x a (slice_index columns r) ∷ [])) h ∙ append_assoc old _ _
+        ∙ ap (λ ys. old ++ ys) (sym (next true (set_from e)))
 
     -- one row more, whose bit is not set
-    pub push_no : bit_and (odd / 2 ^ r) 1 ≢ 1 → items ≡ old ++ exchanges x columns a odd (take (r + 1 - from) (numbers from to))
+    pub push_no : bit_and (odd / 2 ^ r) 1 ≢ 1
+        → items ≡ old ++ exchanges x columns a odd (take (r + 1 - from) (numbers from to))
     push_no p = h ∙ ap (λ ys. old ++ ys) (sym (next false (ne_eqb _ _ (λ e. p (shr_and_one odd r ∙ e))) ∙ append-nil _))
 
     -- there is room for its exchange
-    pub push_room : bit_and (odd / 2 ^ r) 1 ≡ 1 → length items + 1 ≤ length old + length (exchanges x columns a odd (numbers from to))
+    pub push_room : bit_and (odd / 2 ^ r) 1 ≡ 1
+        → length items + 1 ≤ length old + length (exchanges x columns a odd (numbers from to))
     push_room e =
         let y : List ℕ = swap x a (slice_index columns r) in
-        let i : length (items ++ (y ∷ [])) ≡ length (old ++ exchanges x columns a odd (take (r + 1 - from) (numbers from to))) = ap length (push_yes e) in
+        let i : length (items ++ (y ∷ []))
+        ≡ length (old ++ exchanges x columns a odd (take (r + 1 - from) (numbers from to))) = ap length (push_yes e) in
         let j : length (items ++ (y ∷ [])) ≡ length items + 1 = length-append items (y ∷ []) in
         let k = length-append old (exchanges x columns a odd (take (r + 1 - from) (numbers from to))) in
         let l = exchanges_le (numbers from to) (r + 1 - from) in
         omega arith
 
 -- all rows
-pub push_all : (x columns : List ℕ) (a odd from to r : ℕ) → to ≤ r → exchanges x columns a odd (take (r - from) (numbers from to)) ≡ exchanges x columns a odd (numbers from to)
-push_all x columns a odd from to r l = ap (exchanges x columns a odd) (take_all (r - from) (numbers from to) (let e = length-numbers from to in omega arith))
+pub push_all : (x columns : List ℕ) (a odd from to r : ℕ) → to ≤ r
+    → exchanges x columns a odd (take (r - from) (numbers from to)) ≡ exchanges x columns a odd (numbers from to)
+push_all x columns a odd from to r l =
+    ap (exchanges x columns a odd)
+    (take_all (r - from) (numbers from to) (let e = length-numbers from to in omega arith))
 
 -- ---- the exchanges of all circles
 
 module _ (f : ℕ → List (List ℕ)) (circles : List ℕ) (i : ℕ) (l : i < length circles) where
   flat_map_more : flat_map f (take (i + 1) circles) ≡ flat_map f (take i circles) ++ f (slice_index circles i)
-  flat_map_more = ap (flat_map f) (take_more circles i 0 l) ∙ flat_map-append f (take i circles) (slice_index circles i ∷ []) ∙ ap (λ ys. flat_map f (take i circles) ++ ys) (append-nil (f (slice_index circles i)))
+  flat_map_more = ap (flat_map f) (take_more circles i 0 l)
+      ∙ flat_map-append f (take i circles) (slice_index circles i ∷ [])
+      ∙ ap (λ ys. flat_map f (take i circles) ++ ys) (append-nil (f (slice_index circles i)))
 
   -- one circle more
-  pub circle_more : (old items : List (List ℕ)) (piece : List (List ℕ)) → items ≡ old ++ flat_map f (take i circles) → piece ≡ f (slice_index circles i) → items ++ piece ≡ old ++ flat_map f (take (i + 1) circles)
-  circle_more old items piece h e = ap₂ (λ ys zs. ys ++ zs) h e ∙ append_assoc old _ _ ∙ ap (λ ys. old ++ ys) (sym flat_map_more)
+  pub circle_more : (old items : List (List ℕ)) (piece : List (List ℕ)) → items ≡ old ++ flat_map f (take i circles)
+      → piece ≡ f (slice_index circles i) → items ++ piece ≡ old ++ flat_map f (take (i + 1) circles)
+  circle_more old items piece h e =
+      ap₂ (λ ys zs. ys ++ zs) h e ∙ append_assoc old _ _ ∙ ap (λ ys. old ++ ys) (sym flat_map_more)
 
   -- there is room for its exchanges
-  pub circle_room : (old items : List (List ℕ)) (piece : List (List ℕ)) → items ≡ old ++ flat_map f (take i circles) → piece ≡ f (slice_index circles i) → length items + length piece ≤ length old + length (flat_map f circles)
+  pub circle_room : (old items : List (List ℕ)) (piece : List (List ℕ)) → items ≡ old ++ flat_map f (take i circles)
+      → piece ≡ f (slice_index circles i) → length items + length piece ≤ length old + length (flat_map f circles)
   circle_room old items piece h e =
-      let j : length items ≡ length old + length (flat_map f (take i circles)) = ap length h ∙ length-append old (flat_map f (take i circles)) in
+      let j : length items ≡ length old + length (flat_map f (take i circles)) =
+      ap length h ∙ length-append old (flat_map f (take i circles)) in
       let k : length piece ≡ length (f (slice_index circles i)) = ap length e in
       let m = length-flat_map-take f circles i 0 l in
       omega arith
@@ -188,7 +237,8 @@ length-ascending n = length-tabulate n (λ c. c)
 pub slice_index-descending : (n a : ℕ) → 0 < a → a ≤ n → slice_index (reverse (ascending n)) (n - a) ≡ a - 1
 slice_index-descending n a some l =
     let e = length-ascending n in
-    get_or-reverse (ascending n) (n - a) 0 (omega arith) ∙ get_or-tabulate n (λ c. c) (length (ascending n) - 1 - (n - a)) 0 (omega arith) ∙ omega arith
+    get_or-reverse (ascending n) (n - a) 0 (omega arith)
+    ∙ get_or-tabulate n (λ c. c) (length (ascending n) - 1 - (n - a)) 0 (omega arith) ∙ omega arith
 
 -- there are n
 pub length-descending : (n : ℕ) → length (reverse (ascending n)) ≡ n

@@ -100,7 +100,10 @@ module _ (g : Marks) (s : IsGrid g) (x : List ℕ) (sx : IsBijection (size g) x)
   -- the rise of a circle that is not a is not 0
   rise_positive : (b : ℕ) → b < size g → b ≢ a → 0 < rise g x a (slice_index x b)
   rise_positive b lb p = elim (cases_eq (rise g x a (slice_index x b)) 0) [
-    | inl e ↦ absurd (sx.apart b a lb la p (offset_apart (size g) (slice_index x a) (slice_index x b) (slice_index x a) (sx.small a la) (sx.small b lb) (sx.small a la) (e ∙ sym (offset-same (size g) (slice_index x a) (sx.small a la)))))
+    | inl e ↦
+        absurd (sx.apart b a lb la p (offset_apart (size g) (slice_index x a) (slice_index x b) (slice_index x a)
+        (sx.small a la) (sx.small b lb) (sx.small a la)
+        (e ∙ sym (offset-same (size g) (slice_index x a) (sx.small a la)))))
     | inr q ↦ omega arith
   ]
 
@@ -108,24 +111,33 @@ module _ (g : Marks) (s : IsGrid g) (x : List ℕ) (sx : IsBijection (size g) x)
 
   module _ (b : ℕ) (lb : b < size g) where
     empty_test : ℕ → Bool
-    empty_test t = not (is_inside (size g) a b t && is_inside (size g) (slice_index x a) (slice_index x b) (slice_index x t))
+    empty_test t =
+        not (is_inside (size g) a b t && is_inside (size g) (slice_index x a) (slice_index x b) (slice_index x t))
 
     unmarked_test : ℕ → Bool
     unmarked_test t = not (in_range (size g) a b t
-        && (in_range (size g) (slice_index x a) (slice_index x b) (slice_index g.o t) || in_range (size g) (slice_index x a) (slice_index x b) (slice_index g.x t)))
+        && (in_range (size g) (slice_index x a) (slice_index x b) (slice_index g.o t)
+        || in_range (size g) (slice_index x a) (slice_index x b) (slice_index g.x t)))
 
-    opened : is_open g x a b ≡ true → (a ≢ b) × (all_below (size g) empty_test ≡ true) × (all_below (size g) unmarked_test ≡ true)
+    opened : is_open g x a b ≡ true
+        → (a ≢ b) × (all_below (size g) empty_test ≡ true) × (all_below (size g) unmarked_test ≡ true)
     unfolding is_open empty_test unmarked_test
     opened h =
         let first = and_parts (not (eqb a b)) (is_empty x (leaving x a b) && is_unmarked g (leaving x a b)) h in
-        let rest = and_parts (is_empty x (leaving x a b)) (is_unmarked g (leaving x a b)) first.1 in
-        (eqb-false a b (not-true (eqb a b) first.0), subst (λ m. all_below m (λ t. not (is_inside m a b t && is_inside m (slice_index x a) (slice_index x b) (slice_index x t))) ≡ true) sx.long rest.0, rest.1)
+        let rest = and_parts (is_empty x (leaving x a b)) (is_unmarked g (leaving x a b)) first.1 in (
+          eqb-false a b (not-true (eqb a b) first.0),
+          subst (λ m. all_below m (λ t. not (is_inside m a b t
+              && is_inside m (slice_index x a) (slice_index x b) (slice_index x t))) ≡ true) sx.long rest.0,
+          rest.1,
+        )
 
-    closed : a ≢ b → all_below (size g) empty_test ≡ true → all_below (size g) unmarked_test ≡ true → is_open g x a b ≡ true
+    closed : a ≢ b → all_below (size g) empty_test ≡ true → all_below (size g) unmarked_test ≡ true
+        → is_open g x a b ≡ true
     unfolding is_open empty_test unmarked_test
     closed p e u =
         and_from _ _ (ap not (ne_eqb a b p))
-        (and_from _ _ (subst (λ m. all_below m (λ t. not (is_inside m a b t && is_inside m (slice_index x a) (slice_index x b) (slice_index x t))) ≡ true) (sym sx.long) e) u)
+        (and_from _ _ (subst (λ m. all_below m (λ t. not (is_inside m a b t
+        && is_inside m (slice_index x a) (slice_index x b) (slice_index x t))) ≡ true) (sym sx.long) e) u)
 
     not_both : (u v : Bool) → not (u && v) ≡ true → u ≡ true → v ≡ false
     not_both true true h e = absurd (true≢false (sym h))
@@ -133,16 +145,20 @@ module _ (g : Marks) (s : IsGrid g) (x : List ℕ) (sx : IsBijection (size g) x)
     not_both false v h e = absurd (true≢false (sym e))
 
     -- an open rectangle is clear of all marks and points of its columns
-    pub clear_from_open : is_open g x a b ≡ true → IsClear g x a (offset (size g) a b) (offset (size g) a b) (rise g x a (slice_index x b))
+    pub clear_from_open : is_open g x a b ≡ true
+        → IsClear g x a (offset (size g) a b) (offset (size g) a b) (rise g x a (slice_index x b))
     unfolding empty_test unmarked_test
     clear_from_open h =
         let o = opened h in
         let n = size g in
         let near : (t : ℕ) → t < offset n a b → t < n = λ t l. let f = offset_less n a b la lb in omega arith in
-        let column : (t : ℕ) → t < offset n a b → in_range n a b (turned n a t) ≡ true = λ t l. let e = offset-turned n a t la (near t l) in lt-ltb _ _ (omega arith) in
+        let column : (t : ℕ) → t < offset n a b → in_range n a b (turned n a t) ≡ true =
+        λ t l. let e = offset-turned n a t la (near t l) in lt-ltb _ _ (omega arith) in
         let marks : (t : ℕ) → t < offset n a b
-        → (in_range n (slice_index x a) (slice_index x b) (slice_index g.o (turned n a t)) || in_range n (slice_index x a) (slice_index x b) (slice_index g.x (turned n a t))) ≡ false =
-        λ t l. not_both _ _ (at_all_below n unmarked_test o.2 (turned n a t) (turned_below n a t la (near t l))) (column t l)
+        → (in_range n (slice_index x a) (slice_index x b) (slice_index g.o (turned n a t))
+        || in_range n (slice_index x a) (slice_index x b) (slice_index g.x (turned n a t))) ≡ false =
+        λ t l. not_both _ _ (at_all_below n unmarked_test o.2 (turned n a t) (turned_below n a t la (near t l)))
+        (column t l)
         in
         record {
           below_o = λ t l. ltb-false _ _ (or_parts _ _ (marks t l)).0;
@@ -151,17 +167,23 @@ module _ (g : Marks) (s : IsGrid g) (x : List ℕ) (sx : IsBijection (size g) x)
               let c : ℕ = turned n a t in
               let lc = turned_below n a t la (near t l) in
               let e = offset-turned n a t la (near t l) in
-              let other : c ≢ a = λ i. let k : offset n a c ≡ 0 = ap (offset n a) i ∙ offset-same n a la in omega arith in
+              let other : c ≢ a =
+              λ i. let k : offset n a c ≡ 0 = ap (offset n a) i ∙ offset-same n a la in omega arith in
               let inside : is_inside n a b c ≡ true = and_from _ _ (column t l) (ap not (ne_eqb c a other)) in
-              let row : is_inside n (slice_index x a) (slice_index x b) (slice_index x c) ≡ false = not_both _ _ (at_all_below n empty_test o.1 c lc) inside in
+              let row : is_inside n (slice_index x a) (slice_index x b) (slice_index x c) ≡ false =
+              not_both _ _ (at_all_below n empty_test o.1 c lc) inside in
               elim (and_cases _ _ row) [
                 | inl f ↦ ltb-false _ _ f
-                | inr f ↦ absurd (true≢false (sym (ap not (ne_eqb (slice_index x c) (slice_index x a) (sx.apart c a lc la other))) ∙ f))
+                | inr f ↦
+                    absurd (true≢false (sym (ap not (ne_eqb (slice_index x c) (slice_index x a)
+                    (sx.apart c a lc la other))) ∙ f))
               ];
         }
 
     -- a rectangle that is clear of them is open
-    pub open_from_clear : b ≢ a → IsClear g x a (offset (size g) a b) (offset (size g) a b) (rise g x a (slice_index x b)) → is_open g x a b ≡ true
+    pub open_from_clear : b ≢ a
+        → IsClear g x a (offset (size g) a b) (offset (size g) a b) (rise g x a (slice_index x b))
+        → is_open g x a b ≡ true
     unfolding empty_test unmarked_test
     open_from_clear p h =
         let n = size g in
@@ -171,15 +193,21 @@ module _ (g : Marks) (s : IsGrid g) (x : List ℕ) (sx : IsBijection (size g) x)
             | inl e ↦ ap not (and_left _ _ (ap₂ (λ u v. u && not v) (lt-ltb _ _ f) (eq-eqb t a e)))
             | inr q ↦
                 let z : 0 < offset n a t = positive t l q in
-                let up : rise g x a (slice_index x b) ≤ rise g x a (slice_index x t) = subst (λ c. rise g x a (slice_index x b) ≤ rise g x a (slice_index x c)) (turned-offset n a t la l) (h.below_points (offset n a t) z f) in
+                let up : rise g x a (slice_index x b) ≤ rise g x a (slice_index x t) =
+                subst (λ c. rise g x a (slice_index x b) ≤ rise g x a (slice_index x c)) (turned-offset n a t la l)
+                (h.below_points (offset n a t) z f) in
                 ap not (and_right _ _ (and_left _ _ (le-ltb _ _ up)))
           ]
           | inr f ↦ ap not (and_left _ _ (and_left _ _ (le-ltb _ _ f)))
         ]))
         (all_below-true n unmarked_test (λ t l. elim (cases_lt (offset n a t) (offset n a b)) [
           | inl f ↦
-              let up_o : rise g x a (slice_index x b) ≤ rise g x a (slice_index g.o t) = subst (λ c. rise g x a (slice_index x b) ≤ rise g x a (slice_index g.o c)) (turned-offset n a t la l) (h.below_o (offset n a t) f) in
-              let up_x : rise g x a (slice_index x b) ≤ rise g x a (slice_index g.x t) = subst (λ c. rise g x a (slice_index x b) ≤ rise g x a (slice_index g.x c)) (turned-offset n a t la l) (h.below_x (offset n a t) f) in
+              let up_o : rise g x a (slice_index x b) ≤ rise g x a (slice_index g.o t) =
+              subst (λ c. rise g x a (slice_index x b) ≤ rise g x a (slice_index g.o c)) (turned-offset n a t la l)
+              (h.below_o (offset n a t) f) in
+              let up_x : rise g x a (slice_index x b) ≤ rise g x a (slice_index g.x t) =
+              subst (λ c. rise g x a (slice_index x b) ≤ rise g x a (slice_index g.x c)) (turned-offset n a t la l)
+              (h.below_x (offset n a t) f) in
               ap not (and_right _ _ (or_from _ _ (le-ltb _ _ up_o) (le-ltb _ _ up_x)))
           | inr f ↦ ap not (and_left _ _ (le-ltb _ _ f))
         ]))
@@ -209,10 +237,16 @@ module _ (g : Marks) (s : IsGrid g) (x : List ℕ) (sx : IsBijection (size g) x)
   pub swept_none : IsSwept g x a 0 1 (size g - 1) 0
   swept_none = record {
     limit_less = omega arith;
-    clear = λ d l m. record { below_o = λ t k. absurd (omega arith); below_x = λ t k. absurd (omega arith); below_points = λ t z k. absurd (omega arith) };
+    clear = λ d l m. record {
+      below_o = λ t k. absurd (omega arith);
+      below_x = λ t k. absurd (omega arith);
+      below_points = λ t z k. absurd (omega arith);
+    };
     most = λ d l m. omega arith;
     bits = λ b l. bit_at-zero b ∙ elim (cases_lt (offset (size g) a b) 1) [
-      | inl k ↦ sym (bit_no 1 b (open-same b (offset_apart (size g) a b a la l la (let e = offset-same (size g) a la in omega arith))))
+      | inl k ↦
+          sym (bit_no 1 b (open-same b (offset_apart (size g) a b a la l la
+          (let e = offset-same (size g) a la in omega arith))))
       | inr k ↦ sym (bit_far 1 b k)
     ];
   }
@@ -230,24 +264,31 @@ module _ (g : Marks) (s : IsGrid g) (x : List ℕ) (sx : IsBijection (size g) x)
             let before = h.clear d l (omega arith) in
             record {
               below_o = λ t b. elim (cases_eq t m) [
-                | inl e ↦ subst (λ i. d ≤ rise g x a (slice_index g.o i)) (at ∙ ap (turned (size g) a) (sym e)) (omega arith)
+                | inl e ↦
+                    subst (λ i. d ≤ rise g x a (slice_index g.o i)) (at ∙ ap (turned (size g) a) (sym e))
+                    (omega arith)
                 | inr p ↦ before.below_o t (omega arith)
               ];
               below_x = λ t b. elim (cases_eq t m) [
-                | inl e ↦ subst (λ i. d ≤ rise g x a (slice_index g.x i)) (at ∙ ap (turned (size g) a) (sym e)) (omega arith)
+                | inl e ↦
+                    subst (λ i. d ≤ rise g x a (slice_index g.x i)) (at ∙ ap (turned (size g) a) (sym e))
+                    (omega arith)
                 | inr p ↦ before.below_x t (omega arith)
               ];
               below_points = before.below_points;
             };
         most = λ d l clear.
             let before = h.most d l (fewer m w d (suc m) w (omega arith) (omega arith) clear) in
-            let here = most d (subst (λ i. d ≤ rise g x a (slice_index g.o i)) (sym at) (clear.below_o m (omega arith))) (subst (λ i. d ≤ rise g x a (slice_index g.x i)) (sym at) (clear.below_x m (omega arith))) in
+            let here =
+            most d (subst (λ i. d ≤ rise g x a (slice_index g.o i)) (sym at) (clear.below_o m (omega arith)))
+            (subst (λ i. d ≤ rise g x a (slice_index g.x i)) (sym at) (clear.below_x m (omega arith))) in
             omega arith;
         bits = h.bits;
       }
 
   -- the circle c, the w-th right of a, is looked at
-  module _ (w limit rights : ℕ) (h : IsSwept g x a w w limit rights) (some : 0 < w) (near : w < size g) (c : ℕ) (at : c ≡ turned (size g) a w) where
+  module _ (w limit rights : ℕ) (h : IsSwept g x a w w limit rights) (some : 0 < w) (near : w < size g) (c : ℕ)
+      (at : c ≡ turned (size g) a w) where
     looked_below : c < size g
     looked_below = let b = turned_below (size g) a w la near in omega arith
 
@@ -255,7 +296,8 @@ module _ (g : Marks) (s : IsGrid g) (x : List ℕ) (sx : IsBijection (size g) x)
     looked_offset = ap (offset (size g) a) at ∙ offset-turned (size g) a w la near
 
     looked_apart : c ≢ a
-    looked_apart e = let o = looked_offset in let z : offset (size g) a c ≡ 0 = ap (offset (size g) a) e ∙ offset-same (size g) a la in omega arith
+    looked_apart e = let o = looked_offset in
+        let z : offset (size g) a c ≡ 0 = ap (offset (size g) a) e ∙ offset-same (size g) a la in omega arith
 
     looked_less : rise g x a (slice_index x c) < size g
     looked_less = offset_less (size g) (slice_index x a) (slice_index x c) (sx.small a la) (sx.small c looked_below)
@@ -263,11 +305,14 @@ module _ (g : Marks) (s : IsGrid g) (x : List ℕ) (sx : IsBijection (size g) x)
     looked_open : rise g x a (slice_index x c) ≤ limit → is_open g x a c ≡ true
     looked_open low =
         open_from_clear c looked_below looked_apart
-        (subst (λ k. IsClear g x a k k (rise g x a (slice_index x c))) (sym looked_offset) (h.clear (rise g x a (slice_index x c)) looked_less low))
+        (subst (λ k. IsClear g x a k k (rise g x a (slice_index x c))) (sym looked_offset)
+        (h.clear (rise g x a (slice_index x c)) looked_less low))
 
     looked_closed : limit < rise g x a (slice_index x c) → is_open g x a c ≡ false
     looked_closed high = false_from_ne_true _ (λ e.
-        let clear : IsClear g x a w w (rise g x a (slice_index x c)) = subst (λ k. IsClear g x a k k (rise g x a (slice_index x c))) looked_offset (clear_from_open c looked_below e) in
+        let clear : IsClear g x a w w (rise g x a (slice_index x c)) =
+        subst (λ k. IsClear g x a k k (rise g x a (slice_index x c))) looked_offset
+        (clear_from_open c looked_below e) in
         let low = h.most (rise g x a (slice_index x c)) looked_less clear in absurd (omega arith))
 
     -- the bits of the other circles stay
@@ -275,7 +320,8 @@ module _ (g : Marks) (s : IsGrid g) (x : List ℕ) (sx : IsBijection (size g) x)
     looked_other b l p = elim (cases_lt (offset (size g) a b) w) [
       | inl k ↦ bit_near w b k ∙ sym (bit_near (suc w) b (omega arith))
       | inr k ↦
-          let q : offset (size g) a b ≢ w = λ e. p (offset_apart (size g) a b c la l looked_below (e ∙ sym looked_offset)) in
+          let q : offset (size g) a b ≢ w =
+          λ e. p (offset_apart (size g) a b c la l looked_below (e ∙ sym looked_offset)) in
           bit_far w b k ∙ sym (bit_far (suc w) b (omega arith))
     ]
 
@@ -290,15 +336,18 @@ module _ (g : Marks) (s : IsGrid g) (x : List ℕ) (sx : IsBijection (size g) x)
     }
 
     -- it is open, and the limit comes down to its point
-    pub swept_open : c < 16 → rise g x a (slice_index x c) ≤ limit → IsSwept g x a w (suc w) (rise g x a (slice_index x c)) (bit_or rights (1 * 2 ^ c % 2 ^ 16))
+    pub swept_open : c < 16 → rise g x a (slice_index x c) ≤ limit
+        → IsSwept g x a w (suc w) (rise g x a (slice_index x c)) (bit_or rights (1 * 2 ^ c % 2 ^ 16))
     swept_open small low = record {
       limit_less = looked_less;
       clear = λ d l up. looked_clear d up (h.clear d l (omega arith));
-      most = λ d l clear. subst (λ i. d ≤ rise g x a (slice_index x i)) (sym at) (clear.below_points w some (omega arith));
+      most = λ d l clear. subst (λ i. d ≤ rise g x a (slice_index x i)) (sym at)
+          (clear.below_points w some (omega arith));
       bits = λ b l. elim (cases_eq b c) [
         | inl e ↦
             ap (bit_at (bit_or rights (1 * 2 ^ c % 2 ^ 16))) e ∙ bit_at_set_same w16 rights c small
-            ∙ sym (ap (swept_bit g x a (suc w)) e ∙ bit_near (suc w) c (let o = looked_offset in omega arith) ∙ ap (λ t. cond t 1 0) (looked_open low))
+            ∙ sym (ap (swept_bit g x a (suc w)) e ∙ bit_near (suc w) c (let o = looked_offset in omega arith)
+            ∙ ap (λ t. cond t 1 0) (looked_open low))
         | inr p ↦ bit_at_set_other w16 rights c small b p ∙ h.bits b l ∙ looked_other b l p
       ];
     }
@@ -310,24 +359,33 @@ module _ (g : Marks) (s : IsGrid g) (x : List ℕ) (sx : IsBijection (size g) x)
       clear = λ d l low. looked_clear d (omega arith) (h.clear d l low);
       most = λ d l clear. h.most d l (fewer w w d w (suc w) (omega arith) (omega arith) clear);
       bits = λ b l. h.bits b l ∙ elim (cases_eq b c) [
-        | inl e ↦ ap (swept_bit g x a w) e ∙ bit_no w c (looked_closed high) ∙ sym (ap (swept_bit g x a (suc w)) e ∙ bit_no (suc w) c (looked_closed high))
+        | inl e ↦
+            ap (swept_bit g x a w) e ∙ bit_no w c (looked_closed high)
+            ∙ sym (ap (swept_bit g x a (suc w)) e ∙ bit_no (suc w) c (looked_closed high))
         | inr p ↦ looked_other b l p
       ];
     }
 
   -- all circles are looked at
-  pub swept_all : (m w limit rights : ℕ) → IsSwept g x a m w limit rights → size g ≤ w → (b : ℕ) → b < size g → bit_at rights b ≡ cond (is_open g x a b) 1 0
-  swept_all m w limit rights h all b l = h.bits b l ∙ bit_near w b (let k = offset_less (size g) a b la l in omega arith)
+  pub swept_all : (m w limit rights : ℕ) → IsSwept g x a m w limit rights → size g ≤ w → (b : ℕ) → b < size g
+      → bit_at rights b ≡ cond (is_open g x a b) 1 0
+  swept_all m w limit rights h all b l =
+      h.bits b l ∙ bit_near w b (let k = offset_less (size g) a b la l in omega arith)
 
   -- nothing is open further on, once a mark is as low as the point on a
-  pub swept_stop : (w limit rights : ℕ) → IsSwept g x a w w limit rights → 0 < w → limit ≡ 0 → (b : ℕ) → b < size g → bit_at rights b ≡ cond (is_open g x a b) 1 0
+  pub swept_stop : (w limit rights : ℕ) → IsSwept g x a w w limit rights → 0 < w → limit ≡ 0 → (b : ℕ) → b < size g
+      → bit_at rights b ≡ cond (is_open g x a b) 1 0
   swept_stop w limit rights h some none b l = h.bits b l ∙ elim (cases_lt (offset (size g) a b) w) [
     | inl k ↦ bit_near w b k
     | inr k ↦
         let shut : is_open g x a b ≡ false = false_from_ne_true _ (λ e.
         let p : b ≢ a = λ i. true≢false (sym e ∙ open-same b i) in
-        let clear = fewer w w (rise g x a (slice_index x b)) (offset (size g) a b) (offset (size g) a b) k k (clear_from_open b l e) in
-        let low = h.most (rise g x a (slice_index x b)) (offset_less (size g) (slice_index x a) (slice_index x b) (sx.small a la) (sx.small b l)) clear in
+        let clear =
+        fewer w w (rise g x a (slice_index x b)) (offset (size g) a b) (offset (size g) a b) k k
+        (clear_from_open b l e) in
+        let low =
+        h.most (rise g x a (slice_index x b))
+        (offset_less (size g) (slice_index x a) (slice_index x b) (sx.small a la) (sx.small b l)) clear in
         let z = rise_positive b l p in absurd (omega arith)) in
         bit_no w b shut ∙ sym (ap (λ t. cond t 1 0) shut)
   ]

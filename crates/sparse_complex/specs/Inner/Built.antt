@@ -29,4 +29,5 @@ pub record AreKeys (keys : List ℕ) (cells : List Cell) : Type 0 where
 pub record AreLinksBelow (D : Complex ℤ) (cells : List Cell) (k : ℕ) (links : Links) : Type 0 where
   pub listed : AreListed links
   pub whole : width links ≡ length cells
-  pub arrows : (p q : ℕ) → has_arrow links p q ≡ ((nat_lt p k && nat_lt q (length cells)) && arrow D (code_at cells p) (code_at cells q))
+  pub arrows : (p q : ℕ)
+      → has_arrow links p q ≡ ((nat_lt p k && nat_lt q (length cells)) && arrow D (code_at cells p) (code_at cells q))

@@ -55,7 +55,8 @@ has_arrow l s t = among t (targets l s)
 
 -- the node is an arrow from s to t
 abbrev pub IsArrow : Links → ℕ → ℕ → ℕ → Type 0
-IsArrow l s t i = (is_node l.pool.nodes i ≡ true) × ((node_at l.pool.nodes i).from ≡ s) × ((node_at l.pool.nodes i).to ≡ t)
+IsArrow l s t i =
+    (is_node l.pool.nodes i ≡ true) × ((node_at l.pool.nodes i).from ≡ s) × ((node_at l.pool.nodes i).to ≡ t)
 
 -- the code of a key
 abbrev pub no_cell : Cell
@@ -86,7 +87,8 @@ pub record IsUnlinked (id : ℕ) (old new : Links) : Type 0 where
 abbrev pub KeepsEnds : Links → Links → Type 0
 KeepsEnds old new =
     (i : ℕ) → is_node old.pool.nodes i ≡ true → is_node new.pool.nodes i ≡ true
-    → ((node_at new.pool.nodes i).from ≡ (node_at old.pool.nodes i).from) × ((node_at new.pool.nodes i).to ≡ (node_at old.pool.nodes i).to)
+    → ((node_at new.pool.nodes i).from ≡ (node_at old.pool.nodes i).from)
+    × ((node_at new.pool.nodes i).to ≡ (node_at old.pool.nodes i).to)
 
 pub record IsToggled (p q : ℕ) (old new : Links) : Type 0 where
   pub listed : AreListed new
@@ -117,7 +119,9 @@ pub record IsToggledFrom (p x y : ℕ) (old new : Links) : Type 0 where
 pub record IsFilled (x y : ℕ) (old new : Links) : Type 0 where
   pub listed : AreListed new
   pub width : width new ≡ width old
-  pub arrows : (s t : ℕ) → has_arrow new s t ≡ (has_arrow old s t ⊻ ((has_arrow old s y && not (eqb s x)) && (has_arrow old x t && not (eqb t y))))
+  pub arrows : (s t : ℕ)
+      → has_arrow new s t
+      ≡ (has_arrow old s t ⊻ ((has_arrow old s y && not (eqb s x)) && (has_arrow old x t && not (eqb t y))))
 
 -- the arrows out of k, or into k, are gone
 pub record IsCleared (gone : ℕ → ℕ → Bool) (old new : Links) : Type 0 where

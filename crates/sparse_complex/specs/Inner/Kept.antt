@@ -8,7 +8,7 @@
 --     IsLiveKey keys cells k            the code of the key k has the key k
 --     ListsLive keys cells k live       `live` has the cells before the place k whose codes have their
 --                                       places as keys, each code once
---     IsStored keys cells links         live codes have keys that lead back to them, and only such keys
+--     IsKeptByKey keys cells links      live codes have keys that lead back to them, and only such keys
 --                                       have arrows
 --     IsFirst links cursor              no key before the cursor has an arrow out, and that at the cursor
 --                                       has one, unless the cursor is past the last key
@@ -45,7 +45,9 @@ entry_of keys cells links c = (c, (maslov_at cells (key_of keys c), target_codes
 -- the live codes below n
 abbrev pub entries_below : List ℕ → List Cell → Links → ℕ → List (ℕ × (ℤ × Chain))
 entries_below keys cells links zero = []
-entries_below keys cells links (suc n) = cond (is_live keys n) (entry_of keys cells links n ∷ entries_below keys cells links n) (entries_below keys cells links n)
+entries_below keys cells links (suc n) =
+    cond (is_live keys n) (entry_of keys cells links n ∷ entries_below keys cells links n)
+    (entries_below keys cells links n)
 
 unfoldable pub slice_of : List ℕ → List Cell → Links → Slice
 slice_of keys cells links = fin.from_entries (entries_below keys cells links (length keys))
@@ -59,7 +61,7 @@ pub record ListsLive (keys : List ℕ) (cells : List Cell) (k : ℕ) (live : Lis
   pub once : AllPairs (λ b c. b.code ≢ c.code) live
 
 -- all but the rules
-pub record IsStored (keys : List ℕ) (cells : List Cell) (links : Links) : Type 0 where
+pub record IsKeptByKey (keys : List ℕ) (cells : List Cell) (links : Links) : Type 0 where
   pub listed : AreListed links
   pub small : width links ≤ no_key
   pub whole : length cells ≡ width links
@@ -73,6 +75,6 @@ pub record IsFirst (links : Links) (cursor : ℕ) : Type 0 where
   pub some_here : cursor < width links → eqb (head_at links.heads.items cursor).first_out no_id ≡ false
 
 pub record IsKept (keys : List ℕ) (cells : List Cell) (links : Links) (cursor : ℕ) : Type 0 where
-  pub stored : IsStored keys cells links
+  pub by_key : IsKeptByKey keys cells links
   pub first : IsFirst links cursor
   pub rules : IsSlice (slice_of keys cells links)

@@ -87,7 +87,8 @@ abbrev pub IsList : (ℕ → ℕ) → (ℕ → ℕ) → ℕ → ℕ → List ℕ
 IsList next prev p h [] = h ≡ no_id
 IsList next prev p h (i ∷ is) = (h ≡ i) × (prev i ≡ p) × IsList next prev i (next i) is
 
-pub record AreLists (live : ℕ → Bool) (key next prev : ℕ → ℕ) (width : ℕ) (head : ℕ → ℕ) (lists : ℕ → List ℕ) : Type 0 where
+pub record AreLists (live : ℕ → Bool) (key next prev : ℕ → ℕ) (width : ℕ) (head : ℕ → ℕ)
+    (lists : ℕ → List ℕ) : Type 0 where
   pub bounded : (i : ℕ) → live i ≡ true → key i < width
   pub members : (k i : ℕ) → among i (lists k) ≡ (live i && eqb (key i) k)
   pub distinct : (k : ℕ) → AreDistinct (lists k)
@@ -95,11 +96,14 @@ pub record AreLists (live : ℕ → Bool) (key next prev : ℕ → ℕ) (width :
 
 pub record AreInLists (nodes : Nodes) (heads : List Head) : Type 0 where
   pub ids : (i : ℕ) → is_node nodes i ≡ true → eqb i no_id ≡ false
-  pub out_lists : AreLists (is_node nodes) (λ i. (node_at nodes i).from) (λ i. (node_at nodes i).next_out) (λ i. (node_at nodes i).prev_out) (length heads)
+  pub out_lists : AreLists (is_node nodes) (λ i. (node_at nodes i).from) (λ i. (node_at nodes i).next_out)
+      (λ i. (node_at nodes i).prev_out) (length heads)
       (λ k. (head_at heads k).first_out) (outs nodes heads)
-  pub in_lists : AreLists (is_node nodes) (λ i. (node_at nodes i).to) (λ i. (node_at nodes i).next_in) (λ i. (node_at nodes i).prev_in) (length heads)
+  pub in_lists : AreLists (is_node nodes) (λ i. (node_at nodes i).to) (λ i. (node_at nodes i).next_in)
+      (λ i. (node_at nodes i).prev_in) (length heads)
       (λ k. (head_at heads k).first_in) (ins nodes heads)
-  pub simple : (i j : ℕ) → is_node nodes i ≡ true → is_node nodes j ≡ true → (node_at nodes i).from ≡ (node_at nodes j).from → (node_at nodes i).to ≡ (node_at nodes j).to → i ≡ j
+  pub simple : (i j : ℕ) → is_node nodes i ≡ true → is_node nodes j ≡ true
+      → (node_at nodes i).from ≡ (node_at nodes j).from → (node_at nodes i).to ≡ (node_at nodes j).to → i ≡ j
 
 -- ---- what the writes do
 -- at no id nothing is written
@@ -129,7 +133,9 @@ with_first_in heads at k v = cond (eqb at no_id) (slice_set heads k (record (hea
 unfoldable pub unlinked_nodes : Nodes → ℕ → Nodes
 unlinked_nodes nodes id =
     let n = node_at nodes id in
-    fin.remove (with_prev_in (with_next_in (with_prev_out (with_next_out nodes n.prev_out n.next_out) n.next_out n.prev_out) n.prev_in n.next_in) n.next_in n.prev_in) id
+    fin.remove (with_prev_in (with_next_in (with_prev_out
+    (with_next_out nodes n.prev_out n.next_out) n.next_out n.prev_out) n.prev_in n.next_in) n.next_in n.prev_in)
+    id
 
 unfoldable pub unlinked_heads : Nodes → List Head → ℕ → List Head
 unlinked_heads nodes heads id =
@@ -138,11 +144,20 @@ unlinked_heads nodes heads id =
 
 -- the node of an arrow that is put in before all others
 abbrev pub new_node : List Head → ℕ → ℕ → Node
-new_node heads p q = record { from = p; to = q; next_out = (head_at heads p).first_out; prev_out = no_id; next_in = (head_at heads q).first_in; prev_in = no_id }
+new_node heads p q =
+    record {
+      from = p;
+      to = q;
+      next_out = (head_at heads p).first_out;
+      prev_out = no_id;
+      next_in = (head_at heads q).first_in;
+      prev_in = no_id;
+    }
 
 unfoldable pub linked_nodes : Nodes → List Head → ℕ → ℕ → ℕ → Nodes
 linked_nodes nodes heads id p q =
-    with_prev_in (with_prev_out (fin.insert nodes id (new_node heads p q)) (head_at heads p).first_out id) (head_at heads q).first_in id
+    with_prev_in (with_prev_out (fin.insert nodes id (new_node heads p q)) (head_at heads p).first_out id)
+    (head_at heads q).first_in id
 
 unfoldable pub linked_heads : List Head → ℕ → ℕ → ℕ → List Head
 linked_heads heads id p q = with_first_in (with_first_out heads no_id p id) no_id q id

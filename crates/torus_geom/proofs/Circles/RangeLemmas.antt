@@ -6,7 +6,8 @@ use Rattle.torus_geom.specs.Range.{offset, in_range}
 
 -- a circle at or above a: the plain difference
 pub offset-above : (n a i : ℕ) → a ≤ i → i < n → offset n a i ≡ i - a
-offset-above n a i h l = let e : i + (n - a) ≡ (i - a) + n = omega arith in ap (λ k. k % n) e ∙ add-mod_right (i - a) n ∙ mod-eq_of_lt (omega arith)
+offset-above n a i h l = let e : i + (n - a) ≡ (i - a) + n = omega arith in
+    ap (λ k. k % n) e ∙ add-mod_right (i - a) n ∙ mod-eq_of_lt (omega arith)
 
 -- a circle below a: past the seam
 pub offset-below : (n a i : ℕ) → i < a → a < n → offset n a i ≡ i + (n - a)

@@ -23,7 +23,8 @@ use Rattle.torus_geom.proofs.Circles.TurnLemmas.{one_down-first, one_down-above}
 -- the pairs are of different numbers below n
 pub member_of_pairs_apart : (n : ℕ) (c : ℕ × ℕ) → Contains (pairs_apart n) c → (c.0 < n) × (c.1 < n) × (c.0 ≢ c.1)
 member_of_pairs_apart n c h =
-    let (a, in_first, in_pairs) = member_of_flat_map (λ a. map (λ b. (a, b)) (filter (λ b. not (eqb a b)) (ascending n))) (ascending n) c h in
+    let (a, in_first, in_pairs) =
+    member_of_flat_map (λ a. map (λ b. (a, b)) (filter (λ b. not (eqb a b)) (ascending n))) (ascending n) c h in
     let (b, in_filter, is) = member_of_map (λ b. (a, b)) (filter (λ b. not (eqb a b)) (ascending n)) c in_pairs in
     let (in_second, differ) = member_of_filter (λ b. not (eqb a b)) (ascending n) b in_filter in
     let P : ℕ × ℕ → Type 0 = λ d. (d.0 < n) × (d.1 < n) × (d.0 ≢ d.1) in
@@ -36,11 +37,19 @@ member_of_pairs_apart n c h =
 pub member_of_rectangles : (n : ℕ) (r : Rect) → Contains (rectangles n) r → IsProper n r
 member_of_rectangles n r h =
     let rectangle : ℕ × ℕ → ℕ × ℕ → Rect = λ c r. record { left = c.0; right = c.1; low = r.0; high = r.1 } in
-    let (c, in_columns, in_rows) = member_of_flat_map (λ (c : ℕ × ℕ). map (rectangle c) (pairs_apart n)) (pairs_apart n) r h in
+    let (c, in_columns, in_rows) =
+    member_of_flat_map (λ (c : ℕ × ℕ). map (rectangle c) (pairs_apart n)) (pairs_apart n) r h in
     let (d, in_pairs, is) = member_of_map (rectangle c) (pairs_apart n) r in_rows in
     let columns = member_of_pairs_apart n c in_columns in
     let rows = member_of_pairs_apart n d in_pairs in
-    subst (IsProper n) is (record { left_below = columns.0; right_below = columns.1; low_below = rows.0; high_below = rows.1; columns = columns.2; rows = rows.2 })
+    subst (IsProper n) is (record {
+      left_below = columns.0;
+      right_below = columns.1;
+      low_below = rows.0;
+      high_below = rows.1;
+      columns = columns.2;
+      rows = rows.2;
+    })
 
 -- ---- circles of a range
 
@@ -72,14 +81,18 @@ in_range-one_down n a b la lb p = elim (cases_eq b 0) [
 
     above : (m c : ℕ) → 0 < c → c < m → one_down m c ≡ c - 1
     above zero c l k = absurd (omega arith)
-    above (suc m) c l k = let e : c ≡ (c - 1) + 1 = omega arith in ap (one_down (suc m)) e ∙ one_down-above m (c - 1) (omega arith)
+    above (suc m) c l k = let e : c ≡ (c - 1) + 1 = omega arith in
+        ap (one_down (suc m)) e ∙ one_down-above m (c - 1) (omega arith)
 
 -- ---- steps
 
 -- an unmarked rectangle has no X at a column and a row of its own
-pub no_x_inside : (g : Marks) (r : Rect) (c : ℕ) → is_unmarked g r ≡ true → c < size g → in_range (size g) r.left r.right c ≡ true → in_range (size g) r.low r.high (slice_index g.x c) ≡ true → ⊥
+pub no_x_inside : (g : Marks) (r : Rect) (c : ℕ) → is_unmarked g r ≡ true → c < size g
+    → in_range (size g) r.left r.right c ≡ true → in_range (size g) r.low r.high (slice_index g.x c) ≡ true → ⊥
 no_x_inside g r c unmarked l column row =
-    none _ _ _ (at_all_below (size g) (λ c. not (in_range (size g) r.left r.right c && (in_range (size g) r.low r.high (slice_index g.o c) || in_range (size g) r.low r.high (slice_index g.x c)))) unmarked c l) column row
+    none _ _ _ (at_all_below (size g) (λ c. not (in_range (size g) r.left r.right c
+    && (in_range (size g) r.low r.high (slice_index g.o c)
+    || in_range (size g) r.low r.high (slice_index g.x c)))) unmarked c l) column row
   where
     none : (u v w : Bool) → not (u && (v || w)) ≡ true → u ≡ true → w ≡ true → ⊥
     none true true w h i j = false≢true h
@@ -90,12 +103,17 @@ no_x_inside g r c unmarked l column row =
 -- a list of which nothing passes
 filter_none : {A : Type 0} (p : A → Bool) (xs : List A) → ((a : A) → Contains xs a → p a ≡ false) → filter p xs ≡ []
 filter_none p [] h = refl
-filter_none p (x ∷ xs) h = ap (λ b. cond b (x ∷ filter p xs) (filter p xs)) (h x (member_head x xs)) ∙ filter_none p xs (λ a m. h a (member_tail x xs a m))
+filter_none p (x ∷ xs) h = ap (λ b. cond b (x ∷ filter p xs) (filter p xs)) (h x (member_head x xs))
+    ∙ filter_none p xs (λ a m. h a (member_tail x xs a m))
 
 -- a state that no step leaves has an empty border
-pub border_of_state-no_step : (g : Marks) (x : List ℕ) → ((y : List ℕ) (r : Rect) → IsProper (size g) r → is_step g x y r ≡ true → ⊥) → border_of_state g x ≡ nothing
+pub border_of_state-no_step : (g : Marks) (x : List ℕ)
+    → ((y : List ℕ) (r : Rect) → IsProper (size g) r → is_step g x y r ≡ true → ⊥) → border_of_state g x ≡ nothing
 unfolding border_of_state
-border_of_state-no_step g x none = ap (λ ys. of_codes (map rank ys)) (filter_none (λ y. is_odd (length (filter (is_step g x y) (rectangles (size g))))) (states (size g)) (λ y m. ap (λ rs. is_odd (length rs)) (no_steps y)))
+border_of_state-no_step g x none =
+    ap (λ ys. of_codes (map rank ys))
+    (filter_none (λ y. is_odd (length (filter (is_step g x y) (rectangles (size g))))) (states (size g))
+    (λ y m. ap (λ rs. is_odd (length rs)) (no_steps y)))
   where
     no_steps : (y : List ℕ) → filter (is_step g x y) (rectangles (size g)) ≡ []
     no_steps y = filter_none (is_step g x y) (rectangles (size g)) (λ r m. elim (cases_Bool (is_step g x y r)) [

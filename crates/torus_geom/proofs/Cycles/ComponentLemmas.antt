@@ -19,7 +19,8 @@ module _ (g : Marks) (grid : IsGrid g) where
       let columns = column_of-one_to_one (size g) (slice_index g.o) (one_to_one (size g) g.o grid.o) in
       record {
         small = λ c l. columns.small (slice_index g.x c) (grid.x.small c l);
-        apart = λ b c lb lc p. columns.apart (slice_index g.x b) (slice_index g.x c) (grid.x.small b lb) (grid.x.small c lc) (grid.x.apart b c lb lc p);
+        apart = λ b c lb lc p. columns.apart (slice_index g.x b) (slice_index g.x c) (grid.x.small b lb)
+            (grid.x.small c lc) (grid.x.apart b c lb lc p);
       }
 
   -- the walk of the grid is that of its step
@@ -30,8 +31,10 @@ module _ (g : Marks) (grid : IsGrid g) where
   -- the first columns are one of each cycle of the step
   pub is_first_picks : PicksOne (size g) (column_after g) (is_first g)
   is_first_picks = picks_first (size g) (column_after g) column_after_one (is_first g)
-      (λ c first k l. let e = walk-after k c in let low = leb-true c (walk g k c) (at_all_below (size g) (λ i. nat_le c (walk g i c)) first k l) in omega arith)
-      (λ c low. all_below-true (size g) (λ k. nat_le c (walk g k c)) (λ k l. let e = walk-after k c in let least = low k l in le-leb c (walk g k c) (omega arith)))
+      (λ c first k l. let e = walk-after k c in
+      let low = leb-true c (walk g k c) (at_all_below (size g) (λ i. nat_le c (walk g i c)) first k l) in omega arith)
+      (λ c low. all_below-true (size g) (λ k. nat_le c (walk g k c))
+      (λ k l. let e = walk-after k c in let least = low k l in le-leb c (walk g k c) (omega arith)))
 
   -- and so of the walk
   pub HasOneOfEachCycle-is_first : HasOneOfEachCycle g (is_first g)

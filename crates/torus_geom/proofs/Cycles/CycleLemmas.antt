@@ -31,7 +31,8 @@ module _ (f : ℕ → ℕ) where
     ]
   ]
 
-  repeats : (m : ℕ) → ((i : ℕ) × (j : ℕ) × (i < j) × (j < m) × (f i ≡ f j)) ⊎ ((b c : ℕ) → b < m → c < m → b ≢ c → f b ≢ f c)
+  repeats : (m : ℕ)
+      → ((i : ℕ) × (j : ℕ) × (i < j) × (j < m) × (f i ≡ f j)) ⊎ ((b c : ℕ) → b < m → c < m → b ≢ c → f b ≢ f c)
   repeats zero = inr (λ b c lb lc p e. absurd (omega arith))
   repeats (suc m) = elim (repeats m) [
     | inl h ↦ let l = h.3 in inl (h.0, h.1, h.2, omega arith, h.4)
@@ -39,7 +40,11 @@ module _ (f : ℕ → ℕ) where
       | inl k ↦ inl (k.0, m, k.1, omega arith, k.2)
       | inr k ↦ inr (λ b c lb lc p e. elim (cases_eq b m) [
         | inl i ↦ k c (omega arith) (sym e ∙ ap f i)
-        | inr i ↦ elim (cases_eq c m) [ inl j ↦ k b (omega arith) (e ∙ ap f j) | inr j ↦ h b c (omega arith) (omega arith) p e ]
+        | inr i ↦
+            elim (cases_eq c m) [
+              | inl j ↦ k b (omega arith) (e ∙ ap f j)
+              | inr j ↦ h b c (omega arith) (omega arith) p e
+            ]
       ])
     ]
   ]
@@ -72,7 +77,8 @@ least f (suc m) =
 -- the steps of one walk after another
 pub after-add : (s : ℕ → ℕ) (i j c : ℕ) → after s (i + j) c ≡ after s i (after s j c)
 after-add s zero j c = let e : 0 + j ≡ j = omega arith in ap (λ k. after s k c) e
-after-add s (suc i) j c = let e : suc i + j ≡ suc (i + j) = omega arith in ap (λ k. after s k c) e ∙ ap s (after-add s i j c)
+after-add s (suc i) j c = let e : suc i + j ≡ suc (i + j) = omega arith in
+    ap (λ k. after s k c) e ∙ ap s (after-add s i j c)
 
 module _ (n : ℕ) (s : ℕ → ℕ) (one : IsOneToOne n s) where
   -- the walk stays below n
@@ -98,7 +104,8 @@ module _ (n : ℕ) (s : ℕ → ℕ) (one : IsOneToOne n s) where
           h.1 - h.0,
           omega arith,
           omega arith,
-          sym (peel h.0 c (after s (h.1 - h.0) c) l (after_below (h.1 - h.0) c l) (h.4 ∙ ap (λ k. after s k c) (sym e) ∙ after-add s h.0 (h.1 - h.0) c)),
+          sym (peel h.0 c (after s (h.1 - h.0) c) l (after_below (h.1 - h.0) c l)
+              (h.4 ∙ ap (λ k. after s k c) (sym e) ∙ after-add s h.0 (h.1 - h.0) c)),
         )
     | inr h ↦ absurd (let r = no_more (n + 1) n (λ k. after s k c) (λ k q. after_below k c l) h in omega arith)
   ]
@@ -129,8 +136,11 @@ module _ (n : ℕ) (s : ℕ → ℕ) (one : IsOneToOne n s) where
       let m = period c l in
       let i = within (k.0 + 1) k.0 c m.0 (omega arith) m.1 m.3 in
       let below = i.1 in
-      let u : (m.0 - i.0) + i.0 ≡ m.0 = omega arith in
-      (m.0 - i.0, ap (after s (m.0 - i.0)) (sym (i.2 ∙ k.1)) ∙ sym (after-add s (m.0 - i.0) i.0 c) ∙ ap (λ t. after s t c) u ∙ m.3)
+      let u : (m.0 - i.0) + i.0 ≡ m.0 = omega arith in (
+        m.0 - i.0,
+        ap (after s (m.0 - i.0)) (sym (i.2 ∙ k.1)) ∙ sym (after-add s (m.0 - i.0) i.0 c) ∙ ap (λ t. after s t c) u
+            ∙ m.3,
+      )
 
   module _ (first : ℕ → Bool)
       (leads : (c : ℕ) → first c ≡ true → (k : ℕ) → k < n → c ≤ after s k c)

@@ -13,7 +13,8 @@ use Rattle.torus_geom.proofs.Pairs.PairLemmas.{lower_left, count_below-ltb, coun
 -- for rows and columns of one way, what is to be added to a count of pairs
 abbrev pub seam_term : ℕ → ℕ → ℕ → ℕ → ℕ → ℤ
 seam_term n a b j k =
-    cond (ltb b a) (pos k -ℤ pos j) (pos 0) +ℤ cond (ltb k j) (pos b -ℤ pos a) (pos 0) +ℤ cond (ltb b a && ltb k j) (pos n) (pos 0)
+    cond (ltb b a) (pos k -ℤ pos j) (pos 0) +ℤ cond (ltb k j) (pos b -ℤ pos a) (pos 0)
+    +ℤ cond (ltb b a && ltb k j) (pos n) (pos 0)
 
 -- the same for circles moved by one
 pub seam_term-next : (n a b j k : ℕ) → seam_term n (a + 1) (b + 1) (j + 1) (k + 1) ≡ seam_term n a b j k
@@ -37,8 +38,10 @@ leb-not_ltb a d = grind arith
 choice : Bool → ℤ → ℤ → ℤ
 choice s u v = cond s (u -ℤ v) (pos 0)
 
-sum_below-difference_if : (n : ℕ) (s : Bool) (f g : ℕ → ℤ) → sum_below n (λ t. cond s (f t -ℤ g t) (pos 0)) ≡ cond s (sum_below n f -ℤ sum_below n g) (pos 0)
-sum_below-difference_if n true f g = let e = balanced_sum n f (λ t. f t -ℤ g t) g (λ t l. omega (arith, ints)) in omega (arith, ints)
+sum_below-difference_if : (n : ℕ) (s : Bool) (f g : ℕ → ℤ)
+    → sum_below n (λ t. cond s (f t -ℤ g t) (pos 0)) ≡ cond s (sum_below n f -ℤ sum_below n g) (pos 0)
+sum_below-difference_if n true f g = let e = balanced_sum n f (λ t. f t -ℤ g t) g (λ t l. omega (arith, ints)) in
+    omega (arith, ints)
 sum_below-difference_if n false f g = sum_below-zero n
 
 sum_below-one_if : (n : ℕ) (s : Bool) → sum_below n (λ t. one_if s) ≡ cond s (pos n) (pos 0)
@@ -81,9 +84,14 @@ count_in_corners n P one a b j k la lb lj lk =
 
     each : (d : ℕ) → d < n → inn d +ℤ (f a k d +ℤ f b j d) ≡ (f a j d +ℤ f b k d) +ℤ rest d
     each d l =
-        (λ i. one_if ((leb-not_ltb a d i ⊻ leb-not_ltb b d i ⊻ ltb b a) && (leb-not_ltb j (P d) i ⊻ leb-not_ltb k (P d) i ⊻ ltb k j)) +ℤ (f a k d +ℤ f b j d))
+        (λ i. one_if ((leb-not_ltb a d i ⊻ leb-not_ltb b d i ⊻ ltb b a)
+        && (leb-not_ltb j (P d) i ⊻ leb-not_ltb k (P d) i ⊻ ltb k j)) +ℤ (f a k d +ℤ f b j d))
         ∙ under_test _ _ _ (and_from _ _ (fits_hold a b d) (fits_hold j k (P d)))
         (same_ints 6
-        (λ pa pb pj pk s t. cond (fits s pa pb && fits t pj pk) (one_if ((not pa ⊻ not pb ⊻ s) && (not pj ⊻ not pk ⊻ t)) +ℤ (one_if (pa && pk) +ℤ one_if (pb && pj))) (pos 0))
-        (λ pa pb pj pk s t. cond (fits s pa pb && fits t pj pk) ((one_if (pa && pj) +ℤ one_if (pb && pk)) +ℤ (cond s (one_if pk -ℤ one_if pj) (pos 0) +ℤ cond t (one_if pb -ℤ one_if pa) (pos 0) +ℤ one_if (s && t))) (pos 0))
+        (λ pa pb pj pk s t. cond (fits s pa pb && fits t pj pk)
+        (one_if ((not pa ⊻ not pb ⊻ s) && (not pj ⊻ not pk ⊻ t)) +ℤ (one_if (pa && pk) +ℤ one_if (pb && pj))) (pos 0))
+        (λ pa pb pj pk s t. cond (fits s pa pb && fits t pj pk)
+        ((one_if (pa && pj) +ℤ one_if (pb && pk))
+        +ℤ (cond s (one_if pk -ℤ one_if pj) (pos 0) +ℤ cond t (one_if pb -ℤ one_if pa) (pos 0) +ℤ one_if (s && t)))
+        (pos 0))
         refl (ltb d a) (ltb d b) (ltb (P d) j) (ltb (P d) k) (ltb b a) (ltb k j))

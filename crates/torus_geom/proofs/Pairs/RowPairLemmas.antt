@@ -9,11 +9,16 @@ use Rattle.torus_geom.proofs.Sums.SumLemmas.{sum_below_same, sum_below_reindex}
 use Rattle.torus_geom.proofs.Pairs.PairLemmas.{pairs, maslov_by_pairs}
 
 -- pairs that agree below n
-pub pairs_same : (n : ℕ) (P P' Q Q' : ℕ → ℕ) → ((c : ℕ) → c < n → P c ≡ P' c) → ((c : ℕ) → c < n → Q c ≡ Q' c) → pairs n P Q ≡ pairs n P' Q'
-pairs_same n P P' Q Q' p q = sum_below_same n _ (λ d. count_below n (λ c. ltb c d && ltb (P' c) (Q' d))) (λ d l. sum_below_same n _ (λ c. one_if (ltb c d && ltb (P' c) (Q' d))) (λ c k. λ i. one_if (ltb c d && ltb (p c k i) (q d l i))))
+pub pairs_same : (n : ℕ) (P P' Q Q' : ℕ → ℕ) → ((c : ℕ) → c < n → P c ≡ P' c) → ((c : ℕ) → c < n → Q c ≡ Q' c)
+    → pairs n P Q ≡ pairs n P' Q'
+pairs_same n P P' Q Q' p q =
+    sum_below_same n _ (λ d. count_below n (λ c. ltb c d && ltb (P' c) (Q' d)))
+    (λ d l. sum_below_same n _ (λ c. one_if (ltb c d && ltb (P' c) (Q' d)))
+    (λ c k. λ i. one_if (ltb c d && ltb (p c k i) (q d l i))))
 
 -- degrees of rows that agree below n
-pub maslov_by_pairs_same : (n : ℕ) (o o' x x' : ℕ → ℕ) → ((c : ℕ) → c < n → o c ≡ o' c) → ((c : ℕ) → c < n → x c ≡ x' c) → maslov_by_pairs n o x ≡ maslov_by_pairs n o' x'
+pub maslov_by_pairs_same : (n : ℕ) (o o' x x' : ℕ → ℕ) → ((c : ℕ) → c < n → o c ≡ o' c) → ((c : ℕ) → c < n → x c ≡ x' c)
+    → maslov_by_pairs n o x ≡ maslov_by_pairs n o' x'
 maslov_by_pairs_same n o o' x x' p q =
     let xx = pairs_same n x x' x x' q q in
     let oo = pairs_same n o o' o o' p p in
@@ -21,22 +26,29 @@ maslov_by_pairs_same n o o' x x' p q =
     λ i. (xx i +ℤ oo i +ℤ pos 1) -ℤ (ox i +ℤ ox i +ℤ pos n)
 
 -- pairs by the rows of Q and of P
-pub pairs_by_rows : (n : ℕ) (P Q : ℕ → ℕ) → IsOneToOne n Q → pairs n P Q ≡ sum_below n (λ r. count_below n (λ c. ltb c (column_of n Q r) && ltb (P c) r))
+pub pairs_by_rows : (n : ℕ) (P Q : ℕ → ℕ) → IsOneToOne n Q
+    → pairs n P Q ≡ sum_below n (λ r. count_below n (λ c. ltb c (column_of n Q r) && ltb (P c) r))
 pairs_by_rows n P Q one =
-    sym (sum_below_reindex n (column_of n Q) (column_of-one_to_one n Q one) (λ d. count_below n (λ c. ltb c d && ltb (P c) (Q d))))
-    ∙ sum_below_same n _ (λ r. count_below n (λ c. ltb c (column_of n Q r) && ltb (P c) r)) (λ r l. ap (λ s. count_below n (λ c. ltb c (column_of n Q r) && ltb (P c) s)) (row-column_of n Q one r l))
+    sym (sum_below_reindex n (column_of n Q) (column_of-one_to_one n Q one)
+    (λ d. count_below n (λ c. ltb c d && ltb (P c) (Q d))))
+    ∙ sum_below_same n _ (λ r. count_below n (λ c. ltb c (column_of n Q r) && ltb (P c) r))
+    (λ r l. ap (λ s. count_below n (λ c. ltb c (column_of n Q r) && ltb (P c) s)) (row-column_of n Q one r l))
 
 -- pairs of the inverse bijections
-pub pairs-column_of : (n : ℕ) (P Q : ℕ → ℕ) → IsOneToOne n P → IsOneToOne n Q → pairs n P Q ≡ pairs n (column_of n P) (column_of n Q)
+pub pairs-column_of : (n : ℕ) (P Q : ℕ → ℕ) → IsOneToOne n P → IsOneToOne n Q
+    → pairs n P Q ≡ pairs n (column_of n P) (column_of n Q)
 pairs-column_of n P Q op oq =
     pairs_by_rows n P Q oq
     ∙ sum_below_same n _ (λ r. count_below n (λ s. ltb s r && ltb (column_of n P s) (column_of n Q r))) (λ r l.
-    sym (sum_below_reindex n (column_of n P) (column_of-one_to_one n P op) (λ c. one_if (ltb c (column_of n Q r) && ltb (P c) r)))
+    sym (sum_below_reindex n (column_of n P) (column_of-one_to_one n P op)
+    (λ c. one_if (ltb c (column_of n Q r) && ltb (P c) r)))
     ∙ sum_below_same n _ (λ s. one_if (ltb s r && ltb (column_of n P s) (column_of n Q r))) (λ s k.
-    ap (λ t. one_if (ltb (column_of n P s) (column_of n Q r) && ltb t r)) (row-column_of n P op s k) ∙ ap one_if (and_comm (ltb (column_of n P s) (column_of n Q r)) (ltb s r))))
+    ap (λ t. one_if (ltb (column_of n P s) (column_of n Q r) && ltb t r)) (row-column_of n P op s k)
+    ∙ ap one_if (and_comm (ltb (column_of n P s) (column_of n Q r)) (ltb s r))))
 
 -- degrees of the inverse bijections
-pub maslov_by_pairs-column_of : (n : ℕ) (o x : ℕ → ℕ) → IsOneToOne n o → IsOneToOne n x → maslov_by_pairs n o x ≡ maslov_by_pairs n (column_of n o) (column_of n x)
+pub maslov_by_pairs-column_of : (n : ℕ) (o x : ℕ → ℕ) → IsOneToOne n o → IsOneToOne n x
+    → maslov_by_pairs n o x ≡ maslov_by_pairs n (column_of n o) (column_of n x)
 maslov_by_pairs-column_of n o x oo ox =
     let xx = pairs-column_of n x x ox ox in
     let po = pairs-column_of n o o oo oo in

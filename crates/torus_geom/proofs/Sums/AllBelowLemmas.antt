@@ -13,7 +13,8 @@ at_all_below (suc n) test h i l =
 -- what passes at each number passes below n
 pub all_below-true : (n : ℕ) (test : ℕ → Bool) → ((i : ℕ) → i < n → test i ≡ true) → all_below n test ≡ true
 all_below-true zero test h = refl
-all_below-true (suc n) test h = ap₂ (λ a b. a && b) (h n (omega arith)) (all_below-true n test (λ i l. h i (omega arith)))
+all_below-true (suc n) test h =
+    ap₂ (λ a b. a && b) (h n (omega arith)) (all_below-true n test (λ i l. h i (omega arith)))
 
 -- what fails at one number fails below n
 pub all_below-false : (n : ℕ) (test : ℕ → Bool) (i : ℕ) → i < n → test i ≡ false → all_below n test ≡ false

@@ -12,7 +12,8 @@ pub record IsSum (bound i : ℕ) (f : ℕ → ℤ) (sum : ℤ) : Type 0 where
   pub high : sum ≤ℤ pos (bound * i)
 
 -- one term more
-pub IsSum-more : (bound i : ℕ) (f : ℕ → ℤ) (sum term next : ℤ) → IsSum bound i f sum → term ≡ f i → neg_ℤ (pos bound) ≤ℤ term → term ≤ℤ pos bound → next ≡ sum +ℤ term → IsSum bound (i + 1) f next
+pub IsSum-more : (bound i : ℕ) (f : ℕ → ℤ) (sum term next : ℤ) → IsSum bound i f sum → term ≡ f i
+    → neg_ℤ (pos bound) ≤ℤ term → term ≤ℤ pos bound → next ≡ sum +ℤ term → IsSum bound (i + 1) f next
 IsSum-more bound i f sum term next h at low high e =
     let value = h.value in
     let product : bound * (i + 1) ≡ bound * i + bound = omega arith in

@@ -27,26 +27,33 @@ sum_below-add zero f g = refl
 sum_below-add (suc n) f g = let h = sum_below-add n f g in omega (arith, ints)
 
 -- sums that balance term by term balance
-pub balanced_sum : (n : ℕ) (f g h : ℕ → ℤ) → ((t : ℕ) → t < n → f t ≡ g t +ℤ h t) → sum_below n f ≡ sum_below n g +ℤ sum_below n h
+pub balanced_sum : (n : ℕ) (f g h : ℕ → ℤ) → ((t : ℕ) → t < n → f t ≡ g t +ℤ h t)
+    → sum_below n f ≡ sum_below n g +ℤ sum_below n h
 balanced_sum zero f g h e = refl
-balanced_sum (suc n) f g h e = let i = balanced_sum n f g h (λ t l. e t (omega arith)) in let j = e n (omega arith) in omega (arith, ints)
+balanced_sum (suc n) f g h e = let i = balanced_sum n f g h (λ t l. e t (omega arith)) in let j = e n (omega arith) in
+    omega (arith, ints)
 
 -- the same with two sums on each side
-pub balanced_pairs : (n : ℕ) (f g h k : ℕ → ℤ) → ((t : ℕ) → t < n → f t +ℤ g t ≡ h t +ℤ k t) → sum_below n f +ℤ sum_below n g ≡ sum_below n h +ℤ sum_below n k
+pub balanced_pairs : (n : ℕ) (f g h k : ℕ → ℤ) → ((t : ℕ) → t < n → f t +ℤ g t ≡ h t +ℤ k t)
+    → sum_below n f +ℤ sum_below n g ≡ sum_below n h +ℤ sum_below n k
 balanced_pairs zero f g h k e = refl
-balanced_pairs (suc n) f g h k e = let i = balanced_pairs n f g h k (λ t l. e t (omega arith)) in let j = e n (omega arith) in omega (arith, ints)
+balanced_pairs (suc n) f g h k e = let i = balanced_pairs n f g h k (λ t l. e t (omega arith)) in
+    let j = e n (omega arith) in omega (arith, ints)
 
 -- two sums, in either order
-pub sum_below_swap : (m n : ℕ) (f : ℕ → ℕ → ℤ) → sum_below m (λ a. sum_below n (f a)) ≡ sum_below n (λ b. sum_below m (λ a. f a b))
+pub sum_below_swap : (m n : ℕ) (f : ℕ → ℕ → ℤ)
+    → sum_below m (λ a. sum_below n (f a)) ≡ sum_below n (λ b. sum_below m (λ a. f a b))
 sum_below_swap zero n f = sym (sum_below-zero n)
-sum_below_swap (suc m) n f = ap (λ r. sum_below n (f m) +ℤ r) (sum_below_swap m n f) ∙ sym (sum_below-add n (f m) (λ b. sum_below m (λ a. f a b)))
+sum_below_swap (suc m) n f = ap (λ r. sum_below n (f m) +ℤ r) (sum_below_swap m n f)
+    ∙ sym (sum_below-add n (f m) (λ b. sum_below m (λ a. f a b)))
 
 -- a sum with one term
 abbrev pub at_only : ℕ → (ℕ → ℤ) → ℕ → ℤ
 at_only a f t = cond (eqb t a) (f t) (pos 0)
 
 sum_below-at_only_past : (n a : ℕ) (f : ℕ → ℤ) → n < a + 1 → sum_below n (at_only a f) ≡ pos 0
-sum_below-at_only_past n a f h = sum_below_vanishes n (at_only a f) (λ t l. ap (λ b. cond b (f t) (pos 0)) (ne_eqb t a (omega arith)))
+sum_below-at_only_past n a f h =
+    sum_below_vanishes n (at_only a f) (λ t l. ap (λ b. cond b (f t) (pos 0)) (ne_eqb t a (omega arith)))
 
 -- a sum with one term is that term
 pub sum_below-at_only : (n a : ℕ) (f : ℕ → ℤ) → a < n → sum_below n (at_only a f) ≡ f a
@@ -62,7 +69,8 @@ sum_below-at_only (suc n) a f h = elim (cases_eq n a) [
 ]
 
 -- sums that agree but at a and b
-pub sum_below_but_two : (n a b : ℕ) (f g : ℕ → ℤ) → a < n → b < n → a ≢ b → ((t : ℕ) → t < n → t ≢ a → t ≢ b → f t ≡ g t)
+pub sum_below_but_two : (n a b : ℕ) (f g : ℕ → ℤ) → a < n → b < n → a ≢ b
+    → ((t : ℕ) → t < n → t ≢ a → t ≢ b → f t ≡ g t)
     → sum_below n f +ℤ (g a +ℤ g b) ≡ sum_below n g +ℤ (f a +ℤ f b)
 sum_below_but_two n a b f g la lb p h =
     let added = sum_below-add n f (λ t. at_only a g t +ℤ at_only b g t) in
@@ -73,7 +81,8 @@ sum_below_but_two n a b f g la lb p h =
     let further_added = sum_below-add n (at_only a f) (at_only b f) in
     let again_single = sum_below-at_only n a f la in
     let further_single = sum_below-at_only n b f lb in
-    let m = sum_below_same n (λ t. f t +ℤ (at_only a g t +ℤ at_only b g t)) (λ t. g t +ℤ (at_only a f t +ℤ at_only b f t)) each in
+    let m = sum_below_same n (λ t. f t +ℤ (at_only a g t +ℤ at_only b g t))
+    (λ t. g t +ℤ (at_only a f t +ℤ at_only b f t)) each in
     omega (arith, ints)
   where
     at_yes : (c : ℕ) (k : ℕ → ℤ) (t : ℕ) → t ≡ c → at_only c k t ≡ k t
@@ -86,25 +95,31 @@ sum_below_but_two n a b f g la lb p h =
     each t l = elim (cases_eq t a) [
       | inl e ↦
           let q : t ≢ b = omega arith in
-          let there = at_yes a g t e in let away = at_no b g t q in let also_there = at_yes a f t e in let also_away = at_no b f t q in omega (arith, ints)
+          let there = at_yes a g t e in let away = at_no b g t q in let also_there = at_yes a f t e in
+          let also_away = at_no b f t q in omega (arith, ints)
       | inr q ↦ elim (cases_eq t b) [
-        | inl e ↦ let again_away = at_no a g t q in let again_there = at_yes b g t e in let further_away = at_no a f t q in let further_there = at_yes b f t e in omega (arith, ints)
-        | inr r ↦ let i = h t l q r in let still_away = at_no a g t q in let last_away = at_no b g t r in let yet_away = at_no a f t q in let more_away = at_no b f t r in omega (arith, ints)
+        | inl e ↦ let again_away = at_no a g t q in let again_there = at_yes b g t e in
+            let further_away = at_no a f t q in let further_there = at_yes b f t e in omega (arith, ints)
+        | inr r ↦ let i = h t l q r in let still_away = at_no a g t q in let last_away = at_no b g t r in
+            let yet_away = at_no a f t q in let more_away = at_no b f t r in omega (arith, ints)
       ]
     ]
 
 -- the sum over the rows of a bijection is the sum over all rows
 pub sum_below_reindex : (n : ℕ) (P : ℕ → ℕ) → IsOneToOne n P → (f : ℕ → ℤ) → sum_below n (λ d. f (P d)) ≡ sum_below n f
 sum_below_reindex n P one f =
-    sum_below_same n (λ d. f (P d)) (λ d. sum_below n (at_only (P d) f)) (λ d l. sym (sum_below-at_only n (P d) f (one.small d l)))
+    sum_below_same n (λ d. f (P d)) (λ d. sum_below n (at_only (P d) f))
+    (λ d l. sym (sum_below-at_only n (P d) f (one.small d l)))
     ∙ sum_below_swap n n (λ d. at_only (P d) f)
     ∙ sum_below_same n (λ r. sum_below n (λ d. at_only (P d) f r)) f (λ r l. row r (onto n P one.small one.apart r l))
   where
     row : (r : ℕ) → (c : ℕ) × (c < n) × (P c ≡ r) → sum_below n (λ d. at_only (P d) f r) ≡ f r
     row r h =
-        sum_below_same n (λ d. at_only (P d) f r) (at_only h.0 (λ d. f r)) (λ d l. ap (λ b. cond b (f r) (pos 0)) (elim (cases_eq d h.0) [
+        sum_below_same n (λ d. at_only (P d) f r) (at_only h.0 (λ d. f r))
+        (λ d l. ap (λ b. cond b (f r) (pos 0)) (elim (cases_eq d h.0) [
           | inl e ↦ let i : P d ≡ P h.0 = ap P e in let k = h.2 in eq-eqb r (P d) (omega arith) ∙ sym (eq-eqb d h.0 e)
-          | inr q ↦ let i = one.apart d h.0 l h.1 q in let k = h.2 in ne_eqb r (P d) (λ v. i (sym v ∙ sym k)) ∙ sym (ne_eqb d h.0 q)
+          | inr q ↦ let i = one.apart d h.0 l h.1 q in let k = h.2 in
+              ne_eqb r (P d) (λ v. i (sym v ∙ sym k)) ∙ sym (ne_eqb d h.0 q)
         ]))
         ∙ sum_below-at_only n h.0 (λ d. f r) h.1
 
@@ -140,7 +155,11 @@ SameInts (suc n) f g = (b : Bool) → SameInts n (f b) (g b)
 -- two that agree in each row are equal
 pub same_ints : (n : ℕ) (f g : IntTable n) → ints_agree n f g ≡ true → SameInts n f g
 same_ints zero a b h = int_eq_same a b h
-same_ints (suc n) f g h = elim [ true ↦ same_ints n (f true) (g true) (and_parts _ _ h).0 | false ↦ same_ints n (f false) (g false) (and_parts _ _ h).1 ]
+same_ints (suc n) f g h =
+    elim [
+      | true ↦ same_ints n (f true) (g true) (and_parts _ _ h).0
+      | false ↦ same_ints n (f false) (g false) (and_parts _ _ h).1
+    ]
 
 -- where a test is known to pass
 pub under_test : (b : Bool) (x y : ℤ) → b ≡ true → cond b x (pos 0) ≡ cond b y (pos 0) → x ≡ y
@@ -148,6 +167,8 @@ under_test true x y h e = e
 under_test false x y h e = absurd (false≢true h)
 
 -- and with three
-pub balanced_triples : (n : ℕ) (f g h k l m : ℕ → ℤ) → ((t : ℕ) → t < n → f t +ℤ g t +ℤ h t ≡ k t +ℤ l t +ℤ m t) → sum_below n f +ℤ sum_below n g +ℤ sum_below n h ≡ sum_below n k +ℤ sum_below n l +ℤ sum_below n m
+pub balanced_triples : (n : ℕ) (f g h k l m : ℕ → ℤ) → ((t : ℕ) → t < n → f t +ℤ g t +ℤ h t ≡ k t +ℤ l t +ℤ m t)
+    → sum_below n f +ℤ sum_below n g +ℤ sum_below n h ≡ sum_below n k +ℤ sum_below n l +ℤ sum_below n m
 balanced_triples zero f g h k l m e = refl
-balanced_triples (suc n) f g h k l m e = let i = balanced_triples n f g h k l m (λ t q. e t (omega arith)) in let j = e n (omega arith) in omega (arith, ints)
+balanced_triples (suc n) f g h k l m e = let i = balanced_triples n f g h k l m (λ t q. e t (omega arith)) in
+    let j = e n (omega arith) in omega (arith, ints)

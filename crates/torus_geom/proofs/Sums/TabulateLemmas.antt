@@ -18,7 +18,8 @@ pub slice_index-tabulate : (n : ℕ) (f : ℕ → ℕ) (c : ℕ) → c < n → s
 slice_index-tabulate n f c l = get_or-tabulate n f c 0 l
 
 -- the numbers below n + 1 that pass
-pub length-filter-ascending : (p : ℕ → Bool) (n : ℕ) → length (filter p (ascending (n + 1))) ≡ length (filter p (ascending n)) + cond (p n) 1 0
+pub length-filter-ascending : (p : ℕ → Bool) (n : ℕ)
+    → length (filter p (ascending (n + 1))) ≡ length (filter p (ascending n)) + cond (p n) 1 0
 length-filter-ascending p n =
     ap (λ m. length (filter p (ascending m))) (let e : n + 1 ≡ suc n = omega arith in e)
     ∙ ap (λ l. length (filter p l)) (tabulate-suc n (λ c. c))
@@ -38,6 +39,7 @@ pos-length-filter-ascending p (suc n) =
     let rest = pos-length-filter-ascending p n in
     ap (λ m. pos (length (filter p (ascending m)))) (sym e) ∙ ap pos (length-filter-ascending p n) ∙ one (p n) rest
   where
-    one : (b : Bool) → pos (length (filter p (ascending n))) ≡ count_below n p → pos (length (filter p (ascending n)) + cond b 1 0) ≡ one_if b +ℤ count_below n p
+    one : (b : Bool) → pos (length (filter p (ascending n))) ≡ count_below n p
+        → pos (length (filter p (ascending n)) + cond b 1 0) ≡ one_if b +ℤ count_below n p
     one true h = omega (arith, ints)
     one false h = omega (arith, ints)

@@ -6,4 +6,5 @@ use Rattle.front_data.proofs.fronts.doubled_rotation.Given as goal
 
 abbrev pub invariant-loop-c : goal.invariant-loop-c
 invariant-loop-c l =
-    IsSum 2 l.c (λ c. one_if (is_north_east_x l.g c) +ℤ one_if (is_south_west_o l.g c) -ℤ one_if (is_north_east_o l.g c) -ℤ one_if (is_south_west_x l.g c)) l.sum
+    IsSum 2 l.c (λ c. one_if (is_north_east_x l.g c) +ℤ one_if (is_south_west_o l.g c) -ℤ one_if (is_north_east_o l.g c)
+    -ℤ one_if (is_south_west_x l.g c)) l.sum

@@ -8,7 +8,8 @@ pub loop-c-preserved : goal.loop-c-preserved
 loop-c-preserved c =
     let term = c.writhe_of_column-sum.ensures in
     let small = c.size-c-end.ensures.grid.is_size.greatest in
-    IsSum-more _ _ _ _ _ _ c.loop-c.invariant term.value (omega (arith, ints)) (omega (arith, ints)) (omega (arith, ints))
+    IsSum-more _ _ _ _ _ _ c.loop-c.invariant term.value (omega (arith, ints)) (omega (arith, ints))
+    (omega (arith, ints))
 
 pub returns-clause-value : goal.returns-clause-value
 unfolding writhe

@@ -10,7 +10,10 @@ found c =
     let by_x = c.maslov-by_x.ensures in
     let size_is = c.size.ensures.size in
     let few = c.size.type_inv in
-    are_degrees _ _ _ _ _ _ _ 243 c.components.result c.size.ensures.grid c.rows-points.ensures.state c.requires.one_size c.o_rows.ensures.rows c.x_rows.ensures.rows c.rows-points.ensures.rows by_o.degree by_x.degree (omega arith) (by_o.low, by_o.high) (by_x.low, by_x.high) c.components.ensures.number c.components.type_inv (omega arith)
+    are_degrees _ _ _ _ _ _ _ 243 c.components.result c.size.ensures.grid c.rows-points.ensures.state
+    c.requires.one_size c.o_rows.ensures.rows c.x_rows.ensures.rows c.rows-points.ensures.rows by_o.degree by_x.degree
+    (omega arith) (by_o.low, by_o.high) (by_x.low, by_x.high) c.components.ensures.number c.components.type_inv
+    (omega arith)
 
 half_found : (c : goal.After-half) → c.half.result ≡ alexander c.args.g.now c.args.x.now
 half_found c =
@@ -32,7 +35,9 @@ pub returns-clause-whole : goal.returns-clause-whole
 returns-clause-whole c = (found c).whole
 
 pub returns-clause-low : goal.returns-clause-low
-returns-clause-low c = let half = half_found c in let low = (found c).small.low in (omega (arith, ints), omega (arith, ints))
+returns-clause-low c = let half = half_found c in let low = (found c).small.low in
+    (omega (arith, ints), omega (arith, ints))
 
 pub returns-clause-high : goal.returns-clause-high
-returns-clause-high c = let half = half_found c in let high = (found c).small.high in (omega (arith, ints), omega (arith, ints))
+returns-clause-high c = let half = half_found c in let high = (found c).small.high in
+    (omega (arith, ints), omega (arith, ints))

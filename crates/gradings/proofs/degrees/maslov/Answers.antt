@@ -14,5 +14,6 @@ loop-c-preserved c =
 pub returns-clause-degree : goal.returns-clause-degree
 returns-clause-degree c =
     let all = IsSum-all _ _ _ _ (length c.args.marks.now) c.loop-c.invariant (omega arith) in
-    let law = maslov-gains (length c.args.marks.now) c.args.marks.now c.args.points.now c.requires.marks c.requires.points in
+    let law =
+    maslov-gains (length c.args.marks.now) c.args.marks.now c.args.points.now c.requires.marks c.requires.points in
     omega (arith, ints)

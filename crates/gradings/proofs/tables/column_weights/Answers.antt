@@ -17,5 +17,6 @@ loop-r-preserved c =
     let o_low = c.below-in-loop-r.ensures.low in
     let o_high = c.below-in-loop-r.ensures.high in
     IsFilled-more _ _ _ _ (λ r v. pos v ≡ pos MAX_SIZE
-    +ℤ (count_below (length c.args.x.now) (λ d. ltb (slice_index c.args.x.now d) r) -ℤ count_below (length c.args.o.now) (λ d. ltb (slice_index c.args.o.now d) r)))
+    +ℤ (count_below (length c.args.x.now) (λ d. ltb (slice_index c.args.x.now d) r)
+    -ℤ count_below (length c.args.o.now) (λ d. ltb (slice_index c.args.o.now d) r)))
     _ c.loop-r-test.true c.loop-r.invariant (omega (arith, ints))

@@ -8,4 +8,5 @@ use Rattle.gradings.proofs.tables.column_weights.Given as goal
 abbrev pub invariant-loop-r : goal.invariant-loop-r
 invariant-loop-r l =
     IsFilled MAX_SIZE l.weights l.r 0 (λ r v. pos v ≡ pos MAX_SIZE
-    +ℤ (count_below (length l.x) (λ d. ltb (slice_index l.x d) r) -ℤ count_below (length l.o) (λ d. ltb (slice_index l.o d) r)))
+    +ℤ (count_below (length l.x) (λ d. ltb (slice_index l.x d) r)
+    -ℤ count_below (length l.o) (λ d. ltb (slice_index l.o d) r)))

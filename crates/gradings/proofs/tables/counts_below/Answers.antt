@@ -12,4 +12,5 @@ loop-r-preserved c =
     let value = c.below.ensures.value in
     let low = c.below.ensures.low in
     let high = c.below.ensures.high in
-    IsFilled-more _ _ _ _ (λ r v. pos v ≡ count_below (length c.args.rows.now) (λ d. ltb (slice_index c.args.rows.now d) r)) _ c.loop-r-test.true c.loop-r.invariant (omega (arith, ints))
+    IsFilled-more _ _ _ _ (λ r v. pos v ≡ count_below (length c.args.rows.now)
+    (λ d. ltb (slice_index c.args.rows.now d) r)) _ c.loop-r-test.true c.loop-r.invariant (omega (arith, ints))

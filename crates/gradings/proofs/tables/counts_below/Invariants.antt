@@ -6,4 +6,5 @@ use Rattle.gradings.proofs.TableLemmas.{IsFilled}
 use Rattle.gradings.proofs.tables.counts_below.Given as goal
 
 abbrev pub invariant-loop-r : goal.invariant-loop-r
-invariant-loop-r l = IsFilled MAX_SIZE l.counts l.r 0 (λ r v. pos v ≡ count_below (length l.rows) (λ d. ltb (slice_index l.rows d) r))
+invariant-loop-r l =
+    IsFilled MAX_SIZE l.counts l.r 0 (λ r v. pos v ≡ count_below (length l.rows) (λ d. ltb (slice_index l.rows d) r))

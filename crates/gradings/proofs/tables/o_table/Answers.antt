@@ -12,5 +12,7 @@ pub loop-c-preserved : goal.loop-c-preserved
 loop-c-preserved c =
     let inside = c.loop-c-test.true in
     let room = c.requires in
-    IsFilled-more _ _ _ [] (λ c' column. (r : ℕ) → r < MAX_SIZE → pos (slice_index column r) ≡ left_below (length c.args.o.now) c.args.o.now c' r) _ (omega arith) c.loop-c.invariant
+    IsFilled-more _ _ _ [] (λ c' column. (r : ℕ) → r < MAX_SIZE
+    → pos (slice_index column r) ≡ left_below (length c.args.o.now) c.args.o.now c' r) _
+    (omega arith) c.loop-c.invariant
     (λ r l. c.counts_below.ensures r l ∙ count_below-take c.args.o.now c.loop-c.c r (omega arith))

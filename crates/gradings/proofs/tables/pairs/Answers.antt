@@ -11,4 +11,5 @@ loop-d-preserved c =
     let old_high = c.loop-d.invariant.high in
     let inside = c.loop-d-test.true in
     let room = c.requires in
-    IsPairCount-more _ _ _ _ _ _ c.loop-d-test.true refl c.loop-d.invariant c.below-count.ensures.value low high (omega (arith, ints))
+    IsPairCount-more _ _ _ _ _ _ c.loop-d-test.true refl c.loop-d.invariant c.below-count.ensures.value low high
+    (omega (arith, ints))

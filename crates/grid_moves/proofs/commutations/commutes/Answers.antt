@@ -5,4 +5,5 @@ use Rattle.torus_geom.proofs.TransposeLemmas.{length-transpose}
 use Rattle.grid_moves.proofs.commutations.commutes.Goals as goal
 
 pub are_commuting_columns-requires-in-Rows : goal.are_commuting_columns-requires-in-Rows
-are_commuting_columns-requires-in-Rows c = let same = ap size c.transpose.ensures ∙ length-transpose c.args.g.now.o in omega (arith, same)
+are_commuting_columns-requires-in-Rows c = let same = ap size c.transpose.ensures ∙ length-transpose c.args.g.now.o in
+    omega (arith, same)

@@ -4,7 +4,8 @@ use Rattle.grid_ports.proofs.whole.write_all.Goals as goal
 
 pub returns-in_err-done-clause-prefix : goal.returns-in_err-done-clause-prefix
 returns-in_err-done-clause-prefix g c =
-    AppendsPrefix-keep _ _ _ c.loop-done.done c.args.piece.now c.loop-done.invariant.1 c.in_err-done.ensures.nothing_written
+    AppendsPrefix-keep _ _ _ c.loop-done.done c.args.piece.now c.loop-done.invariant.1
+    c.in_err-done.ensures.nothing_written
 
 pub loop-done-preserved : goal.loop-done-preserved
 loop-done-preserved g c =

@@ -12,25 +12,33 @@ use Rattle.hat_division.proofs.products.product_rank.Goals as goal
 
 pub loop-i-init : goal.loop-i-init
 loop-i-init c = record {
-  sum = sym (sum_below-zero (term c.args.k c.args.rows.now (to_z w32 (of_z w32 c.args.m)) (to_z w32 (of_z w32 c.args.a))));
+  sum = sym (sum_below-zero (term c.args.k c.args.rows.now (to_z w32 (of_z w32 c.args.m))
+      (to_z w32 (of_z w32 c.args.a))));
   bounded = omega arith;
   coefficient = sym (binomial-none c.args.k);
 }
 
 pub overflow_mul-total : goal.overflow_mul-total
-overflow_mul-total c = omega (arith, term-small c.args.k c.loop-i.i c.loop-i.binomial c.rank_at-rank.result c.args.rows.now _ _ c.requires.exponent c.loop-i.invariant.coefficient c.requires.ordered c.requires.small c.rank_at-rank.ensures)
+overflow_mul-total c =
+    omega (
+      arith,
+      term-small c.args.k c.loop-i.i c.loop-i.binomial c.rank_at-rank.result c.args.rows.now _ _ c.requires.exponent
+          c.loop-i.invariant.coefficient c.requires.ordered c.requires.small c.rank_at-rank.ensures,
+    )
 
 pub overflow_add-total : goal.overflow_add-total
 overflow_add-total c = omega (
   arith,
-  term-small c.args.k c.loop-i.i c.loop-i.binomial c.rank_at-rank.result c.args.rows.now _ _ c.requires.exponent c.loop-i.invariant.coefficient c.requires.ordered c.requires.small c.rank_at-rank.ensures,
+  term-small c.args.k c.loop-i.i c.loop-i.binomial c.rank_at-rank.result c.args.rows.now _ _ c.requires.exponent
+      c.loop-i.invariant.coefficient c.requires.ordered c.requires.small c.rank_at-rank.ensures,
   c.loop-i.invariant.bounded,
   c.requires.exponent,
 )
 
 pub overflow_mul-binomial : goal.overflow_mul-binomial
 overflow_mul-binomial c =
-    let small = coefficient-small c.args.k c.loop-i.i c.loop-i.binomial c.requires.exponent c.loop-i.invariant.coefficient in
+    let small =
+    coefficient-small c.args.k c.loop-i.i c.loop-i.binomial c.requires.exponent c.loop-i.invariant.coefficient in
     let few : c.from-in-loop-i-2.result ≤ 16 = omega (arith, c.requires.exponent, c.from-in-loop-i-2.ensures) in
     omega (arith, mul-le c.loop-i.binomial c.from-in-loop-i-2.result (2 ^ 16) 16 small few)
 
@@ -42,7 +50,9 @@ loop-i-preserved c =
     let i = c.loop-i.i in
     let next : suc i ≡ i + 1 = omega arith in
     let low : i ≤ 16 = omega (arith, c.requires.exponent) in
-    let rank = rank_up rows c.args.m c.args.a c.from.result c.from-in-loop-i.result i c.rank_at-rank.result c.ranges.m c.ranges.a c.requires.maslov c.requires.alexander low c.from.ensures c.from-in-loop-i.ensures c.rank_at-rank.ensures in
+    let rank =
+    rank_up rows c.args.m c.args.a c.from.result c.from-in-loop-i.result i c.rank_at-rank.result c.ranges.m c.ranges.a
+    c.requires.maslov c.requires.alexander low c.from.ensures c.from-in-loop-i.ensures c.rank_at-rank.ensures in
     record {
       sum = omega (
         arith,
@@ -52,7 +62,13 @@ loop-i-preserved c =
         sum_below-suc i (term c.args.k rows m a),
         ap (λ n. sum_below n (term c.args.k rows m a)) next,
       );
-      bounded = omega (arith, term-small c.args.k i c.loop-i.binomial c.rank_at-rank.result rows _ _ c.requires.exponent c.loop-i.invariant.coefficient c.requires.ordered c.requires.small c.rank_at-rank.ensures, c.loop-i.invariant.bounded);
+      bounded =
+          omega (
+            arith,
+            term-small c.args.k i c.loop-i.binomial c.rank_at-rank.result rows _ _ c.requires.exponent
+                c.loop-i.invariant.coefficient c.requires.ordered c.requires.small c.rank_at-rank.ensures,
+            c.loop-i.invariant.bounded,
+          );
       coefficient =
           (λ t. c.loop-i.binomial * c.from-in-loop-i-2.ensures t / (c.from-in-loop-i-3.ensures t + 1))
           ∙ coefficient-next c.args.k i c.loop-i.binomial (omega arith) c.loop-i.invariant.coefficient;
@@ -62,5 +78,6 @@ pub returns : goal.returns
 returns c =
     let all : c.loop-i.i ≡ suc c.args.k = omega arith in
     c.loop-i.invariant.sum
-    ∙ (λ t. sum_below (all t) (term c.args.k c.args.rows.now (to_z-of_z w32 c.args.m c.ranges.m t) (to_z-of_z w32 c.args.a c.ranges.a t)))
+    ∙ (λ t. sum_below (all t) (term c.args.k c.args.rows.now (to_z-of_z w32 c.args.m c.ranges.m t)
+    (to_z-of_z w32 c.args.a c.ranges.a t)))
     ∙ sym (product_rank-sum c.args.k c.args.rows.now c.args.m c.args.a)

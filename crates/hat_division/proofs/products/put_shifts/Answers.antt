@@ -11,29 +11,36 @@ use Rattle.hat_division.proofs.products.put_shifts.Goals as goal
 
 pub product_rank-rank-requires-clause-maslov : goal.product_rank-rank-requires-clause-maslov
 product_rank-rank-requires-clause-maslov c =
-    let small : IsSmall c.args.row.now = All-contains IsSmall c.args.rows.now c.args.row.now c.requires.small c.requires.member in
+    let small : IsSmall c.args.row.now =
+    All-contains IsSmall c.args.rows.now c.args.row.now c.requires.small c.requires.member in
     let fits : SFits w32 c.args.row.now.m = search rules in
     let low : c.loop-i.i ≤ 16 = omega (arith, c.requires.exponent) in
-    subst (λ z. z ≤ℤ pos 1000) (sym (step_down c.args.row.now.m c.from.result c.loop-i.i fits small.maslov_low low c.from.ensures))
+    subst (λ z. z ≤ℤ pos 1000)
+    (sym (step_down c.args.row.now.m c.from.result c.loop-i.i fits small.maslov_low low c.from.ensures))
     (step_down-high c.args.row.now.m c.loop-i.i small.maslov_high)
 
 pub product_rank-rank-requires-clause-alexander : goal.product_rank-rank-requires-clause-alexander
 product_rank-rank-requires-clause-alexander c =
-    let small : IsSmall c.args.row.now = All-contains IsSmall c.args.rows.now c.args.row.now c.requires.small c.requires.member in
+    let small : IsSmall c.args.row.now =
+    All-contains IsSmall c.args.rows.now c.args.row.now c.requires.small c.requires.member in
     let fits : SFits w32 c.args.row.now.a = search rules in
     let low : c.loop-i.i ≤ 16 = omega (arith, c.requires.exponent) in
-    subst (λ z. z ≤ℤ pos 1000) (sym (step_down c.args.row.now.a c.from-in-loop-i.result c.loop-i.i fits small.alexander_low low c.from-in-loop-i.ensures))
+    subst (λ z. z ≤ℤ pos 1000)
+    (sym (step_down c.args.row.now.a c.from-in-loop-i.result c.loop-i.i fits small.alexander_low low
+    c.from-in-loop-i.ensures))
     (step_down-high c.args.row.now.a c.loop-i.i small.alexander_high)
 
 pub put_row-requires-clause-rank : goal.put_row-requires-clause-rank
 put_row-requires-clause-rank c =
     let row = c.args.row.now in
     let i = c.loop-i.i in
-    let small : IsSmall c.args.row.now = All-contains IsSmall c.args.rows.now c.args.row.now c.requires.small c.requires.member in
+    let small : IsSmall c.args.row.now =
+    All-contains IsSmall c.args.rows.now c.args.row.now c.requires.small c.requires.member in
     let fits_m : SFits w32 c.args.row.now.m = search rules in
     let fits_a : SFits w32 c.args.row.now.a = search rules in
     let low : i ≤ 16 = omega (arith, c.requires.exponent) in
-    member-positive c.args.k c.args.rows.now row i _ _ c.product_rank-rank.result c.requires.positive c.requires.member (omega arith) c.product_rank-rank.ensures
+    member-positive c.args.k c.args.rows.now row i _ _ c.product_rank-rank.result c.requires.positive c.requires.member
+    (omega arith) c.product_rank-rank.ensures
     (step_down row.m c.from.result i fits_m small.maslov_low low c.from.ensures)
     (step_down row.a c.from-in-loop-i.result i fits_a small.alexander_low low c.from-in-loop-i.ensures)
 
@@ -41,11 +48,13 @@ pub loop-i-preserved : goal.loop-i-preserved
 loop-i-preserved c =
     let row = c.args.row.now in
     let i = c.loop-i.i in
-    let small : IsSmall c.args.row.now = All-contains IsSmall c.args.rows.now c.args.row.now c.requires.small c.requires.member in
+    let small : IsSmall c.args.row.now =
+    All-contains IsSmall c.args.rows.now c.args.row.now c.requires.small c.requires.member in
     let fits_m : SFits w32 c.args.row.now.m = search rules in
     let fits_a : SFits w32 c.args.row.now.a = search rules in
     let low : i ≤ 16 = omega (arith, c.requires.exponent) in
-    shifts-more c.args.k c.args.rows.now row i c.args.product.now.items c.loop-i.product.items c.put_row.new.rows.items _
+    shifts-more c.args.k c.args.rows.now row i c.args.product.now.items c.loop-i.product.items c.put_row.new.rows.items
+    _
     (step_down row.m c.from.result i fits_m small.maslov_low low c.from.ensures)
     (step_down row.a c.from-in-loop-i.result i fits_a small.alexander_low low c.from-in-loop-i.ensures)
     c.product_rank-rank.ensures c.loop-i.invariant c.in_ok-put_row.ensures

@@ -14,4 +14,5 @@ returns-then-stands_at c =
 
 pub returns : goal.returns
 returns c = sym (rank_at-none c.args.rows.now c.args.m c.args.a (λ k d l.
-    stands_from (get_or c.args.rows.now k d) c.args.m c.args.a _ false c.ranges.m c.ranges.a refl (c.loop-row.invariant k d (omega arith))))
+    stands_from (get_or c.args.rows.now k d) c.args.m c.args.a _ false c.ranges.m c.ranges.a refl
+    (c.loop-row.invariant k d (omega arith))))

@@ -17,15 +17,20 @@ unwrap-candidate-requires c =
     let found = c.in_ok-candidate_rows.field-0.items in
     let small : All IsSmall rows = subst (λ xs. All IsSmall xs) (sym c.rows-rows.ensures.rows) c.requires.small in
     let held : IsCandidate c.args.k rows (length rows) found = c.in_ok-candidate_rows.ensures in
-    c.of.ensures.accepted.1 (small-table found held.positive (candidate-small c.args.k rows (length rows) found (ArePositive-table rows c.rows-rows.ensures.table) small held))
+    c.of.ensures.accepted.1 (small-table found held.positive
+    (candidate-small c.args.k rows (length rows) found
+    (ArePositive-table rows c.rows-rows.ensures.table) small held))
 
 pub times_factor-requires-clause-small : goal.times_factor-requires-clause-small
 times_factor-requires-clause-small c =
     let rows = c.rows-rows.result.now in
     let found = c.in_ok-candidate_rows.field-0.items in
     let small : All IsSmall rows = subst (λ xs. All IsSmall xs) (sym c.rows-rows.ensures.rows) c.requires.small in
-    let same = IfSome-value (λ t. t ≡ found) c.of.result c.unwrap-candidate.result c.unwrap-candidate.ensures c.of.ensures.rows in
-    subst (λ xs. All IsSmall xs) (sym same) (candidate-small c.args.k rows (length rows) found (ArePositive-table rows c.rows-rows.ensures.table) small c.in_ok-candidate_rows.ensures)
+    let same =
+    IfSome-value (λ t. t ≡ found) c.of.result c.unwrap-candidate.result c.unwrap-candidate.ensures c.of.ensures.rows in
+    subst (λ xs. All IsSmall xs) (sym same)
+    (candidate-small c.args.k rows (length rows) found
+    (ArePositive-table rows c.rows-rows.ensures.table) small c.in_ok-candidate_rows.ensures)
 
 pub returns-then-are_same : goal.returns-then-are_same
 returns-then-are_same c =
@@ -33,11 +38,14 @@ returns-then-are_same c =
     let rows = c.rows-rows.result.now in
     let found = c.in_ok-candidate_rows.field-0.items in
     let product = c.in_ok-product.product in
-    let same = IfSome-value (λ t. t ≡ found) c.of.result c.unwrap-candidate.result c.unwrap-candidate.ensures c.of.ensures.rows in
+    let same =
+    IfSome-value (λ t. t ≡ found) c.of.result c.unwrap-candidate.result c.unwrap-candidate.ensures c.of.ensures.rows in
     let table : product ≡ rows = sym c.rows.ensures.rows ∙ c.are_same.ensures.0 c.if-are_same.true in
     let is : IsProduct k found product = subst (λ xs. IsProduct k xs product) same c.in_ok-product.ensures in
-    let quotient : IsQuotient k rows found = candidate-is k rows found c.in_ok-candidate_rows.ensures (subst (λ xs. IsProduct k found xs) table is) in
-    subst (λ xs. IsQuotient k xs c.unwrap-candidate.result) c.rows-rows.ensures.rows (subst (λ xs. IsQuotient k rows xs) (sym same) quotient)
+    let quotient : IsQuotient k rows found =
+    candidate-is k rows found c.in_ok-candidate_rows.ensures (subst (λ xs. IsProduct k found xs) table is) in
+    subst (λ xs. IsQuotient k xs c.unwrap-candidate.result) c.rows-rows.ensures.rows
+    (subst (λ xs. IsQuotient k rows xs) (sym same) quotient)
 
 pub returns-else-are_same : goal.returns-else-are_same
 returns-else-are_same c q quotient =
@@ -45,7 +53,8 @@ returns-else-are_same c q quotient =
     let rows = c.rows-rows.result.now in
     let found = c.in_ok-candidate_rows.field-0.items in
     let product = c.in_ok-product.product in
-    let same = IfSome-value (λ t. t ≡ found) c.of.result c.unwrap-candidate.result c.unwrap-candidate.ensures c.of.ensures.rows in
+    let same =
+    IfSome-value (λ t. t ≡ found) c.of.result c.unwrap-candidate.result c.unwrap-candidate.ensures c.of.ensures.rows in
     let is : IsProduct k found product = subst (λ xs. IsProduct k xs product) same c.in_ok-product.ensures in
     candidate-is_not k rows found c.in_ok-candidate_rows.ensures product
     (ArePositive-table rows c.rows-rows.ensures.table)

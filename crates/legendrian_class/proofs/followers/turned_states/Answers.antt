@@ -10,13 +10,18 @@ use Rattle.legendrian_class.proofs.followers.turned_states.Goals as goal
 pub loop-code-preserved : goal.loop-code-preserved
 loop-code-preserved c =
     let codes = c.codes-code-items.result.now in
-    let below = subst (λ (xs : List ℕ). All (λ code. code < factorial c.args.n) xs) (sym c.codes-code-items.ensures) c.requires.states in
-    turned_added c.args.side c.args.n codes c.loop-code.code-index (get_or codes c.loop-code.code-index 0) _ _ _ _ _ c.loop-code-test.true refl
-    (below c.loop-code.code-index 0 c.loop-code-test.true) c.unrank.ensures.state c.turn_state.ensures.state c.rank.ensures.rank c.loop-code.invariant c.in_ok-toggle.ensures.toggled
+    let below =
+    subst (λ (xs : List ℕ). All (λ code. code < factorial c.args.n) xs)
+    (sym c.codes-code-items.ensures) c.requires.states in
+    turned_added c.args.side c.args.n codes c.loop-code.code-index
+    (get_or codes c.loop-code.code-index 0) _ _ _ _ _ c.loop-code-test.true refl
+    (below c.loop-code.code-index 0 c.loop-code-test.true) c.unrank.ensures.state c.turn_state.ensures.state
+    c.rank.ensures.rank c.loop-code.invariant c.in_ok-toggle.ensures.toggled
 
 pub returns : goal.returns
 returns c =
     let codes = c.codes-code-items.result.now in
-    let sum = c.loop-code.invariant ∙ ap (sum_of_turned c.args.side c.args.n) (take_all c.loop-code.code-index codes c.loop-code-test.false)
+    let sum = c.loop-code.invariant
+    ∙ ap (sum_of_turned c.args.side c.args.n) (take_all c.loop-code.code-index codes c.loop-code-test.false)
     ∙ all_turned c.args.side c.args.n codes c.args.z.now c.codes-code-items.ensures in
     IfOk-weaker c.finish.result _ _ (λ z e. e ∙ sum) c.finish.ensures

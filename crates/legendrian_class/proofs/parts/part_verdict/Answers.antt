@@ -13,13 +13,20 @@ use Rattle.legendrian_class.proofs.parts.part_verdict.Goals as goal
 pub returns-in_default : goal.returns-in_default
 returns-in_default c =
     let fits : SFits w32 c.args.a = search rules in
-    null-pushed (at_second c.args.a (grid_complex c.args.g.now)) c.in_ok-slice.slice.slice c.reduce.new.slice.slice (log_of c.in_ok-log.log) c.args.part.now
-    (c.in_ok-slice.ensures ∙ ap (λ a. at_second a (grid_complex c.args.g.now)) (to_z-of_z w32 c.args.a fits)) c.in_ok-log.ensures.reduced (part_rules c.args.g.now c.args.a c.size-size.ensures.grid) c.requires.cycle
-    c.in_ok-pushed.pushed.correction (sym c.in_ok-pushed.ensures.rest ∙ c.in_default.ensures.none refl) c.in_ok-pushed.ensures.correction
+    null-pushed (at_second c.args.a (grid_complex c.args.g.now)) c.in_ok-slice.slice.slice c.reduce.new.slice.slice
+    (log_of c.in_ok-log.log) c.args.part.now
+    (c.in_ok-slice.ensures ∙ ap (λ a. at_second a (grid_complex c.args.g.now)) (to_z-of_z w32 c.args.a fits))
+    c.in_ok-log.ensures.reduced (part_rules c.args.g.now c.args.a c.size-size.ensures.grid) c.requires.cycle
+    c.in_ok-pushed.pushed.correction
+    (sym c.in_ok-pushed.ensures.rest ∙ c.in_default.ensures.none refl) c.in_ok-pushed.ensures.correction
 
 pub returns : goal.returns
 returns c =
     let fits : SFits w32 c.args.a = search rules in
-    alive-pulled (at_second c.args.a (grid_complex c.args.g.now)) c.in_ok-slice.slice.slice c.reduce.new.slice.slice (log_of c.in_ok-log.log) c.args.part.now
-    (c.in_ok-slice.ensures ∙ ap (λ a. at_second a (grid_complex c.args.g.now)) (to_z-of_z w32 c.args.a fits)) c.in_ok-log.ensures.reduced (part_rules c.args.g.now c.args.a c.size-size.ensures.grid) c.requires.cycle
-    c.in_ok-cocycle.cocycle c.in-Some.code c.requires.cells (sym (ap (λ z. holds z c.in-Some.code) c.in_ok-pushed.ensures.rest) ∙ c.in-Some.ensures.least.0) c.in_ok-cocycle.ensures.map
+    alive-pulled (at_second c.args.a (grid_complex c.args.g.now)) c.in_ok-slice.slice.slice c.reduce.new.slice.slice
+    (log_of c.in_ok-log.log) c.args.part.now
+    (c.in_ok-slice.ensures ∙ ap (λ a. at_second a (grid_complex c.args.g.now)) (to_z-of_z w32 c.args.a fits))
+    c.in_ok-log.ensures.reduced (part_rules c.args.g.now c.args.a c.size-size.ensures.grid) c.requires.cycle
+    c.in_ok-cocycle.cocycle c.in-Some.code c.requires.cells
+    (sym (ap (λ z. holds z c.in-Some.code) c.in_ok-pushed.ensures.rest) ∙ c.in-Some.ensures.least.0)
+    c.in_ok-cocycle.ensures.map

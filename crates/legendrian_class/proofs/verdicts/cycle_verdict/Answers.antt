@@ -18,12 +18,15 @@ use Rattle.legendrian_class.proofs.VerdictLemmas.{IsNull-by, IsAlive-by}
 use Rattle.legendrian_class.proofs.verdicts.cycle_verdict.Goals as goal
 
 pub loop-code-init : goal.loop-code-init
-loop-code-init c = null-start c.args.g.now c.args.z.now c.in_ok-left.left c.empty-bound.result c.empty-bound.ensures c.in_ok-left.ensures
+loop-code-init c =
+    null-start c.args.g.now c.args.z.now c.in_ok-left.left c.empty-bound.result c.empty-bound.ensures
+    c.in_ok-left.ensures
 
 pub unrank-requires-clause-rank : goal.unrank-requires-clause-rank
 unrank-requires-clause-rank c =
     subst (λ n. c.in-Some.code < factorial n) (sym c.size-n.ensures.size)
-    (each_code (λ code. code < factorial (size c.args.g.now)) c.args.z.now c.requires.states c.in-Some.code (c.loop-code.invariant.within c.in-Some.code c.in-Some.ensures.least.0))
+    (each_code (λ code. code < factorial (size c.args.g.now)) c.args.z.now c.requires.states c.in-Some.code
+    (c.loop-code.invariant.within c.in-Some.code c.in-Some.ensures.least.0))
 
 pub part_verdict-requires-clause-cells : goal.part_verdict-requires-clause-cells
 part_verdict-requires-clause-cells c =
@@ -35,14 +38,16 @@ pub part_verdict-requires-clause-cycle : goal.part_verdict-requires-clause-cycle
 part_verdict-requires-clause-cycle c =
     let a = to_z w32 (of_z w32 c.alexander-a.result) in
     ap (border (at_second a (grid_complex c.args.g.now))) c.in_ok-part.ensures
-    ∙ part-cycle c.args.g.now a c.size-n.ensures.grid c.args.z.now c.requires.states (border-grid_complex c.args.g.now c.args.z.now ∙ c.requires.cycle)
+    ∙ part-cycle c.args.g.now a c.size-n.ensures.grid c.args.z.now c.requires.states
+    (border-grid_complex c.args.g.now c.args.z.now ∙ c.requires.cycle)
 
 pub returns-in-Alive : goal.returns-in-Alive
 returns-in-Alive c =
     let g = c.args.g.now in
     let a = to_z w32 (of_z w32 c.alexander-a.result) in
     IsAlive-by g c.args.z.now c.in-Alive.cocycle
-    (alive-whole g c.size-n.ensures.grid c.args.z.now c.requires.states a c.in_ok-part.part c.in_ok-part.ensures (border-grid_complex g c.args.z.now ∙ c.requires.cycle) c.in-Alive.cocycle
+    (alive-whole g c.size-n.ensures.grid c.args.z.now c.requires.states a c.in_ok-part.part c.in_ok-part.ensures
+    (border-grid_complex g c.args.z.now ∙ c.requires.cycle) c.in-Alive.cocycle
     (subst (IsPartVerdict (at_second a (grid_complex g)) c.in_ok-part.part) c.in-Alive.is c.in_ok-cocycle.ensures))
 
 pub loop-code-smaller : goal.loop-code-smaller
@@ -51,9 +56,11 @@ loop-code-smaller c =
     let a : ℤ = to_z w32 (of_z w32 c.alexander-a.result) in
     let fits : SFits w32 c.alexander-a.result = search rules in
     let at_code : a ≡ alexander_at g c.in-Some.code =
-    to_z-of_z w32 c.alexander-a.result fits ∙ c.alexander-a.ensures.degree ∙ ap (alexander g) (c.unrank.ensures.state ∙ ap (λ n. unrank n c.in-Some.code) c.size-n.ensures.size) in
+    to_z-of_z w32 c.alexander-a.result fits ∙ c.alexander-a.ensures.degree
+    ∙ ap (alexander g) (c.unrank.ensures.state ∙ ap (λ n. unrank n c.in-Some.code) c.size-n.ensures.size) in
     subst (λ left. length (codes left) < length (codes c.loop-code.left)) (sym c.in_ok-left-2.ensures)
-    (less-left g c.size-n.ensures.grid c.args.z.now c.requires.states a c.in_ok-part.part c.in_ok-part.ensures c.loop-code.left c.loop-code.bound c.loop-code.invariant c.in-Some.code c.in-Some.ensures.least.0 at_code)
+    (less-left g c.size-n.ensures.grid c.args.z.now c.requires.states a c.in_ok-part.part c.in_ok-part.ensures
+    c.loop-code.left c.loop-code.bound c.loop-code.invariant c.in-Some.code c.in-Some.ensures.least.0 at_code)
 
 pub loop-code-preserved : goal.loop-code-preserved
 loop-code-preserved c =
@@ -61,13 +68,17 @@ loop-code-preserved c =
     let a : ℤ = to_z w32 (of_z w32 c.alexander-a.result) in
     let fits : SFits w32 c.alexander-a.result = search rules in
     let at_code : a ≡ alexander_at g c.in-Some.code =
-    to_z-of_z w32 c.alexander-a.result fits ∙ c.alexander-a.ensures.degree ∙ ap (alexander g) (c.unrank.ensures.state ∙ ap (λ n. unrank n c.in-Some.code) c.size-n.ensures.size) in
+    to_z-of_z w32 c.alexander-a.result fits ∙ c.alexander-a.ensures.degree
+    ∙ ap (alexander g) (c.unrank.ensures.state ∙ ap (λ n. unrank n c.in-Some.code) c.size-n.ensures.size) in
     let sums = ap₂ (IsNullBut g c.args.z.now) c.in_ok-left-2.ensures c.in_ok-bound-in-Null.ensures in
     subst (λ (T : Type 0). T) (sym sums)
-    (null-next g c.size-n.ensures.grid c.args.z.now c.requires.states a c.in_ok-part.part c.in_ok-part.ensures c.loop-code.left c.loop-code.bound c.loop-code.invariant c.in-Some.code c.in-Some.ensures.least.0 at_code
-    c.in-Null.more (subst (IsPartVerdict (at_second a (grid_complex g)) c.in_ok-part.part) c.in-Null.is c.in_ok-cocycle.ensures))
+    (null-next g c.size-n.ensures.grid c.args.z.now c.requires.states a c.in_ok-part.part c.in_ok-part.ensures
+    c.loop-code.left c.loop-code.bound c.loop-code.invariant c.in-Some.code c.in-Some.ensures.least.0 at_code
+    c.in-Null.more
+    (subst (IsPartVerdict (at_second a (grid_complex g)) c.in_ok-part.part) c.in-Null.is c.in_ok-cocycle.ensures))
 
 pub returns : goal.returns
 returns c =
     IsNull-by c.args.g.now c.args.z.now c.loop-code.bound
-    (null-end c.args.g.now c.args.z.now c.loop-code.left c.loop-code.bound (c.in_default.ensures.none refl) c.loop-code.invariant)
+    (null-end c.args.g.now c.args.z.now c.loop-code.left c.loop-code.bound
+    (c.in_default.ensures.none refl) c.loop-code.invariant)

@@ -7,7 +7,8 @@ give-requires g c = grind (gets, rules, c.take-first.ensures.nodes, c.take-secon
 
 pub get-requires : goal.get-requires
 get-requires g c =
-    let differ : c.take-second.result ≢ c.take-first.result = grind (gets, rules, c.take-first.ensures.nodes, c.take-second.ensures.new) in
+    let differ : c.take-second.result ≢ c.take-first.result =
+    grind (gets, rules, c.take-first.ensures.nodes, c.take-second.ensures.new) in
     grind (gets, rules, c.take-second.ensures.nodes, c.give.ensures.nodes, differ)
 
 pub get-requires-2 : goal.get-requires-2

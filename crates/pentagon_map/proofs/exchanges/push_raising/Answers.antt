@@ -16,13 +16,18 @@ loop-b-preserved-then-is_set_where c =
     let n = length-descending a in
     let some = c.loop-b-test.true in
     let within = c.loop-b.auto.b in
-    let is = raises_is x a odd (b - 1) c.row-row.result c.row.result c.is_set_where.result c.row-row.ensures.row c.row.ensures.row c.is_set_where.ensures in
+    let is = raises_is x a odd
+    (b - 1) c.row-row.result c.row.result c.is_set_where.result c.row-row.ensures.row c.row.ensures.row
+    c.is_set_where.ensures in
     let e = ap length c.push_reserved.ensures.items ∙ length-append c.loop-b.states.items (c.exchange.result ∷ []) in
     let k = c.loop-b.invariant.2 in (
       c.push_reserved.ensures.items
           ∙ ap (λ y. c.loop-b.states.items ++ (y ∷ [])) c.exchange.ensures.state
-          ∙ picked_yes x a (raises x a odd) (reverse (ascending a)) (a - b) (b - 1) (omega arith) (slice_index-descending a b some within) c.args.states.now.items c.loop-b.states.items c.loop-b.invariant.0 (is ∙ c.if-is_set_where.true)
-          ∙ at_next x a (raises x a odd) (reverse (ascending a)) c.args.states.now.items (a - b) (a - (b - 1)) (omega arith),
+          ∙ picked_yes x a (raises x a odd) (reverse (ascending a)) (a - b) (b - 1) (omega arith)
+          (slice_index-descending a b some within) c.args.states.now.items c.loop-b.states.items c.loop-b.invariant.0
+          (is ∙ c.if-is_set_where.true)
+          ∙ at_next x a (raises x a odd) (reverse (ascending a)) c.args.states.now.items (a - b) (a - (b - 1))
+          (omega arith),
       c.push_reserved.ensures.capacity ∙ c.loop-b.invariant.1,
       omega arith,
     )
@@ -36,10 +41,15 @@ loop-b-preserved c =
     let n = length-descending a in
     let some = c.loop-b-test.true in
     let within = c.loop-b.auto.b in
-    let is = raises_is x a odd (b - 1) c.row-row.result c.row.result c.is_set_where.result c.row-row.ensures.row c.row.ensures.row c.is_set_where.ensures in
+    let is = raises_is x a odd
+    (b - 1) c.row-row.result c.row.result c.is_set_where.result c.row-row.ensures.row c.row.ensures.row
+    c.is_set_where.ensures in
     let k = c.loop-b.invariant.2 in (
-      picked_no x a (raises x a odd) (reverse (ascending a)) (a - b) (b - 1) (omega arith) (slice_index-descending a b some within) c.args.states.now.items c.loop-b.states.items c.loop-b.invariant.0 (is ∙ c.if-is_set_where.false)
-          ∙ at_next x a (raises x a odd) (reverse (ascending a)) c.args.states.now.items (a - b) (a - (b - 1)) (omega arith),
+      picked_no x a (raises x a odd) (reverse (ascending a)) (a - b) (b - 1) (omega arith)
+          (slice_index-descending a b some within) c.args.states.now.items c.loop-b.states.items c.loop-b.invariant.0
+          (is ∙ c.if-is_set_where.false)
+          ∙ at_next x a (raises x a odd) (reverse (ascending a)) c.args.states.now.items (a - b) (a - (b - 1))
+          (omega arith),
       c.loop-b.invariant.1,
       omega arith,
     )
@@ -47,4 +57,5 @@ loop-b-preserved c =
 pub returns-clause-items : goal.returns-clause-items
 returns-clause-items c =
     let n = length-descending c.args.a in
-    picked_all c.args.x.now c.args.a (raises c.args.x.now c.args.a c.args.odd) (reverse (ascending c.args.a)) (c.args.a - c.loop-b.b) (omega arith) c.args.states.now.items c.loop-b.states.items c.loop-b.invariant.0
+    picked_all c.args.x.now c.args.a (raises c.args.x.now c.args.a c.args.odd) (reverse (ascending c.args.a))
+    (c.args.a - c.loop-b.b) (omega arith) c.args.states.now.items c.loop-b.states.items c.loop-b.invariant.0

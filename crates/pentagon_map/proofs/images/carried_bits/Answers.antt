@@ -11,7 +11,11 @@ loop-d-preserved c =
     let s = c.size-d-end.ensures.state in
     elim c.if-odd-d-eq1.branch [
       | then-odd-d-eq1 w ↦ subst (AreCarried columns c.args.odd (c.loop-d.d + 1)) (sym w.bits-is)
-          (carried_yes columns s.bijection c.args.odd c.loop-d.d c.loop-d.bits (omega arith) s.size.greatest c.loop-d.invariant w.row.result w.row.ensures.row (sym (shr_and_one c.args.odd c.loop-d.d) ∙ w.if-odd-d-eq1.true))
+          (carried_yes columns s.bijection c.args.odd c.loop-d.d c.loop-d.bits
+          (omega arith) s.size.greatest c.loop-d.invariant w.row.result w.row.ensures.row
+          (sym (shr_and_one c.args.odd c.loop-d.d) ∙ w.if-odd-d-eq1.true))
       | else-odd-d-eq1 w ↦ subst (AreCarried columns c.args.odd (c.loop-d.d + 1)) (sym w.bits-is)
-          (carried_no columns s.bijection c.args.odd c.loop-d.d c.loop-d.bits (omega arith) s.size.greatest c.loop-d.invariant (λ e. w.if-odd-d-eq1.false (shr_and_one c.args.odd c.loop-d.d ∙ e)))
+          (carried_no columns s.bijection c.args.odd c.loop-d.d c.loop-d.bits
+          (omega arith) s.size.greatest c.loop-d.invariant
+          (λ e. w.if-odd-d-eq1.false (shr_and_one c.args.odd c.loop-d.d ∙ e)))
     ]

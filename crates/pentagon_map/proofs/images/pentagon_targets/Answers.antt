@@ -10,8 +10,10 @@ returns-clause-keeps_maslov c k d l =
     let ys = c.targets_across.result.items in
     let s = c.size.ensures.grid in
     let (sy, ey) = c.targets_across.ensures.states k d l in
-    maslov_o-image_of_state c.args.axis g s c.args.c c.requires.below c.requires.commutes c.args.corner c.args.x.now (get_or ys k d) c.size-2.ensures.state c.requires.size sy (ey ∙ c.across-t.ensures.size)
-    (listed_holds (image_of_state c.args.axis g c.args.c c.args.corner c.args.x.now) ys (c.targets_across.ensures.image g c.args.corner s c.across-t.ensures.grid c.crossing_row-w.ensures.row) k d l)
+    maslov_o-image_of_state c.args.axis g s c.args.c c.requires.below c.requires.commutes c.args.corner c.args.x.now
+    (get_or ys k d) c.size-2.ensures.state c.requires.size sy (ey ∙ c.across-t.ensures.size)
+    (listed_holds (image_of_state c.args.axis g c.args.c c.args.corner c.args.x.now) ys
+    (c.targets_across.ensures.image g c.args.corner s c.across-t.ensures.grid c.crossing_row-w.ensures.row) k d l)
 
 pub returns-clause-keeps_alexander : goal.returns-clause-keeps_alexander
 returns-clause-keeps_alexander c k d l =
@@ -19,5 +21,7 @@ returns-clause-keeps_alexander c k d l =
     let ys = c.targets_across.result.items in
     let s = c.size.ensures.grid in
     let (sy, ey) = c.targets_across.ensures.states k d l in
-    alexander-image_of_state c.args.axis g s c.args.c c.requires.below c.requires.commutes c.args.corner c.args.x.now (get_or ys k d) c.size-2.ensures.state c.requires.size sy (ey ∙ c.across-t.ensures.size)
-    (listed_holds (image_of_state c.args.axis g c.args.c c.args.corner c.args.x.now) ys (c.targets_across.ensures.image g c.args.corner s c.across-t.ensures.grid c.crossing_row-w.ensures.row) k d l)
+    alexander-image_of_state c.args.axis g s c.args.c c.requires.below c.requires.commutes c.args.corner c.args.x.now
+    (get_or ys k d) c.size-2.ensures.state c.requires.size sy (ey ∙ c.across-t.ensures.size)
+    (listed_holds (image_of_state c.args.axis g c.args.c c.args.corner c.args.x.now) ys
+    (c.targets_across.ensures.image g c.args.corner s c.across-t.ensures.grid c.crossing_row-w.ensures.row) k d l)

@@ -5,8 +5,10 @@ use Rattle.pentagon_map.proofs.images.targets_across.Goals as goal
 
 pub returns-in-Cols-clause-image : goal.returns-in-Cols-clause-image
 returns-in-Cols-clause-image c g corner sg is crossing =
-    columns_listed c.args.t.now g c.odd_circles.ensures.grid c.args.axis c.args.c c.args.w corner c.args.x.now c.exchanges.ensures.state c.requires.size c.requires.below
-    c.in-Cols.is is crossing c.odd_circles.result c.odd_circles.ensures.odd c.exchanges.result.items c.exchanges.ensures.items
+    columns_listed c.args.t.now g c.odd_circles.ensures.grid c.args.axis c.args.c c.args.w corner c.args.x.now
+    c.exchanges.ensures.state c.requires.size c.requires.below
+    c.in-Cols.is is crossing c.odd_circles.result c.odd_circles.ensures.odd c.exchanges.result.items
+    c.exchanges.ensures.items
 
 pub returns-in-Cols-clause-states : goal.returns-in-Cols-clause-states
 returns-in-Cols-clause-states c =
@@ -15,11 +17,17 @@ returns-in-Cols-clause-states c =
 
 pub returns-in-Rows-clause-image : goal.returns-in-Rows-clause-image
 returns-in-Rows-clause-image c g corner sg is crossing =
-    rows_listed c.args.t.now g c.odd_circles-odd.ensures.grid c.args.axis c.args.c c.args.w corner c.args.x.now c.exchanges-in-Rows.ensures.state c.requires.size c.requires.below
-    sg c.in-Rows.is is crossing c.transpose-columns.result c.transpose-columns.ensures.state c.odd_circles-odd.result c.carried_bits.result c.row.result
-    c.odd_circles-odd.ensures.odd c.carried_bits.ensures c.row.ensures.row c.exchanges-in-Rows.result.items c.exchanges-in-Rows.ensures.items
+    rows_listed c.args.t.now g c.odd_circles-odd.ensures.grid c.args.axis c.args.c c.args.w corner c.args.x.now
+    c.exchanges-in-Rows.ensures.state c.requires.size c.requires.below
+    sg c.in-Rows.is is crossing c.transpose-columns.result c.transpose-columns.ensures.state c.odd_circles-odd.result
+    c.carried_bits.result c.row.result
+    c.odd_circles-odd.ensures.odd c.carried_bits.ensures c.row.ensures.row c.exchanges-in-Rows.result.items
+    c.exchanges-in-Rows.ensures.items
 
 pub returns-in-Rows-clause-states : goal.returns-in-Rows-clause-states
 returns-in-Rows-clause-states c =
-    states_listed c.args.t.now c.odd_circles-odd.ensures.grid c.args.x.now c.exchanges-in-Rows.ensures.state c.requires.size
-    c.row.result c.carried_bits.result (let l = c.row.ensures.below in let e = c.transpose-columns.ensures.size in omega arith) c.exchanges-in-Rows.result.items c.exchanges-in-Rows.ensures.items
+    states_listed c.args.t.now c.odd_circles-odd.ensures.grid c.args.x.now c.exchanges-in-Rows.ensures.state
+    c.requires.size
+    c.row.result c.carried_bits.result
+    (let l = c.row.ensures.below in let e = c.transpose-columns.ensures.size in omega arith)
+    c.exchanges-in-Rows.result.items c.exchanges-in-Rows.ensures.items

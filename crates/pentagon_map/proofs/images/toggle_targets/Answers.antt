@@ -10,11 +10,14 @@ pub loop-y-init : goal.loop-y-init
 loop-y-init c = sym (add-nothing c.args.sum.now)
 
 pub loop-y-preserved : goal.loop-y-preserved
-loop-y-preserved c = toggled _ _ _ _ _ _ _ c.loop-y-test.true c.y-item.is c.rank.ensures.rank c.loop-y.invariant c.in_ok-toggle.ensures.toggled
+loop-y-preserved c =
+    toggled _ _ _ _ _ _ _ c.loop-y-test.true c.y-item.is c.rank.ensures.rank c.loop-y.invariant
+    c.in_ok-toggle.ensures.toggled
 
 pub returns : goal.returns
 returns c g corner sg is crossing =
     let states = c.as_slice-y-items.result.now in
     c.loop-y.invariant
-    ∙ ap (λ ys. c.args.sum.now ⊕ sum_of_ranks ys) (take_all c.loop-y.y-index states c.loop-y-test.false ∙ c.as_slice-y-items.ensures)
+    ∙ ap (λ ys. c.args.sum.now ⊕ sum_of_ranks ys)
+    (take_all c.loop-y.y-index states c.loop-y-test.false ∙ c.as_slice-y-items.ensures)
     ∙ ap (λ z. c.args.sum.now ⊕ z) (all_toggled _ _ (c.targets_across-states.ensures.image g corner sg is crossing))

@@ -15,11 +15,16 @@ turned t b e = ap not e ∙ same 1 (λ z. not (not z)) (λ z. z) refl t
 pub returns-then-is_in_the_way : goal.returns-then-is_in_the_way
 returns-then-is_in_the_way c =
     sym (all_below-false (size c.args.g.now)
-    (λ d. (eqb d (one_down (size c.args.g.now) c.args.c) || eqb d c.args.c) || not (in_range (size c.args.g.now) c.args.r.now.left c.args.r.now.right d && has_mark_from c.args.g.now d c.args.r.now.low c.args.r.now.high))
-    c.loop-d.d (omega arith) (sym (turned _ c.is_in_the_way.result c.is_in_the_way.ensures) ∙ ap not c.if-is_in_the_way.true))
+    (λ d. (eqb d (one_down (size c.args.g.now) c.args.c) || eqb d c.args.c)
+    || not (in_range (size c.args.g.now) c.args.r.now.left c.args.r.now.right d
+    && has_mark_from c.args.g.now d c.args.r.now.low c.args.r.now.high))
+    c.loop-d.d (omega arith) (sym (turned _ c.is_in_the_way.result c.is_in_the_way.ensures)
+    ∙ ap not c.if-is_in_the_way.true))
 
 pub loop-d-preserved : goal.loop-d-preserved
 loop-d-preserved c =
     all_below-more c.loop-d.d
-    (λ d. (eqb d (one_down (size c.args.g.now) c.args.c) || eqb d c.args.c) || not (in_range (size c.args.g.now) c.args.r.now.left c.args.r.now.right d && has_mark_from c.args.g.now d c.args.r.now.low c.args.r.now.high))
+    (λ d. (eqb d (one_down (size c.args.g.now) c.args.c) || eqb d c.args.c)
+    || not (in_range (size c.args.g.now) c.args.r.now.left c.args.r.now.right d
+    && has_mark_from c.args.g.now d c.args.r.now.low c.args.r.now.high))
     c.loop-d.invariant (sym (turned _ c.is_in_the_way.result c.is_in_the_way.ensures) ∙ ap not c.if-is_in_the_way.false)

@@ -9,4 +9,5 @@ use Rattle.pentagon_map.proofs.pentagons.is_unmarked_beside.Given as goal
 
 abbrev pub invariant-loop-d : goal.invariant-loop-d
 invariant-loop-d l =
-    all_below l.d (λ d. (eqb d (one_down (size l.g) l.c) || eqb d l.c) || not (in_range (size l.g) l.r.left l.r.right d && has_mark_from l.g d l.r.low l.r.high)) ≡ true
+    all_below l.d (λ d. (eqb d (one_down (size l.g) l.c) || eqb d l.c)
+    || not (in_range (size l.g) l.r.left l.r.right d && has_mark_from l.g d l.r.low l.r.high)) ≡ true

@@ -9,7 +9,9 @@ loop-b-preserved c =
     let short = c.size-b-end.ensures.grid.is_size.greatest in
     elim c.if-is_odd.branch [
       | then-is_odd w ↦ subst (IsOddBefore c.args.g.now c.args.c c.args.w c.args.x.now (c.loop-b.b + 1)) (sym w.odd-is)
-          (odd_before_yes c.args.g.now c.args.c c.args.w c.args.x.now c.loop-b.b c.loop-b.odd (omega arith) c.loop-b.invariant (sym c.is_odd.ensures ∙ w.if-is_odd.true))
+          (odd_before_yes c.args.g.now c.args.c c.args.w c.args.x.now c.loop-b.b c.loop-b.odd
+          (omega arith) c.loop-b.invariant (sym c.is_odd.ensures ∙ w.if-is_odd.true))
       | else-is_odd w ↦ subst (IsOddBefore c.args.g.now c.args.c c.args.w c.args.x.now (c.loop-b.b + 1)) (sym w.odd-is)
-          (odd_before_no c.args.g.now c.args.c c.args.w c.args.x.now c.loop-b.b c.loop-b.odd c.loop-b.invariant (sym c.is_odd.ensures ∙ w.if-is_odd.false))
+          (odd_before_no c.args.g.now c.args.c c.args.w c.args.x.now c.loop-b.b c.loop-b.odd c.loop-b.invariant
+          (sym c.is_odd.ensures ∙ w.if-is_odd.false))
     ]

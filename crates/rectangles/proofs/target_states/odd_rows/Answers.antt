@@ -10,9 +10,12 @@ loop-b-init c = odd_rows_none c.args.x.now c.args.opens.now c.args.a
 pub loop-b-preserved : goal.loop-b-preserved
 loop-b-preserved c = elim c.if-there-back.branch [
   | then-there-back w ↦ subst (IsOddRows c.args.x.now c.args.opens.now c.args.a (c.loop-b.b + 1)) (sym w.rows-is)
-      (odd_rows_yes c.args.x.now c.args.opens.now c.size-n.ensures.state.bijection c.size-n.ensures.state.size.greatest c.args.a c.loop-b.b c.loop-b.rows c.loop-b.invariant (omega arith) (omega arith) w.if-there-back.true w.row.result w.row.ensures.row)
+      (odd_rows_yes c.args.x.now c.args.opens.now c.size-n.ensures.state.bijection c.size-n.ensures.state.size.greatest
+      c.args.a c.loop-b.b c.loop-b.rows c.loop-b.invariant (omega arith)
+      (omega arith) w.if-there-back.true w.row.result w.row.ensures.row)
   | else-there-back w ↦ subst (IsOddRows c.args.x.now c.args.opens.now c.args.a (c.loop-b.b + 1)) (sym w.rows-is)
-      (odd_rows_no c.args.x.now c.args.opens.now c.size-n.ensures.state.bijection c.size-n.ensures.state.size.greatest c.args.a c.loop-b.b c.loop-b.rows c.loop-b.invariant (omega arith) (omega arith) w.if-there-back.false)
+      (odd_rows_no c.args.x.now c.args.opens.now c.size-n.ensures.state.bijection c.size-n.ensures.state.size.greatest
+      c.args.a c.loop-b.b c.loop-b.rows c.loop-b.invariant (omega arith) (omega arith) w.if-there-back.false)
 ]
 
 pub returns : goal.returns

@@ -6,5 +6,7 @@ use Rattle.rectangles.proofs.target_states.push_above.Given as goal
 
 abbrev pub invariant-loop-a : goal.invariant-loop-a
 invariant-loop-a l =
-    (l.states.items ≡ l.fn.states.items ++ flat_map (exchanges_above l.x l.columns l.odds) (take (l.n - l.a) (reverse (ascending (length l.x)))))
+    (l.states.items
+    ≡ l.fn.states.items
+    ++ flat_map (exchanges_above l.x l.columns l.odds) (take (l.n - l.a) (reverse (ascending (length l.x)))))
     × (l.states.capacity ≡ l.fn.states.capacity)

@@ -15,9 +15,12 @@ push_exchanges-requires-clause-room c =
     let a = c.loop-a.a in
     let n = length-ascending (length x) in
     let here : slice_index (ascending (length x)) a ≡ a = slice_index-ascending (length x) a (omega arith) in
-    let piece : exchanges x columns a (slice_index odds a) (numbers 0 c.row.result) ≡ exchanges_below x columns odds (slice_index (ascending (length x)) a) =
-    ap (λ r. exchanges x columns a (slice_index odds a) (numbers 0 r)) c.row.ensures.row ∙ ap (exchanges_below x columns odds) (sym here) in
-    let h = circle_room (exchanges_below x columns odds) (ascending (length x)) a (omega arith) c.args.states.now.items c.loop-a.states.items _ c.loop-a.invariant.0 piece in
+    let piece : exchanges x columns a (slice_index odds a) (numbers 0 c.row.result)
+    ≡ exchanges_below x columns odds (slice_index (ascending (length x)) a) =
+    ap (λ r. exchanges x columns a (slice_index odds a) (numbers 0 r)) c.row.ensures.row
+    ∙ ap (exchanges_below x columns odds) (sym here) in
+    let h = circle_room (exchanges_below x columns odds) (ascending (length x)) a
+    (omega arith) c.args.states.now.items c.loop-a.states.items _ c.loop-a.invariant.0 piece in
     let k = c.loop-a.invariant.1 in
     let r = c.requires.room in
     omega arith
@@ -30,9 +33,13 @@ loop-a-preserved c =
     let a = c.loop-a.a in
     let n = length-ascending (length x) in
     let here : slice_index (ascending (length x)) a ≡ a = slice_index-ascending (length x) a (omega arith) in
-    let piece : exchanges x columns a (slice_index odds a) (numbers 0 c.row.result) ≡ exchanges_below x columns odds (slice_index (ascending (length x)) a) =
-    ap (λ r. exchanges x columns a (slice_index odds a) (numbers 0 r)) c.row.ensures.row ∙ ap (exchanges_below x columns odds) (sym here) in (
-      c.push_exchanges.ensures.items ∙ circle_more (exchanges_below x columns odds) (ascending (length x)) a (omega arith) c.args.states.now.items c.loop-a.states.items _ c.loop-a.invariant.0 piece,
+    let piece : exchanges x columns a (slice_index odds a) (numbers 0 c.row.result)
+    ≡ exchanges_below x columns odds (slice_index (ascending (length x)) a) =
+    ap (λ r. exchanges x columns a (slice_index odds a) (numbers 0 r)) c.row.ensures.row
+    ∙ ap (exchanges_below x columns odds) (sym here) in (
+      c.push_exchanges.ensures.items
+          ∙ circle_more (exchanges_below x columns odds) (ascending (length x)) a
+          (omega arith) c.args.states.now.items c.loop-a.states.items _ c.loop-a.invariant.0 piece,
       c.push_exchanges.ensures.capacity ∙ c.loop-a.invariant.1,
     )
 
@@ -40,4 +47,6 @@ pub returns-clause-items : goal.returns-clause-items
 returns-clause-items c =
     let n = length-ascending (length c.args.x.now) in
     c.loop-a.invariant.0
-    ∙ ap (λ ys. c.args.states.now.items ++ flat_map (exchanges_below c.args.x.now c.args.columns.now c.args.odds.now) ys) (take_all c.loop-a.a (ascending (length c.args.x.now)) (omega arith))
+    ∙ ap (λ ys. c.args.states.now.items
+    ++ flat_map (exchanges_below c.args.x.now c.args.columns.now c.args.odds.now) ys)
+    (take_all c.loop-a.a (ascending (length c.args.x.now)) (omega arith))

@@ -6,5 +6,6 @@ use Rattle.rectangles.proofs.target_states.push_below.Given as goal
 
 abbrev pub invariant-loop-a : goal.invariant-loop-a
 invariant-loop-a l =
-    (l.states.items ≡ l.fn.states.items ++ flat_map (exchanges_below l.x l.columns l.odds) (take l.a (ascending (length l.x))))
+    (l.states.items
+    ≡ l.fn.states.items ++ flat_map (exchanges_below l.x l.columns l.odds) (take l.a (ascending (length l.x))))
     × (l.states.capacity ≡ l.fn.states.capacity)

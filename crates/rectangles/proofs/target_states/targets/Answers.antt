@@ -17,9 +17,11 @@ use Rattle.rectangles.proofs.Sweep.PushLemmas.{odd_bit-open}
 use Rattle.rectangles.proofs.Sweep.TargetLemmas.{targets_border, targets_few, targets_states}
 use Rattle.rectangles.proofs.target_states.targets.Goals as goal
 
-module _ (g : Marks) (s : IsGrid g) (x : List ℕ) (sx : IsState x) (same : length x ≡ size g) (opens odds columns : List ℕ) (turned : columns ≡ transpose x)
+module _ (g : Marks) (s : IsGrid g) (x : List ℕ) (sx : IsState x) (same : length x ≡ size g)
+    (opens odds columns : List ℕ) (turned : columns ≡ transpose x)
     (has_open : (a b : ℕ) → a < length x → b < length x → bit_at (slice_index opens a) b ≡ cond (is_open g x a b) 1 0)
-    (has_odd : (a b : ℕ) → a < length x → b < length x → bit_at (slice_index odds a) (slice_index x b) ≡ odd_bit opens a b) where
+    (has_odd : (a b : ℕ) → a < length x → b < length x
+    → bit_at (slice_index odds a) (slice_index x b) ≡ odd_bit opens a b) where
   lowered : List (List ℕ)
   lowered = flat_map (exchanges_below x columns odds) (ascending (length x))
 
@@ -32,23 +34,33 @@ module _ (g : Marks) (s : IsGrid g) (x : List ℕ) (sx : IsState x) (same : leng
   border : map rank (lowered ++ raised) ≡ codes (border_of_state g x)
   unfolding lowered raised
   border =
-      (λ i. map rank (flat_map (exchanges_below x (turned i) odds) (ascending (same i)) ++ flat_map (exchanges_above x (turned i) odds) (reverse (ascending (same i)))))
-      ∙ targets_border g s x state odds (λ a b la lb. has_odd a b (omega arith) (omega arith) ∙ odd_bit-open g x opens (length x) a b (omega arith) (omega arith) has_open)
+      (λ i. map rank (flat_map (exchanges_below x (turned i) odds) (ascending (same i))
+      ++ flat_map (exchanges_above x (turned i) odds) (reverse (ascending (same i)))))
+      ∙ targets_border g s x state odds
+      (λ a b la lb. has_odd a b (omega arith) (omega arith)
+      ∙ odd_bit-open g x opens (length x) a b (omega arith) (omega arith) has_open)
 
   few : length lowered + length raised ≤ 45
   unfolding lowered raised
   few =
-      let h = targets_few g s x state odds (λ a b la lb. has_odd a b (omega arith) (omega arith) ∙ odd_bit-open g x opens (length x) a b (omega arith) (omega arith) has_open) in
-      let e : length (lowered ++ raised) ≡ length (flat_map (exchanges_below x (transpose x) odds) (ascending (size g)) ++ flat_map (exchanges_above x (transpose x) odds) (reverse (ascending (size g)))) =
-      λ i. length (flat_map (exchanges_below x (turned i) odds) (ascending (same i)) ++ flat_map (exchanges_above x (turned i) odds) (reverse (ascending (same i)))) in
+      let h = targets_few g s x state odds
+      (λ a b la lb. has_odd a b (omega arith) (omega arith)
+      ∙ odd_bit-open g x opens (length x) a b (omega arith) (omega arith) has_open) in
+      let e : length (lowered ++ raised)
+      ≡ length (flat_map (exchanges_below x (transpose x) odds) (ascending (size g))
+      ++ flat_map (exchanges_above x (transpose x) odds) (reverse (ascending (size g)))) =
+      λ i. length (flat_map (exchanges_below x (turned i) odds) (ascending (same i))
+      ++ flat_map (exchanges_above x (turned i) odds) (reverse (ascending (same i)))) in
       let k = length-append lowered raised in
       omega arith
 
-  room_below : (items : ℕ) (capacity : ℕ) → items ≡ 0 → capacity ≡ 45 → items + length (flat_map (exchanges_below x columns odds) (ascending (length x))) ≤ capacity
+  room_below : (items : ℕ) (capacity : ℕ) → items ≡ 0 → capacity ≡ 45
+      → items + length (flat_map (exchanges_below x columns odds) (ascending (length x))) ≤ capacity
   unfolding lowered raised
   room_below items capacity none all = let h = few in omega arith
 
-  room_above : (items : List (List ℕ)) (capacity : ℕ) → items ≡ flat_map (exchanges_below x columns odds) (ascending (length x)) → capacity ≡ 45
+  room_above : (items : List (List ℕ)) (capacity : ℕ)
+      → items ≡ flat_map (exchanges_below x columns odds) (ascending (length x)) → capacity ≡ 45
       → length items + length (flat_map (exchanges_above x columns odds) (reverse (ascending (length x)))) ≤ capacity
   unfolding lowered raised
   room_above items capacity is all = let h = few in let e = ap length is in omega arith
@@ -56,65 +68,103 @@ module _ (g : Marks) (s : IsGrid g) (x : List ℕ) (sx : IsState x) (same : leng
   each : All (λ y. IsState y × (length y ≡ size g)) (lowered ++ raised)
   unfolding lowered raised
   each =
-      let h = targets_states g s x state odds (λ a b la lb. has_odd a b (omega arith) (omega arith) ∙ odd_bit-open g x opens (length x) a b (omega arith) (omega arith) has_open) in
+      let h = targets_states g s x state odds
+      (λ a b la lb. has_odd a b (omega arith) (omega arith)
+      ∙ odd_bit-open g x opens (length x) a b (omega arith) (omega arith) has_open) in
       subst (All (λ y. IsState y × (length y ≡ size g)))
-      (sym (λ i. flat_map (exchanges_below x (turned i) odds) (ascending (same i)) ++ flat_map (exchanges_above x (turned i) odds) (reverse (ascending (same i))))) h
+      (sym (λ i. flat_map (exchanges_below x (turned i) odds) (ascending (same i))
+      ++ flat_map (exchanges_above x (turned i) odds) (reverse (ascending (same i))))) h
 
-  each_listed : (items : List (List ℕ)) → items ≡ flat_map (exchanges_below x columns odds) (ascending (length x)) ++ flat_map (exchanges_above x columns odds) (reverse (ascending (length x)))
+  each_listed : (items : List (List ℕ))
+      → items ≡ flat_map (exchanges_below x columns odds) (ascending (length x))
+      ++ flat_map (exchanges_above x columns odds) (reverse (ascending (length x)))
       → All (λ y. IsState y × (length y ≡ size g)) items
   unfolding lowered raised
   each_listed items is = subst (All (λ y. IsState y × (length y ≡ size g))) (sym is) each
 
-  listed : (items : List (List ℕ)) → items ≡ flat_map (exchanges_below x columns odds) (ascending (length x)) ++ flat_map (exchanges_above x columns odds) (reverse (ascending (length x)))
+  listed : (items : List (List ℕ))
+      → items ≡ flat_map (exchanges_below x columns odds) (ascending (length x))
+      ++ flat_map (exchanges_above x columns odds) (reverse (ascending (length x)))
       → map rank items ≡ codes (border_of_state g x)
   unfolding lowered raised
   listed items is = ap (map rank) is ∙ border
 
-  degrees_listed : (items : List (List ℕ)) → items ≡ flat_map (exchanges_below x columns odds) (ascending (length x)) ++ flat_map (exchanges_above x columns odds) (reverse (ascending (length x)))
+  degrees_listed : (items : List (List ℕ))
+      → items ≡ flat_map (exchanges_below x columns odds) (ascending (length x))
+      ++ flat_map (exchanges_above x columns odds) (reverse (ascending (length x)))
       → All (λ y. bidegree g x ≡ up_m (bidegree g y)) items
   degrees_listed items is = bidegree-listed g s x state items (listed items is) (each_listed items is)
 
 pub push_below-requires-clause-room : goal.push_below-requires-clause-room
 push_below-requires-clause-room c =
-    room_below c.args.g.now c.open_rectangles-opens.ensures.grid c.args.x.now c.odd_pairs-odds.ensures.state c.requires.size
-    c.open_rectangles-opens.result c.odd_pairs-odds.result c.transpose-columns.result c.transpose-columns.ensures.state c.open_rectangles-opens.ensures.rectangles c.odd_pairs-odds.ensures.odd
-    (length c.new-states.result.items) c.new-states.result.capacity (ap length c.new-states.ensures.items) c.new-states.ensures.capacity
+    room_below c.args.g.now c.open_rectangles-opens.ensures.grid c.args.x.now c.odd_pairs-odds.ensures.state
+    c.requires.size
+    c.open_rectangles-opens.result c.odd_pairs-odds.result c.transpose-columns.result c.transpose-columns.ensures.state
+    c.open_rectangles-opens.ensures.rectangles c.odd_pairs-odds.ensures.odd
+    (length c.new-states.result.items) c.new-states.result.capacity
+    (ap length c.new-states.ensures.items) c.new-states.ensures.capacity
 
 pub push_above-requires-clause-room : goal.push_above-requires-clause-room
 push_above-requires-clause-room c =
-    room_above c.args.g.now c.open_rectangles-opens.ensures.grid c.args.x.now c.odd_pairs-odds.ensures.state c.requires.size
-    c.open_rectangles-opens.result c.odd_pairs-odds.result c.transpose-columns.result c.transpose-columns.ensures.state c.open_rectangles-opens.ensures.rectangles c.odd_pairs-odds.ensures.odd
+    room_above c.args.g.now c.open_rectangles-opens.ensures.grid c.args.x.now c.odd_pairs-odds.ensures.state
+    c.requires.size
+    c.open_rectangles-opens.result c.odd_pairs-odds.result c.transpose-columns.result c.transpose-columns.ensures.state
+    c.open_rectangles-opens.ensures.rectangles c.odd_pairs-odds.ensures.odd
     c.push_below.new.states.items c.push_below.new.states.capacity
-    (c.push_below.ensures.items ∙ ap (λ ys. ys ++ flat_map (exchanges_below c.args.x.now c.transpose-columns.result c.odd_pairs-odds.result) (ascending (length c.args.x.now))) c.new-states.ensures.items)
+    (c.push_below.ensures.items
+    ∙ ap (λ ys. ys
+    ++ flat_map (exchanges_below c.args.x.now c.transpose-columns.result c.odd_pairs-odds.result)
+    (ascending (length c.args.x.now))) c.new-states.ensures.items)
     (c.push_below.ensures.capacity ∙ c.new-states.ensures.capacity)
 
 pub returns-clause-border : goal.returns-clause-border
 returns-clause-border c =
     listed c.args.g.now c.open_rectangles-opens.ensures.grid c.args.x.now c.odd_pairs-odds.ensures.state c.requires.size
-    c.open_rectangles-opens.result c.odd_pairs-odds.result c.transpose-columns.result c.transpose-columns.ensures.state c.open_rectangles-opens.ensures.rectangles c.odd_pairs-odds.ensures.odd
+    c.open_rectangles-opens.result c.odd_pairs-odds.result c.transpose-columns.result c.transpose-columns.ensures.state
+    c.open_rectangles-opens.ensures.rectangles c.odd_pairs-odds.ensures.odd
     c.push_above.new.states.items
     (c.push_above.ensures.items
-    ∙ ap (λ ys. ys ++ flat_map (exchanges_above c.args.x.now c.transpose-columns.result c.odd_pairs-odds.result) (reverse (ascending (length c.args.x.now))))
-    (c.push_below.ensures.items ∙ ap (λ ys. ys ++ flat_map (exchanges_below c.args.x.now c.transpose-columns.result c.odd_pairs-odds.result) (ascending (length c.args.x.now))) c.new-states.ensures.items))
+    ∙ ap (λ ys. ys
+    ++ flat_map (exchanges_above c.args.x.now c.transpose-columns.result c.odd_pairs-odds.result)
+    (reverse (ascending (length c.args.x.now))))
+    (c.push_below.ensures.items
+    ∙ ap (λ ys. ys
+    ++ flat_map (exchanges_below c.args.x.now c.transpose-columns.result c.odd_pairs-odds.result)
+    (ascending (length c.args.x.now))) c.new-states.ensures.items))
 
 pub returns-clause-states : goal.returns-clause-states
 returns-clause-states c =
-    each_listed c.args.g.now c.open_rectangles-opens.ensures.grid c.args.x.now c.odd_pairs-odds.ensures.state c.requires.size
-    c.open_rectangles-opens.result c.odd_pairs-odds.result c.transpose-columns.result c.transpose-columns.ensures.state c.open_rectangles-opens.ensures.rectangles c.odd_pairs-odds.ensures.odd
+    each_listed c.args.g.now c.open_rectangles-opens.ensures.grid c.args.x.now c.odd_pairs-odds.ensures.state
+    c.requires.size
+    c.open_rectangles-opens.result c.odd_pairs-odds.result c.transpose-columns.result c.transpose-columns.ensures.state
+    c.open_rectangles-opens.ensures.rectangles c.odd_pairs-odds.ensures.odd
     c.push_above.new.states.items
     (c.push_above.ensures.items
-    ∙ ap (λ ys. ys ++ flat_map (exchanges_above c.args.x.now c.transpose-columns.result c.odd_pairs-odds.result) (reverse (ascending (length c.args.x.now))))
-    (c.push_below.ensures.items ∙ ap (λ ys. ys ++ flat_map (exchanges_below c.args.x.now c.transpose-columns.result c.odd_pairs-odds.result) (ascending (length c.args.x.now))) c.new-states.ensures.items))
+    ∙ ap (λ ys. ys
+    ++ flat_map (exchanges_above c.args.x.now c.transpose-columns.result c.odd_pairs-odds.result)
+    (reverse (ascending (length c.args.x.now))))
+    (c.push_below.ensures.items
+    ∙ ap (λ ys. ys
+    ++ flat_map (exchanges_below c.args.x.now c.transpose-columns.result c.odd_pairs-odds.result)
+    (ascending (length c.args.x.now))) c.new-states.ensures.items))
 
 -- each state of the list has the degree below that of x
-degrees : (c : goal.After-push_above) → All (λ y. bidegree c.args.g.now c.args.x.now ≡ up_m (bidegree c.args.g.now y)) c.push_above.new.states.items
+degrees : (c : goal.After-push_above)
+    → All (λ y. bidegree c.args.g.now c.args.x.now ≡ up_m (bidegree c.args.g.now y)) c.push_above.new.states.items
 degrees c =
-    degrees_listed c.args.g.now c.open_rectangles-opens.ensures.grid c.args.x.now c.odd_pairs-odds.ensures.state c.requires.size
-    c.open_rectangles-opens.result c.odd_pairs-odds.result c.transpose-columns.result c.transpose-columns.ensures.state c.open_rectangles-opens.ensures.rectangles c.odd_pairs-odds.ensures.odd
+    degrees_listed c.args.g.now c.open_rectangles-opens.ensures.grid c.args.x.now c.odd_pairs-odds.ensures.state
+    c.requires.size
+    c.open_rectangles-opens.result c.odd_pairs-odds.result c.transpose-columns.result c.transpose-columns.ensures.state
+    c.open_rectangles-opens.ensures.rectangles c.odd_pairs-odds.ensures.odd
     c.push_above.new.states.items
     (c.push_above.ensures.items
-    ∙ ap (λ ys. ys ++ flat_map (exchanges_above c.args.x.now c.transpose-columns.result c.odd_pairs-odds.result) (reverse (ascending (length c.args.x.now))))
-    (c.push_below.ensures.items ∙ ap (λ ys. ys ++ flat_map (exchanges_below c.args.x.now c.transpose-columns.result c.odd_pairs-odds.result) (ascending (length c.args.x.now))) c.new-states.ensures.items))
+    ∙ ap (λ ys. ys
+    ++ flat_map (exchanges_above c.args.x.now c.transpose-columns.result c.odd_pairs-odds.result)
+    (reverse (ascending (length c.args.x.now))))
+    (c.push_below.ensures.items
+    ∙ ap (λ ys. ys
+    ++ flat_map (exchanges_below c.args.x.now c.transpose-columns.result c.odd_pairs-odds.result)
+    (ascending (length c.args.x.now))) c.new-states.ensures.items))
 
 pub returns-clause-lowers_maslov : goal.returns-clause-lowers_maslov
 returns-clause-lowers_maslov c k d l = ap (λ (p : ℤ × ℤ). p.0) (degrees c k d l)

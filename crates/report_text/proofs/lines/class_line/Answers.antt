@@ -9,7 +9,8 @@ use Rattle.report_text.proofs.lines.class_line.Goals as goal
 pub returns : goal.returns
 returns c =
     let d = c.args.d in
-    let sign = c.in_ok-push.ensures.items ∙ ap₂ (λ (l s : List ℕ). l ++ s) c.in_ok-line.ensures.items c.sign_byte.ensures in
+    let sign =
+    c.in_ok-push.ensures.items ∙ ap₂ (λ (l s : List ℕ). l ++ s) c.in_ok-line.ensures.items c.sign_byte.ensures in
     let x = c.in_ok-push_word.ensures ∙ ap (λ l. l ++ 32 ∷ state_word c.args.x.now) sign in
     let at = c.in_ok-extend_from_slice.ensures.items ∙ ap (λ l. l ++ codes " at ") x in
     let m = printed _ _ d.m (search rules) c.in_ok-push_number.ensures ∙ ap (λ l. l ++ signed_decimal d.m) at in

@@ -19,29 +19,41 @@ pub loop-code-init : goal.loop-code-init
 loop-code-init c =
     let fits : SFits w32 c.args.a = search rules in
     record {
-      cells = subst (λ (a : ℤ). AreCells (at_second a (grid_complex c.args.g.now)) 0 c.new-cells.result.items) (sym (to_z-of_z w32 c.args.a fits))
-          (AreCells-same (at_second c.args.a (grid_complex c.args.g.now)) 0 _ _ c.new-cells.ensures.items (AreCells-none (at_second c.args.a (grid_complex c.args.g.now))));
+      cells = subst (λ (a : ℤ). AreCells (at_second a (grid_complex c.args.g.now)) 0 c.new-cells.result.items)
+          (sym (to_z-of_z w32 c.args.a fits))
+          (AreCells-same (at_second c.args.a (grid_complex c.args.g.now)) 0 _ _ c.new-cells.ensures.items
+          (AreCells-none (at_second c.args.a (grid_complex c.args.g.now))));
       visited = λ l. c.unrank-x.ensures.state ∙ ap (λ n. unrank n 0) c.size.ensures.size;
     }
 
 pub push_cell-requires-clause-rank : goal.push_cell-requires-clause-rank
 push_cell-requires-clause-rank c =
-    let count : c.state_count-code-end.result ≡ factorial (size c.args.g.now) = c.state_count-code-end.ensures ∙ ap factorial c.size-2.ensures.size in
+    let count : c.state_count-code-end.result ≡ factorial (size c.args.g.now) =
+    c.state_count-code-end.ensures ∙ ap factorial c.size-2.ensures.size in
     subst (λ (g : Marks). c.loop-code.code < factorial (size g)) (sym c.of-tables.ensures) (omega arith)
 
 pub loop-code-preserved : goal.loop-code-preserved
 loop-code-preserved c =
-    let count : c.state_count-code-end.result ≡ factorial (size c.args.g.now) = c.state_count-code-end.ensures ∙ ap factorial c.size-2.ensures.size in
+    let count : c.state_count-code-end.result ≡ factorial (size c.args.g.now) =
+    c.state_count-code-end.ensures ∙ ap factorial c.size-2.ensures.size in
     record {
-      cells = subst (λ (g : Marks). AreCells (at_second (to_z w32 (of_z w32 c.args.a)) (grid_complex g)) (c.loop-code.code + 1) c.push_cell.new.cells.items) c.of-tables.ensures c.in_ok-push_cell.ensures;
-      visited = visited-next (size c.args.g.now) c.loop-code.code c.loop-code.x c.advance.new.self c.advance.result (omega arith) c.loop-code.invariant.visited c.advance.ensures.state c.advance.ensures.last;
+      cells = subst (λ (g : Marks). AreCells (at_second (to_z w32 (of_z w32 c.args.a)) (grid_complex g))
+          (c.loop-code.code + 1) c.push_cell.new.cells.items) c.of-tables.ensures c.in_ok-push_cell.ensures;
+      visited =
+          visited-next (size c.args.g.now) c.loop-code.code c.loop-code.x c.advance.new.self c.advance.result
+          (omega arith) c.loop-code.invariant.visited c.advance.ensures.state c.advance.ensures.last;
     }
 
 pub returns : goal.returns
 returns c =
     let fits : SFits w32 c.args.a = search rules in
-    let count : c.state_count-code-end.result ≡ factorial (size c.args.g.now) = c.state_count-code-end.ensures ∙ ap factorial c.size-2.ensures.size in
+    let count : c.state_count-code-end.result ≡ factorial (size c.args.g.now) =
+    c.state_count-code-end.ensures ∙ ap factorial c.size-2.ensures.size in
     let all : c.loop-code.code ≡ factorial (size c.args.g.now) = omega arith in
-    let cells = subst (λ (a : ℤ). AreCells (at_second a (grid_complex c.args.g.now)) c.loop-code.code c.loop-code.cells.items) (to_z-of_z w32 c.args.a fits) c.loop-code.invariant.cells in
+    let cells =
+    subst (λ (a : ℤ). AreCells (at_second a (grid_complex c.args.g.now)) c.loop-code.code c.loop-code.cells.items)
+    (to_z-of_z w32 c.args.a fits) c.loop-code.invariant.cells in
     subst (λ n. AreCells (at_second c.args.a (grid_complex c.args.g.now)) n c.sort_by_key.new.self.items) all
-    (AreCells-sorted (at_second c.args.a (grid_complex c.args.g.now)) c.loop-code.code c.loop-code.cells.items cells c.sort_by_key.new.self.items c.sort_by_key.ensures.permutation)
+    (AreCells-sorted
+    (at_second c.args.a (grid_complex c.args.g.now)) c.loop-code.code c.loop-code.cells.items cells
+    c.sort_by_key.new.self.items c.sort_by_key.ensures.permutation)

@@ -12,7 +12,8 @@ use Rattle.sparse_complex.proofs.builds.keys_of.Goals as goal
 
 pub loop-key-init : goal.loop-key-init
 loop-key-init c =
-    let n : c.state_count.result ≡ factorial (size c.args.g.now) = c.state_count.ensures ∙ ap factorial c.size.ensures.size in
+    let n : c.state_count.result ≡ factorial (size c.args.g.now) =
+    c.state_count.ensures ∙ ap factorial c.size.ensures.size in
     keys-start (factorial (size c.args.g.now)) c.args.cells.now c.in_ok-keys.keys.items
     (c.in_ok-keys.ensures.items_if_clones_equal (λ y e. e) ∙ ap (λ m. replicate m no_key) n)
 
@@ -22,7 +23,9 @@ loop-key-preserved c =
     let m : size c.args.g.now ≤ MAX_SIZE = search rules in
     let f = factorial_fits (size c.args.g.now) m in
     let few = c.requires.few in
-    keys-step (at_second c.args.a (grid_complex c.args.g.now)) (factorial (size c.args.g.now)) c.args.cells.now c.requires c.loop-key.key c.loop-key-test.true (omega arith) c.loop-key.keys.items c.loop-key.invariant
+    keys-step (at_second c.args.a (grid_complex c.args.g.now))
+    (factorial (size c.args.g.now)) c.args.cells.now c.requires c.loop-key.key c.loop-key-test.true
+    (omega arith) c.loop-key.keys.items c.loop-key.invariant
 
 pub returns : goal.returns
 returns c =
@@ -30,4 +33,6 @@ returns c =
     let f = factorial_fits (size c.args.g.now) m in
     let few = c.requires.few in
     let all : c.loop-key.key ≡ length c.args.cells.now = omega arith in
-    keys-end (factorial (size c.args.g.now)) c.args.cells.now c.loop-key.keys.items (omega arith) (subst (λ i. KeysPlace (factorial (size c.args.g.now)) c.args.cells.now i c.loop-key.keys.items) all c.loop-key.invariant)
+    keys-end (factorial (size c.args.g.now)) c.args.cells.now c.loop-key.keys.items (omega arith)
+    (subst (λ i. KeysPlace (factorial (size c.args.g.now)) c.args.cells.now i c.loop-key.keys.items) all
+    c.loop-key.invariant)

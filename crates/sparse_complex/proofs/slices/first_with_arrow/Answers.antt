@@ -8,7 +8,9 @@ use Rattle.sparse_complex.proofs.GraphLemmas.{lt_or_eq}
 use Rattle.sparse_complex.proofs.slices.first_with_arrow.Goals as goal
 
 pub returns-then-index-clause-some_here : goal.returns-then-index-clause-some_here
-returns-then-index-clause-some_here c = λ l. ne_eqb (head_at c.args.links.now.heads.items c.loop-key.key).first_out no_id (λ e. c.if-index.true (ap (λ (h : Head). h.first_out) (sym (head_is _ c.loop-key.key _ l c.index.ensures)) ∙ e))
+returns-then-index-clause-some_here c =
+    λ l. ne_eqb (head_at c.args.links.now.heads.items c.loop-key.key).first_out no_id
+    (λ e. c.if-index.true (ap (λ (h : Head). h.first_out) (sym (head_is _ c.loop-key.key _ l c.index.ensures)) ∙ e))
 
 pub loop-key-preserved : goal.loop-key-preserved
 loop-key-preserved c =
@@ -19,6 +21,8 @@ loop-key-preserved c =
       none_before = λ k b m.
           elim (lt_or_eq k c.loop-key.key m) [
             | inl less ↦ c.loop-key.invariant.none_before k b less
-            | inr is ↦ ap (λ j. (head_at c.args.links.now.heads.items j).first_out) is ∙ ap (λ (h : Head). h.first_out) (head_is _ c.loop-key.key _ l c.index.ensures) ∙ c.if-index.false
+            | inr is ↦
+                ap (λ j. (head_at c.args.links.now.heads.items j).first_out) is
+                ∙ ap (λ (h : Head). h.first_out) (head_is _ c.loop-key.key _ l c.index.ensures) ∙ c.if-index.false
           ];
     }

@@ -15,8 +15,10 @@ loop-key-preserved c =
       | then-find_key-key+in_ok-push w ↦
           subst (λ v. ListsLive keys cells (c.loop-key.key + 1) v.items) (sym w.live-is)
           (subst (ListsLive keys cells (c.loop-key.key + 1)) (sym w.in_ok-push.ensures.items)
-          (ListsLive-more keys cells c.loop-key.key c.loop-key.live.items cell refl c.loop-key.invariant (sym c.find_key.ensures ∙ w.if-find_key-key.true)))
+          (ListsLive-more keys cells c.loop-key.key c.loop-key.live.items cell refl c.loop-key.invariant
+          (sym c.find_key.ensures ∙ w.if-find_key-key.true)))
       | else-find_key-key w ↦
           subst (λ v. ListsLive keys cells (c.loop-key.key + 1) v.items) (sym w.live-is)
-          (ListsLive-same keys cells c.loop-key.key c.loop-key.live.items cell refl c.loop-key.invariant (λ e. w.if-find_key-key.false (c.find_key.ensures ∙ e)))
+          (ListsLive-same keys cells c.loop-key.key c.loop-key.live.items cell refl c.loop-key.invariant
+          (λ e. w.if-find_key-key.false (c.find_key.ensures ∙ e)))
     ]

@@ -9,7 +9,8 @@ pub merged-requires-clause-a_ascending : goal.merged-requires-clause-a_ascending
 merged-requires-clause-a_ascending c = subst IsStrictlyIncreasing (sym c.codes.ensures) (rising-codes c.args.self.now)
 
 pub merged-requires-clause-b_ascending : goal.merged-requires-clause-b_ascending
-merged-requires-clause-b_ascending c = subst IsStrictlyIncreasing (sym c.codes-2.ensures) (rising-codes c.args.other.now)
+merged-requires-clause-b_ascending c =
+    subst IsStrictlyIncreasing (sym c.codes-2.ensures) (rising-codes c.args.other.now)
 
 pub returns : goal.returns
 returns c =

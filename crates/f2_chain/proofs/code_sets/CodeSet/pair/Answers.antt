@@ -6,7 +6,8 @@ use Rattle.f2_chain.proofs.SetLemmas.{parity-take, xor-beq}
 use Rattle.f2_chain.proofs.code_sets.CodeSet.pair.Goals as goal
 
 pub loop-code-preserved : goal.loop-code-preserved
-loop-code-preserved c = xor-beq _ _ _ _ c.loop-code.invariant c.holds-odd.ensures ∙ sym (parity-take _ _ _ c.loop-code-test.true)
+loop-code-preserved c =
+    xor-beq _ _ _ _ c.loop-code.invariant c.holds-odd.ensures ∙ sym (parity-take _ _ _ c.loop-code-test.true)
 
 pub returns : goal.returns
 returns c =

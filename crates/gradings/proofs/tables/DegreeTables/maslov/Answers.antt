@@ -5,9 +5,13 @@ use Rattle.torus_geom.specs.Degrees.{maslov_o}
 use Rattle.gradings.proofs.TableLemmas.{IsFound, maslov_found}
 use Rattle.gradings.proofs.tables.DegreeTables.maslov.Goals as goal
 
-found : (c : goal.After-pairs) → IsFound (maslov_o c.args.self.now c.args.x.now) (c.self.inside.maslov_of_marks +ℤ c.pairs.result -ℤ pos 2 *ℤ pos c.table_sum-o_below.result)
+found : (c : goal.After-pairs)
+    → IsFound (maslov_o c.args.self.now c.args.x.now)
+    (c.self.inside.maslov_of_marks +ℤ c.pairs.result -ℤ pos 2 *ℤ pos c.table_sum-o_below.result)
 found c =
-    maslov_found c.self.inside c.self.invariant c.args.self.now c.self.view_is c.args.x.now c.rows-points.result.now c.rows-points.ensures.state c.requires.one_size c.rows-points.ensures.rows c.table_sum-o_below.result c.table_sum-o_below.ensures.value c.pairs.result c.pairs.ensures.value
+    maslov_found c.self.inside c.self.invariant c.args.self.now c.self.view_is c.args.x.now c.rows-points.result.now
+    c.rows-points.ensures.state c.requires.one_size c.rows-points.ensures.rows c.table_sum-o_below.result
+    c.table_sum-o_below.ensures.value c.pairs.result c.pairs.ensures.value
 
 pub overflow_add-result : goal.overflow_add-result
 overflow_add-result c =

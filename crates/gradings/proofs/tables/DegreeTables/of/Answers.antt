@@ -24,7 +24,8 @@ o_pairs c = c.pairs-o_pairs.ensures.value ∙ ap (λ xs. pairs_of (length xs) xs
 
 x_pairs : (c : goal.After-half) → c.pairs.result ≡ pairs_of (size c.args.g.now) c.args.g.now.x
 x_pairs c =
-    c.pairs.ensures.value ∙ ap (λ xs. pairs_of (length xs) xs) c.x_rows-x.ensures.rows ∙ ap (λ n. pairs_of n c.args.g.now.x) c.o_rows-o.ensures.grid.x.long
+    c.pairs.ensures.value ∙ ap (λ xs. pairs_of (length xs) xs) c.x_rows-x.ensures.rows
+    ∙ ap (λ n. pairs_of n c.args.g.now.x) c.o_rows-o.ensures.grid.x.long
 
 half_found : (c : goal.After-half) → c.half.result ≡ (marks_even c.args.g.now c.o_rows-o.ensures.grid).0
 half_found c =
@@ -69,10 +70,15 @@ invariant_of-result c =
     let rows = ap length at_o in
     record {
       grid = c.o_rows-o.ensures.grid;
-      o_below = subst (λ xs. (c' r : ℕ) → c' < length xs → r < MAX_SIZE → pos (entry c.o_table.result c' r) ≡ left_below (length xs) xs c' r) at_o c.o_table.ensures;
+      o_below =
+          subst (λ xs. (c' r : ℕ) → c' < length xs → r < MAX_SIZE
+          → pos (entry c.o_table.result c' r) ≡ left_below (length xs) xs c' r) at_o c.o_table.ensures;
       weights =
-          subst (λ xs. (c' r : ℕ) → c' < length g.o → r < MAX_SIZE → pos (entry c.weight_table.result c' r) ≡ weight (length g.o) g.o xs c' r) at_x
-          (subst (λ xs. (c' r : ℕ) → c' < length xs → r < MAX_SIZE → pos (entry c.weight_table.result c' r) ≡ weight (length xs) xs c.x_rows-x.result.now c' r) at_o c.weight_table.ensures);
+          subst (λ xs. (c' r : ℕ) → c' < length g.o → r < MAX_SIZE
+          → pos (entry c.weight_table.result c' r) ≡ weight (length g.o) g.o xs c' r) at_x
+          (subst (λ xs. (c' r : ℕ) → c' < length xs → r < MAX_SIZE
+          → pos (entry c.weight_table.result c' r) ≡ weight (length xs) xs c.x_rows-x.result.now c' r) at_o
+          c.weight_table.ensures);
       maslov_of_marks = omega (arith, ints);
       alexander_of_marks = omega (arith, ints);
     }

@@ -10,4 +10,5 @@ use Rattle.legendrian_class.proofs.followers.Follower.new.Goals as goal
 
 pub invariant_of-result : goal.invariant_of-result
 invariant_of-result c =
-    All-codes (λ code. code < factorial (size c.args.g.now)) c.empty.result (λ s h. absurd (false≢true (sym (ap (λ z. holds z s) c.empty.ensures ∙ holds-nothing s) ∙ h)))
+    All-codes (λ code. code < factorial (size c.args.g.now)) c.empty.result
+    (λ s h. absurd (false≢true (sym (ap (λ z. holds z s) c.empty.ensures ∙ holds-nothing s) ∙ h)))

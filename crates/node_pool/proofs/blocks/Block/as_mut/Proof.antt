@@ -49,7 +49,16 @@ module _ (E : Bx) where
   fn' = inst_fn (args E) code.function
 
   abbrev ended : Ended
-  ended = record { signature = record { lifetimes = 1; outlives = []; params = RefMutOf (0 ∷ []) tt (plain (λ _. Row E)) (λ _. tt) ∷ []; result = RefMutOf (0 ∷ []) tt (plain (λ _. R E)) (λ _. tt) }; kept = (no, tt) }
+  ended = record {
+    signature =
+        record {
+          lifetimes = 1;
+          outlives = [];
+          params = RefMutOf (0 ∷ []) tt (plain (λ _. Row E)) (λ _. tt) ∷ [];
+          result = RefMutOf (0 ∷ []) tt (plain (λ _. R E)) (λ _. tt);
+        };
+    kept = (no, tt);
+  }
 
   abbrev stayed : Stays ended.signature.params ended.kept
   stayed = (stay_dropped (mut_ref_to (0 ∷ []) tt (plain (λ _. Row E))) no, tt)
@@ -58,7 +67,9 @@ module _ (E : Bx) where
   spec {𝓤 = 𝓤} 𝓛 κs a = record {
     ghost = Unit {0};
     requires = λ _. emp 𝓤;
-    ensures = λ _ r _. sep 𝓤 (sem 𝓛 (follows (Row E) (R E) a.0.ghost_name r.ghost_name (with_value a.0.now))) (fact 𝓤 (r.now ≡ a.0.now.value));
+    ensures =
+        λ _ r _. sep 𝓤 (sem 𝓛 (follows (Row E) (R E) a.0.ghost_name r.ghost_name (with_value a.0.now)))
+        (fact 𝓤 (r.now ≡ a.0.now.value));
   }
 
 module _ (E : Bx) {M : Type 1} {𝓤 : Ura M} (𝓛 : Logic 𝓤) (κ : Lft) (q : Share) (rb ro : ℕ) (γ : GName) (d : D E) where
@@ -76,51 +87,75 @@ module _ (E : Bx) {M : Type 1} {𝓤 : Ura M} (𝓛 : Logic 𝓤) (κ : Lft) (q 
   module _ (b o : ℕ) (hv : Val) where
     -- all of the block but its value
     abbrev Rest : Fml
-    Rest = fsep (fsep (token E.al d.alloc (bare (τ E)) (block_ptr b o)) (handle E d.alloc hv)) (cell_at full_share (Row E).mir (word E hv b o ∷ []) rb ro)
+    Rest = fsep (fsep (token E.al d.alloc (bare (τ E)) (block_ptr b o)) (handle E d.alloc hv))
+        (cell_at full_share (Row E).mir (word E hv b o ∷ []) rb ro)
 
     -- with any value it is a block again
-    back : d.ptr ≡ block_ptr b o → (w : X E) → ent 𝓤 (sep 𝓤 (sem 𝓛 ((mem (R E)).own_at w b o)) (sem 𝓛 Rest)) (sem 𝓛 ((mem (Row E)).own_at (with_value d w) rb ro))
+    back : d.ptr ≡ block_ptr b o → (w : X E)
+        → ent 𝓤 (sep 𝓤 (sem 𝓛 ((mem (R E)).own_at w b o)) (sem 𝓛 Rest))
+        (sem 𝓛 ((mem (Row E)).own_at (with_value d w) rb ro))
     unfolding part_of
     back at_b w =
-        qed 𝓛 (‵ (part_at (R E) full_share w b o) ∷ ‵ Rest ∷ []) ∵ move ! (1 ∷ []) $ fsplit ! $ fsplit ! $ move ! (3 ∷ 0 ∷ []) $ fjoin ! $ block_in E ! d.alloc w b o $
-        rewrite ! 0 (λ (p : Ptr). ‵ ((Row E).own_val (record { ptr = p; alloc = d.alloc; value = w }) (word E hv b o ∷ []))) (sym at_b) refl $ move ! (1 ∷ 0 ∷ []) $ fjoin ! $
-        fpack ! (List Val) (λ us. fsep (cell_at full_share (Row E).mir us rb ro) ((Row E).own_val (with_value d w) us)) (word E hv b o ∷ []) $ done !
+        qed 𝓛 (‵ (part_at (R E) full_share w b o) ∷ ‵ Rest ∷ []) ∵ move ! (1 ∷ []) $ fsplit ! $ fsplit ! $ move
+        ! (3 ∷ 0 ∷ []) $ fjoin ! $ block_in E ! d.alloc w b o $
+        rewrite ! 0 (λ (p : Ptr). ‵ ((Row E).own_val (record { ptr = p; alloc = d.alloc; value = w })
+        (word E hv b o ∷ []))) (sym at_b) refl $ move ! (1 ∷ 0 ∷ []) $ fjoin ! $
+        fpack ! (List Val) (λ us. fsep (cell_at full_share (Row E).mir us rb ro) ((Row E).own_val (with_value d w) us))
+        (word E hv b o ∷ []) $ done !
 
     abbrev Lent : GName → Fml
-    Lent δ = (MutRef (named 0) κ (R E)).own_val (record { ref_ptr = (b, o); ghost_name = δ; now = d.value }) (vptr b o ∷ [])
+    Lent δ = (MutRef (named 0) κ (R E)).own_val (record { ref_ptr = (b, o); ghost_name = δ; now = d.value })
+        (vptr b o ∷ [])
 
-    exits : (δ : GName) → ent 𝓤 (sep 𝓤 (sem 𝓛 (Lent δ)) (sep 𝓤 (A.lft κ q) (sem 𝓛 (follows (Row E) (R E) γ δ (with_value d))))) (Post (vptr b o))
+    exits : (δ : GName)
+        → ent 𝓤 (sep 𝓤 (sem 𝓛 (Lent δ)) (sep 𝓤 (A.lft κ q) (sem 𝓛 (follows (Row E) (R E) γ δ (with_value d)))))
+        (Post (vptr b o))
     exits δ =
         qed 𝓛 (‵ (Lent δ) ∷ ‵ (flft κ q) ∷ ‵ (follows (Row E) (R E) γ δ (with_value d)) ∷ []) ∵
-        suffices ! _ (ends_at 𝓛 (ended E) (stayed E) (spec E 𝓛) bound (vptr b o) (record { ref_ptr = (b, o); ghost_name = δ; now = d.value }) (tt, tt) (tt, tt)) $
-        nothing ! $ nothing ! $ fjoin ! $ join ! $ nothing ! $ move ! (2 ∷ 0 ∷ []) $ join ! $ join ! $ frame ! $ says ! refl $ done !
+        suffices ! _ (ends_at 𝓛 (ended E) (stayed E) (spec E 𝓛) bound (vptr b o)
+        (record { ref_ptr = (b, o); ghost_name = δ; now = d.value }) (tt, tt) (tt, tt)) $
+        nothing ! $ nothing ! $ fjoin ! $ join ! $ nothing ! $ move ! (2 ∷ 0 ∷ []) $ join ! $ join ! $ frame ! $ says
+        ! refl $ done !
 
   module _ (C : Calls 𝓤 H) (Λ : Loops 𝓤 H) where
-    walk : ent 𝓤 (on_entry 𝓛 (ended E).signature (κ, tt) (q, tt) (self, tt) (vptr rb ro ∷ [], tt)) (WpFn 𝓤 H C Λ (fn' E) (vptr rb ro ∷ []) Post)
+    walk : ent 𝓤 (on_entry 𝓛 (ended E).signature (κ, tt) (q, tt) (self, tt) (vptr rb ro ∷ [], tt))
+        (WpFn 𝓤 H C Λ (fn' E) (vptr rb ro ∷ []) Post)
     walk =
-        qed 𝓛 ((‵ (flft κ q) ⊛ ‵ ftrue) ∷ ‵ (owns (MutRef (named 0) κ (Row E) ∷ []) (self, tt) (vptr rb ro ∷ [], tt)) ∷ []) ∵
+        qed 𝓛 ((‵ (flft κ q) ⊛ ‵ ftrue) ∷ ‵ (owns (MutRef (named 0) κ (Row E) ∷ []) (self, tt) (vptr rb ro ∷ [], tt))
+        ∷ []) ∵
         enter ! C Λ (fn' E) (vptr rb ro ∷ []) _ $ alloc_all ! (λ l. pass_all ! refl ((tt, tt), tt) $
         move ! (1 ∷ []) $ fsplit ! $ fsplit3 ! $ drop ! $ move ! (3 ∷ []) $ split ! $ move ! (2 ∷ 3 ∷ 0 ∷ []) $
         block_opens E ! tt d rb ro (λ b o hv at_b. let R' = Rest b o hv in
         -- [the value; the token with the handle; the word; the open borrow; its two names]
-        first ! $ blocks ! $ sets_last ! (addr ! (through ! refl (fld ! refl (hop ! (look_in ! 2 (sub ! 0 refl (whole !))) (stop !))))) refl (tt, tt) $
-        exec ! C Λ (env (fn' E).locals l) (after 1 (fn' E).body) (at_ret (env (fn' E).locals l) Post) $ sets ! (of_opd ! (get ! refl)) refl (tt, tt) $
+        first ! $ blocks ! $ sets_last
+        ! (addr ! (through ! refl (fld ! refl (hop ! (look_in ! 2 (sub ! 0 refl (whole !))) (stop !))))) refl (tt, tt)
+        $
+        exec ! C Λ (env (fn' E).locals l) (after 1 (fn' E).body) (at_ret (env (fn' E).locals l) Post) $ sets
+        ! (of_opd ! (get ! refl)) refl (tt, tt) $
         move ! (1 ∷ 2 ∷ []) $ fjoin ! $ move ! (2 ∷ 3 ∷ 4 ∷ 1 ∷ 0 ∷ []) $ group ! 5 $
-        use1 𝓛 (later (some (λ (δ : GName). raw (Part 𝓛 (Row E) (R E) (with_value d) (named 0) κ q rb ro b o γ (sem 𝓛 R') (back b o hv at_b) d.value δ))))
-        (lends_Part 𝓛 (Row E) (R E) (with_value d) (named 0) κ q rb ro b o γ (sem 𝓛 R') (back b o hv at_b) ((Row E).coded.code d) ((Row E).coded.code d) d.value) $ await ! tt $ pick ! (λ δ.
+        use1 𝓛 (later (some (λ (δ : GName). raw (Part 𝓛 (Row E) (R E) (with_value d) (named 0) κ q rb ro b o γ
+        (sem 𝓛 R') (back b o hv at_b) d.value δ))))
+        (lends_Part 𝓛 (Row E) (R E) (with_value d) (named 0) κ q rb ro b o γ (sem 𝓛 R') (back b o hv at_b)
+        ((Row E).coded.code d) ((Row E).coded.code d) d.value) $ await ! tt $ pick ! (λ δ.
         returns ! (look_at ! 0 refl) $ free_all ! refl $ keep ! (0 ∷ []) $ by ! (exits b o hv δ))))
 
-meets : (E : Bx) {M : Type 1} {𝓤 : Ura M} (𝓛 : Logic 𝓤) (𝓣 : Tables 𝓤 𝓛.H) → Meets 𝓛 (ended E).signature (WpFn 𝓤 𝓛.H 𝓣.C 𝓣.Λ (fn' E)) (closing 𝓛 (ended E) (spec E 𝓛))
+meets : (E : Bx) {M : Type 1} {𝓤 : Ura M} (𝓛 : Logic 𝓤) (𝓣 : Tables 𝓤 𝓛.H)
+    → Meets 𝓛 (ended E).signature (WpFn 𝓤 𝓛.H 𝓣.C 𝓣.Λ (fn' E)) (closing 𝓛 (ended E) (spec E 𝓛))
 meets E {𝓤 = 𝓤} 𝓛 𝓣 =
-    walk_Meets 𝓛 (ended E) (stayed E) (Goes-spent_ref 𝓛 1 (0 ∷ []) tt (plain (λ _. Row E)), tt) (spec E 𝓛) (WpFn 𝓤 𝓛.H 𝓣.C 𝓣.Λ (fn' E)) (WpFn-mono 𝓤 𝓛.H 𝓛.laws 𝓣 (fn' E))
-    (walked 𝓛 (ended E) (stayed E) (spec E 𝓛) (WpFn 𝓤 𝓛.H 𝓣.C 𝓣.Λ (fn' E)) (λ κs. (mut_vals, tt)) (λ κs. (mut_Tells (named 0) κs.0 (Row E), tt))
-    (λ κs qs bounds a g are. via 𝓤 _ (fst∗ 𝓤 _ (emp 𝓤)) (walk E 𝓛 κs.0 qs.0 a.0.ref_ptr.0 a.0.ref_ptr.1 a.0.ghost_name a.0.now 𝓣.C 𝓣.Λ)))
+    walk_Meets 𝓛 (ended E) (stayed E) (Goes-spent_ref 𝓛 1 (0 ∷ []) tt (plain (λ _. Row E)), tt) (spec E 𝓛)
+    (WpFn 𝓤 𝓛.H 𝓣.C 𝓣.Λ (fn' E)) (WpFn-mono 𝓤 𝓛.H 𝓛.laws 𝓣 (fn' E))
+    (walked 𝓛 (ended E) (stayed E) (spec E 𝓛) (WpFn 𝓤 𝓛.H 𝓣.C 𝓣.Λ (fn' E)) (λ κs. (mut_vals, tt))
+    (λ κs. (mut_Tells (named 0) κs.0 (Row E), tt))
+    (λ κs qs bounds a g are. via 𝓤 _ (fst∗ 𝓤 _ (emp 𝓤))
+    (walk E 𝓛 κs.0 qs.0 a.0.ref_ptr.0 a.0.ref_ptr.1 a.0.ghost_name a.0.now 𝓣.C 𝓣.Λ)))
 
 pub as_mut_spec : {M : Type 1} → statement M
 unfolding tables_of
 as_mut_spec 𝓤 𝓛 𝓜 𝓡 wired T A L LA g d dd allocator glue y =
     let E : Bx = record { row = T; laws = L; al = record { row = A; laws = LA; g = g; d = d; drops = dd } } in
     let 𝓣 : Tables 𝓤 𝓛.H = tables_of 𝓤 𝓛.H 𝓜 (tables 𝓤 𝓛.H 𝓜 𝓡 𝓡.env) in
-    spared 𝓛 (ended E).signature (𝓡.run (𝓡.env (#self (args E)))) (run_framed 𝓤 𝓛.H 𝓜 𝓡 (𝓡.env (#self (args E)))) 2 (T.lives, (A.lives, tt)) (closing 𝓛 (ended E) (spec E 𝓛))
-    (entered 𝓤 𝓛.H (triple_of 𝓛 (ended E).signature (closing 𝓛 (ended E) (spec E 𝓛))) 𝓣.C 𝓣.Λ (#self (args E)) (fn' E) (code.unfolded 𝓤 𝓛.H 𝓜 𝓡 wired (T, (A, tt)) d dd) (meets E 𝓛 𝓣))
+    spared 𝓛 (ended E).signature (𝓡.run (𝓡.env (#self (args E)))) (run_framed 𝓤 𝓛.H 𝓜 𝓡 (𝓡.env (#self (args E)))) 2
+    (T.lives, (A.lives, tt)) (closing 𝓛 (ended E) (spec E 𝓛))
+    (entered 𝓤 𝓛.H (triple_of 𝓛 (ended E).signature (closing 𝓛 (ended E) (spec E 𝓛))) 𝓣.C 𝓣.Λ (#self (args E)) (fn' E)
+    (code.unfolded 𝓤 𝓛.H 𝓜 𝓡 wired (T, (A, tt)) d dd) (meets E 𝓛 𝓣))
     ((y.0.0, y.0.1, tt, y.0.3, y.0.4), y.1)

@@ -42,35 +42,58 @@ use Rattle.node_pool.proofs.blocks.Block.of.Code as code
 
 pub of_spec : {M : Type 1} → statement M
 of_spec 𝓤 𝓛 𝓜 𝓡 wired T A L LA g d dd dt allocator glue glueT =
-    let H = 𝓛.H in let 𝓣 = tables 𝓤 H 𝓜 𝓡 𝓡.env in let E : Bx = record { row = T; laws = L; al = record { row = A; laws = LA; g = g; d = d; drops = dd } } in
+    let H = 𝓛.H in let 𝓣 = tables 𝓤 H 𝓜 𝓡 𝓡.env in
+    let E : Bx = record { row = T; laws = L; al = record { row = A; laws = LA; g = g; d = d; drops = dd } } in
     let given : Args = bounded (a_type ∷ a_type ∷ []) (T, (A, tt)) (dcons d (dcons dd (dcons dt dnil))) in
-    let fn = inst_fn given code.function in let En = ended T A g d dd dt in let c = clauses T A g d dd dt 𝓛 𝓜.mem 𝓡.returns in
+    let fn = inst_fn given code.function in let En = ended T A g d dd dt in
+    let c = clauses T A g d dd dt 𝓛 𝓜.mem 𝓡.returns in
     let stayed : Stays En.signature.params En.kept = (stay_dropped (plain (λ _. B E)) no, tt) in
-    proved_at 𝓛 En stayed c 𝓜 𝓡 (Goes-blank 𝓛 2 (plain (λ _. B E)) no (λ κs x f. tt), tt) (#self given) fn (code.unfolded 𝓤 H 𝓜 𝓡 wired (T, (A, tt)) d dd dt) (λ z are.
-    let κs = z.0.0 in let qs = z.0.1 in let v = z.0.3.0 in let a = v.alloc in let Post : Val → SProp 𝓤 = (walk_of 𝓛 En stayed c).post z in let Run : List Val → SProp 𝓤 = λ ws. WpFn 𝓤 H 𝓣.C 𝓣.Λ fn ws Post in
+    proved_at 𝓛 En stayed c 𝓜 𝓡 (Goes-blank 𝓛 2 (plain (λ _. B E)) no (λ κs x f. tt), tt) (#self given) fn
+    (code.unfolded 𝓤 H 𝓜 𝓡 wired (T, (A, tt)) d dd dt) (λ z are.
+    let κs = z.0.0 in let qs = z.0.1 in let v = z.0.3.0 in let a = v.alloc in
+    let Post : Val → SProp 𝓤 = (walk_of 𝓛 En stayed c).post z in
+    let Run : List Val → SProp 𝓤 = λ ws. WpFn 𝓤 H 𝓣.C 𝓣.Λ fn ws Post in
     let tokens = ‵ (flft κs.0 qs.0) ⊛ ‵ (flft κs.1.0 qs.1.0) ⊛ ‵ ftrue in
-    qed 𝓛 ((tokens ⊛ ‵ (owns (types_at En.signature.params κs) z.0.3 z.0.4)) ∷ raw ((c κs z.0.3).requires z.1) ∷ []) ∵ split ! $ move ! (1 ∷ []) $ fsplit ! $
+    qed 𝓛 ((tokens ⊛ ‵ (owns (types_at En.signature.params κs) z.0.3 z.0.4)) ∷ raw ((c κs z.0.3).requires z.1) ∷ [])
+    ∵ split ! $ move ! (1 ∷ []) $ fsplit ! $
     box_out E ! v z.0.4.0 (λ b o hv e ws fits. box_in E ! v b o v.value e refl $
     -- the box again, at a machine value that has its parts
-    let w : Val = word E hv b o in let typed = box_typed E hv b o fits in let G = triple_of 𝓛 (callee.signature T A g d dd dt) (callee.spec T A g d dd dt 𝓛 𝓜.mem 𝓡.returns) in
+    let w : Val = word E hv b o in let typed = box_typed E hv b o fits in
+    let G = triple_of 𝓛 (callee.signature T A g d dd dt) (callee.spec T A g d dd dt 𝓛 𝓜.mem 𝓡.returns) in
     let y : G.Ghost = ((κs, qs, tt, (v, tt), (w ∷ [], tt)), tt) in let Pair = Tuple (RawPtr ∷ P E ∷ []) in
     fjoin ! $ move ! (1 ∷ 0 ∷ []) $ join ! $ join ! $ use1 𝓛 (raw (G.pre y)) (id⊢ 𝓤 _) $
-    suffices ! (Run (w ∷ [])) (subst (λ (us : List Val). ent 𝓤 (Run (w ∷ [])) (Run us)) (sym (λ i. ws i ++ [])) (id⊢ 𝓤 (Run (w ∷ [])))) $
-    enter ! 𝓣.C 𝓣.Λ fn (w ∷ []) Post $ alloc_all ! (λ l. pass_all ! refl (typed, tt) $ sets ! (of_opd ! (get ! refl)) refl typed $
-    calls_at ! (fm 𝓛 𝓜 𝓡) G (met 𝓤 𝓛 𝓜 𝓡 (code.calls-std_alloc::boxed::Box::into_raw_with_allocator 𝓡.env wired) T A L LA g d dd dt allocator glue glueT) y (and_then ! (get ! refl) (no_more !)) (λ u.
-    use1 𝓛 (later (some (λ (r : Ptr × A.Denot). (tokens ⊛ ‵ (Pair.own_val r (u ∷ []))) ⊛ some (λ (ls : Lasts (callee.ended T A g d dd dt) κs y.0.3).
-    ‵ (lasts (callee.ended T A g d dd dt) κs y.0.3 ls) ⊛ (raw (fact 𝓤 (r.1 ≡ a)) ⊛ ‵ (box_owns (g.dealloc_token a) (R E) r.0 v.value)))))) (id⊢ 𝓤 (G.post y u)) $
+    suffices ! (Run (w ∷ [])) (subst (λ (us : List Val). ent 𝓤 (Run (w ∷ [])) (Run us)) (sym (λ i. ws i ++ []))
+    (id⊢ 𝓤 (Run (w ∷ [])))) $
+    enter ! 𝓣.C 𝓣.Λ fn (w ∷ []) Post $ alloc_all
+    ! (λ l. pass_all ! refl (typed, tt) $ sets ! (of_opd ! (get ! refl)) refl typed $
+    calls_at ! (fm 𝓛 𝓜 𝓡) G
+    (met 𝓤 𝓛 𝓜 𝓡
+    (code.calls-std_alloc::boxed::Box::into_raw_with_allocator 𝓡.env wired) T A L LA g d dd dt allocator glue glueT)
+    y (and_then ! (get ! refl) (no_more !)) (λ u.
+    use1 𝓛 (later (some (λ (r : Ptr × A.Denot). (tokens ⊛ ‵ (Pair.own_val r (u ∷ [])))
+    ⊛ some (λ (ls : Lasts (callee.ended T A g d dd dt) κs y.0.3).
+    ‵ (lasts (callee.ended T A g d dd dt) κs y.0.3 ls)
+    ⊛ (raw (fact 𝓤 (r.1 ≡ a)) ⊛ ‵ (box_owns (g.dealloc_token a) (R E) r.0 v.value)))))) (id⊢ 𝓤 (G.post y u)) $
     await ! tt $ pick ! (λ r. split ! $ move ! (1 ∷ []) $ pick ! (λ _. split3 ! $ drop ! $ heard ! (r.1 ≡ a) (λ same.
-    in_a_block ! r.0 (λ p. box_owns (g.dealloc_token a) (R E) p v.value) (fst∗ 𝓤 (never 𝓤) (sem 𝓛 (g.dealloc_token a (bare (layout T)) null_ptr))) (λ b' o' e'.
+    in_a_block
+    ! r.0 (λ p. box_owns (g.dealloc_token a) (R E) p v.value)
+    (fst∗ 𝓤 (never 𝓤) (sem 𝓛 (g.dealloc_token a (bare (layout T)) null_ptr))) (λ b' o' e'.
     -- [what the box owned; the tokens with the pair]
-    move ! (1 ∷ []) $ split ! $ move ! (1 ∷ []) $ fpick ! (λ vss. fsplit ! $ feq_l ! (λ eu. fsplit ! $ feq_l ! (λ ep. fsplit ! $
-    rewrite ! 0 (λ (s : A.Denot). ‵ ((P E).own_val s vss.1.0)) same refl $ handle_tells E.al ! a vss.1.0 (λ hv' eh fits'.
+    move ! (1 ∷ []) $ split ! $ move ! (1 ∷ []) $ fpick
+    ! (λ vss. fsplit ! $ feq_l ! (λ eu. fsplit ! $ feq_l ! (λ ep. fsplit ! $
+    rewrite ! 0 (λ (s : A.Denot). ‵ ((P E).own_val s vss.1.0)) same refl $ handle_tells E.al
+    ! a vss.1.0 (λ hv' eh fits'.
     let made = box_typed E hv' b' o' fits' in
-    lands_as ! (ap only (eu ∙ (λ j. vstruct (of_list ((ep ∙ ap (λ (p : Ptr). ptr_val p ∷ []) e') j ++ (eh j ++ []))) ∷ []))) refl made $
-    sets ! (of_opd ! (get_in ! (fld ! refl (stop !)) (sub ! 0 refl (whole !)))) refl (tt, tt) $ sets ! (of_opd ! (get_in ! (fld ! refl (stop !)) (sub ! 1 refl (whole !)))) refl fits' $
-    sets ! (of_opd ! (get ! refl)) refl fits' $ sets ! (agg ! (and_then ! (get ! refl) (and_then ! (get ! refl) (no_more !)))) refl made $
+    lands_as ! (ap only (eu ∙ (λ j. vstruct (of_list ((ep ∙ ap (λ (p : Ptr). ptr_val p ∷ []) e') j ++ (eh j ++ [])))
+    ∷ []))) refl made $
+    sets ! (of_opd ! (get_in ! (fld ! refl (stop !)) (sub ! 0 refl (whole !)))) refl (tt, tt) $ sets
+    ! (of_opd ! (get_in ! (fld ! refl (stop !)) (sub ! 1 refl (whole !)))) refl fits' $
+    sets ! (of_opd ! (get ! refl)) refl fits' $ sets
+    ! (agg ! (and_then ! (get ! refl) (and_then ! (get ! refl) (no_more !)))) refl made $
     -- [the handle; nothing; the tokens; what the box owned]
     move ! (3 ∷ 0 ∷ []) $ block_in E ! a v.value b' o' $
-    use0 𝓛 (raw (fact 𝓤 (v.value ≡ v.value))) (fact_i 𝓤 (v.value ≡ v.value) (emp 𝓤) refl) $ nothing ! $ nothing ! $ fjoin ! $
+    use0 𝓛 (raw (fact 𝓤 (v.value ≡ v.value))) (fact_i 𝓤 (v.value ≡ v.value) (emp 𝓤) refl) $ nothing ! $ nothing
+    ! $ fjoin ! $
     returns ! (look_at ! 0 refl) $ free_all ! refl $ keep ! (4 ∷ 0 ∷ 2 ∷ 1 ∷ []) $
-    by ! (leaves 𝓛 En stayed c z (word E hv' b' o') (record { ptr = block_ptr b' o'; alloc = a; value = v.value }) ((tt, (tt, tt)), tt) (tt, tt))))))))))))))
+    by ! (leaves 𝓛 En stayed c z (word E hv' b' o') (record { ptr = block_ptr b' o'; alloc = a; value = v.value })
+    ((tt, (tt, tt)), tt) (tt, tt))))))))))))))

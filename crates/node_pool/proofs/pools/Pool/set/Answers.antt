@@ -7,18 +7,21 @@ use Rattle.node_pool.proofs.pools.Pool.set.Goals as goal
 pub write-requires : goal.write-requires
 write-requires c =
     let p = c.self.inside in
-    let a = live_place p.nodes (free_ids p.nodes p.free p.head) p.fresh c.args.id (ap (λ v. contains_key v.nodes c.args.id) c.self.view_is ∙ c.requires) in
+    let a = live_place p.nodes (free_ids p.nodes p.free p.head) p.fresh c.args.id
+    (ap (λ v. contains_key v.nodes c.args.id) c.self.view_is ∙ c.requires) in
     omega (arith, a.0, c.self.invariant.begun, c.self.invariant.room)
 
 pub invariant_of-self : goal.invariant_of-self
 invariant_of-self c =
     let p = c.self.inside in
     subst (λ ns. IsPool ns p.head p.free p.fresh p.limit) (sym c.write.ensures)
-    (sets_node p.nodes p.head p.free p.fresh p.limit c.args.id c.args.node (ap (λ v. contains_key v.nodes c.args.id) c.self.view_is ∙ c.requires) c.self.invariant).0
+    (sets_node p.nodes p.head p.free p.fresh p.limit c.args.id c.args.node
+    (ap (λ v. contains_key v.nodes c.args.id) c.self.view_is ∙ c.requires) c.self.invariant).0
 
 pub returns-clause-nodes : goal.returns-clause-nodes
 returns-clause-nodes c =
     let p = c.self.inside in
     ap (λ ns. live_map ns (free_ids ns p.free p.head) p.fresh) c.write.ensures
-    ∙ (sets_node p.nodes p.head p.free p.fresh p.limit c.args.id c.args.node (ap (λ v. contains_key v.nodes c.args.id) c.self.view_is ∙ c.requires) c.self.invariant).1
+    ∙ (sets_node p.nodes p.head p.free p.fresh p.limit c.args.id c.args.node
+    (ap (λ v. contains_key v.nodes c.args.id) c.self.view_is ∙ c.requires) c.self.invariant).1
     ∙ ap (λ v. insert v.nodes c.args.id c.args.node) c.self.view_is

@@ -8,7 +8,8 @@ use Rattle.sparse_complex.proofs.links.Links.push_sources.Given as goal
 abbrev pub invariant-loop-at : goal.invariant-loop-at
 invariant-loop-at l = record {
   on : IsOn (ins_from l.self.pool.nodes) (ins_of l.self l.key) l.at;
-  ahead : l.into.items ++ map (code_at l.cells) (froms l.self (ins_from l.self.pool.nodes l.at)) ≡ l.initial.into.items ++ map (code_at l.cells) (sources l.self l.key);
+  ahead : l.into.items ++ map (code_at l.cells) (froms l.self (ins_from l.self.pool.nodes l.at))
+      ≡ l.initial.into.items ++ map (code_at l.cells) (sources l.self l.key);
 }
 
 abbrev pub decreases-loop-at : goal.decreases-loop-at

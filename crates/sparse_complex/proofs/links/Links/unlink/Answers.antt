@@ -9,33 +9,46 @@ pub get-node-requires : goal.get-node-requires
 get-node-requires c = is_node-contains _ _ c.requires.live
 
 pub write_next_out-requires-clause-key : goal.write_next_out-requires-clause-key
-write_next_out-requires-clause-key c = (can_unlink _ _ c.requires.listed c.args.id c.requires.live _ (node_is _ c.args.id _ c.get-node.ensures.node)).from_in
+write_next_out-requires-clause-key c =
+    (can_unlink _ _ c.requires.listed c.args.id c.requires.live _
+    (node_is _ c.args.id _ c.get-node.ensures.node)).from_in
 
 pub write_next_out-requires-clause-at : goal.write_next_out-requires-clause-at
-write_next_out-requires-clause-at c = (can_unlink _ _ c.requires.listed c.args.id c.requires.live _ (node_is _ c.args.id _ c.get-node.ensures.node)).write_1
+write_next_out-requires-clause-at c =
+    (can_unlink _ _ c.requires.listed c.args.id c.requires.live _
+    (node_is _ c.args.id _ c.get-node.ensures.node)).write_1
 
 pub write_prev_out-requires : goal.write_prev_out-requires
 write_prev_out-requires c = λ e.
     ap (λ ns. is_node ns c.get-node.result.next_out) c.write_next_out.ensures.nodes
-    ∙ (can_unlink _ _ c.requires.listed c.args.id c.requires.live _ (node_is _ c.args.id _ c.get-node.ensures.node)).write_2 e
+    ∙ (can_unlink _ _ c.requires.listed c.args.id c.requires.live _
+    (node_is _ c.args.id _ c.get-node.ensures.node)).write_2 e
 
 pub write_next_in-requires-clause-key : goal.write_next_in-requires-clause-key
 write_next_in-requires-clause-key c =
-    subst (λ hs. c.get-node.result.to < length hs) (sym (c.write_prev_out.ensures.heads ∙ c.write_next_out.ensures.heads))
+    subst (λ hs. c.get-node.result.to < length hs)
+    (sym (c.write_prev_out.ensures.heads ∙ c.write_next_out.ensures.heads))
     (can_unlink _ _ c.requires.listed c.args.id c.requires.live _ (node_is _ c.args.id _ c.get-node.ensures.node)).to_in
 
 pub write_next_in-requires-clause-at : goal.write_next_in-requires-clause-at
 write_next_in-requires-clause-at c = λ e.
-    ap (λ ns. is_node ns c.get-node.result.prev_in) (c.write_prev_out.ensures.nodes ∙ ap (λ ns. with_prev_out ns c.get-node.result.next_out c.get-node.result.prev_out) c.write_next_out.ensures.nodes)
-    ∙ (can_unlink _ _ c.requires.listed c.args.id c.requires.live _ (node_is _ c.args.id _ c.get-node.ensures.node)).write_3 e
+    ap (λ ns. is_node ns c.get-node.result.prev_in)
+    (c.write_prev_out.ensures.nodes
+    ∙ ap (λ ns. with_prev_out ns c.get-node.result.next_out c.get-node.result.prev_out)
+    c.write_next_out.ensures.nodes)
+    ∙ (can_unlink _ _ c.requires.listed c.args.id c.requires.live _
+    (node_is _ c.args.id _ c.get-node.ensures.node)).write_3 e
 
 pub write_prev_in-requires : goal.write_prev_in-requires
 write_prev_in-requires c = λ e.
     ap (λ ns. is_node ns c.get-node.result.next_in)
     (c.write_next_in.ensures.nodes
     ∙ ap (λ ns. with_next_in ns c.get-node.result.prev_in c.get-node.result.next_in)
-    (c.write_prev_out.ensures.nodes ∙ ap (λ ns. with_prev_out ns c.get-node.result.next_out c.get-node.result.prev_out) c.write_next_out.ensures.nodes))
-    ∙ (can_unlink _ _ c.requires.listed c.args.id c.requires.live _ (node_is _ c.args.id _ c.get-node.ensures.node)).write_4 e
+    (c.write_prev_out.ensures.nodes
+    ∙ ap (λ ns. with_prev_out ns c.get-node.result.next_out c.get-node.result.prev_out)
+    c.write_next_out.ensures.nodes))
+    ∙ (can_unlink _ _ c.requires.listed c.args.id c.requires.live _
+    (node_is _ c.args.id _ c.get-node.ensures.node)).write_4 e
 
 pub give-requires : goal.give-requires
 give-requires c =
@@ -45,8 +58,11 @@ give-requires c =
     ∙ ap (λ ns. with_prev_in ns c.get-node.result.next_in c.get-node.result.prev_in)
     (c.write_next_in.ensures.nodes
     ∙ ap (λ ns. with_next_in ns c.get-node.result.prev_in c.get-node.result.next_in)
-    (c.write_prev_out.ensures.nodes ∙ ap (λ ns. with_prev_out ns c.get-node.result.next_out c.get-node.result.prev_out) c.write_next_out.ensures.nodes)))
-    ∙ (can_unlink _ _ c.requires.listed c.args.id c.requires.live _ (node_is _ c.args.id _ c.get-node.ensures.node)).give)
+    (c.write_prev_out.ensures.nodes
+    ∙ ap (λ ns. with_prev_out ns c.get-node.result.next_out c.get-node.result.prev_out)
+    c.write_next_out.ensures.nodes)))
+    ∙ (can_unlink _ _ c.requires.listed c.args.id c.requires.live _
+    (node_is _ c.args.id _ c.get-node.ensures.node)).give)
 
 nodes-after : (c : goal.After-give) → c.give.new.self.nodes ≡ unlinked_nodes c.args.self.now.pool.nodes c.args.id
 nodes-after c =
@@ -56,17 +72,26 @@ nodes-after c =
     ∙ ap (λ ns. with_prev_in ns c.get-node.result.next_in c.get-node.result.prev_in)
     (c.write_next_in.ensures.nodes
     ∙ ap (λ ns. with_next_in ns c.get-node.result.prev_in c.get-node.result.next_in)
-    (c.write_prev_out.ensures.nodes ∙ ap (λ ns. with_prev_out ns c.get-node.result.next_out c.get-node.result.prev_out) c.write_next_out.ensures.nodes)))
-    ∙ unlinked_nodes-is c.args.self.now.pool.nodes c.args.id c.get-node.result (node_is _ c.args.id _ c.get-node.ensures.node)
+    (c.write_prev_out.ensures.nodes
+    ∙ ap (λ ns. with_prev_out ns c.get-node.result.next_out c.get-node.result.prev_out)
+    c.write_next_out.ensures.nodes)))
+    ∙ unlinked_nodes-is c.args.self.now.pool.nodes c.args.id c.get-node.result
+    (node_is _ c.args.id _ c.get-node.ensures.node)
 
-heads-after : (c : goal.After-give) → c.write_prev_in.new.self.heads.items ≡ unlinked_heads c.args.self.now.pool.nodes c.args.self.now.heads.items c.args.id
+heads-after : (c : goal.After-give)
+    → c.write_prev_in.new.self.heads.items
+    ≡ unlinked_heads c.args.self.now.pool.nodes c.args.self.now.heads.items c.args.id
 heads-after c =
     c.write_prev_in.ensures.heads ∙ c.write_next_in.ensures.heads
-    ∙ ap (λ hs. with_first_in hs c.get-node.result.prev_in c.get-node.result.to c.get-node.result.next_in) (c.write_prev_out.ensures.heads ∙ c.write_next_out.ensures.heads)
-    ∙ unlinked_heads-is c.args.self.now.pool.nodes c.args.self.now.heads.items c.args.id c.get-node.result (node_is _ c.args.id _ c.get-node.ensures.node)
+    ∙ ap (λ hs. with_first_in hs c.get-node.result.prev_in c.get-node.result.to c.get-node.result.next_in)
+    (c.write_prev_out.ensures.heads ∙ c.write_next_out.ensures.heads)
+    ∙ unlinked_heads-is c.args.self.now.pool.nodes c.args.self.now.heads.items c.args.id c.get-node.result
+    (node_is _ c.args.id _ c.get-node.ensures.node)
 
 pub returns-clause-unlinked : goal.returns-clause-unlinked
 returns-clause-unlinked c = record { nodes = nodes-after c; heads = heads-after c }
 
 pub returns-clause-listed : goal.returns-clause-listed
-returns-clause-listed c = AreInLists-same _ _ _ _ (nodes-after c) (heads-after c) (AreInLists-unlinked _ _ c.requires.listed c.args.id c.requires.live)
+returns-clause-listed c =
+    AreInLists-same _ _ _ _ (nodes-after c) (heads-after c)
+    (AreInLists-unlinked _ _ c.requires.listed c.args.id c.requires.live)

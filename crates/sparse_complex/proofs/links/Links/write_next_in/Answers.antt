@@ -10,7 +10,8 @@ use Rattle.sparse_complex.proofs.links.Links.write_next_in.Goals as goal
 pub returns-then-at-eq-NO_NODE-clause-heads : goal.returns-then-at-eq-NO_NODE-clause-heads
 returns-then-at-eq-NO_NODE-clause-heads c =
     first-is c.args.self.now.heads.items c.args.at c.args.key _ _ c.if-at-eq-NO_NODE.true
-    (ap (λ (h : Head). record h { first_in = c.args.next }) (sym (head_is c.args.self.now.heads.items c.args.key _ c.requires.key c.index_mut.ensures.value)))
+    (ap (λ (h : Head). record h { first_in = c.args.next })
+    (sym (head_is c.args.self.now.heads.items c.args.key _ c.requires.key c.index_mut.ensures.value)))
 
 pub get-node-requires : goal.get-node-requires
 get-node-requires c = is_node-contains _ _ (c.requires.at (ne_eqb c.args.at no_id c.if-at-eq-NO_NODE.false))
@@ -19,4 +20,5 @@ pub returns-clause-nodes : goal.returns-clause-nodes
 returns-clause-nodes c =
     c.set.ensures.nodes
     ∙ with_node-is c.args.self.now.pool.nodes c.args.at _ _ c.if-at-eq-NO_NODE.false
-    (ap (λ (n : Node). record n { next_in = c.args.next }) (sym (node_is c.args.self.now.pool.nodes c.args.at _ c.get-node.ensures.node)))
+    (ap (λ (n : Node). record n { next_in = c.args.next })
+    (sym (node_is c.args.self.now.pool.nodes c.args.at _ c.get-node.ensures.node)))

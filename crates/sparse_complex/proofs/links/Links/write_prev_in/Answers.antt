@@ -13,4 +13,5 @@ pub returns-clause-nodes : goal.returns-clause-nodes
 returns-clause-nodes c =
     c.set.ensures.nodes
     ∙ with_node-is c.args.self.now.pool.nodes c.args.at _ _ c.if-at-eq-NO_NODE.false
-    (ap (λ (n : Node). record n { prev_in = c.args.prev }) (sym (node_is c.args.self.now.pool.nodes c.args.at _ c.get-node.ensures.node)))
+    (ap (λ (n : Node). record n { prev_in = c.args.prev })
+    (sym (node_is c.args.self.now.pool.nodes c.args.at _ c.get-node.ensures.node)))

@@ -11,32 +11,63 @@ use Rattle.torus_geom.specs.GridComplex.{grid_complex}
 use Rattle.sparse_complex.specs.declared.slices.Cell.{Cell}
 use Rattle.sparse_complex.specs.Inner.Built.{AreCells, AreKeys, AreLinksBelow}
 use Rattle.sparse_complex.proofs.GridPartLemmas.{part_rules, no_cell_past}
-use Rattle.sparse_complex.proofs.BuildLemmas.{stored-built, built-is, built-rules}
+use Rattle.sparse_complex.proofs.BuildLemmas.{kept-built, built-is, built-rules}
 use Rattle.sparse_complex.proofs.slices.AlexSlice.build.Goals as goal
 
-pub of_parts-requires-clause-stored : goal.of_parts-requires-clause-stored
-of_parts-requires-clause-stored c =
+pub of_parts-requires-clause-by_key : goal.of_parts-requires-clause-by_key
+of_parts-requires-clause-by_key c =
     let fits : SFits w32 c.args.a = search rules in
-    let cells = subst (λ (a : ℤ). AreCells (at_second a (grid_complex c.args.g.now)) (factorial (size c.args.g.now)) c.in_ok-cells.cells.items) (to_z-of_z w32 c.args.a fits) c.in_ok-cells.ensures in
-    let keys = subst (λ (cs : List Cell). AreKeys c.in_ok-keys.keys.items cs) c.deref.ensures.value c.in_ok-keys.ensures in
-    let links = subst (λ (a : ℤ). AreLinksBelow (at_second a (grid_complex c.args.g.now)) c.in_ok-cells.cells.items (length c.in_ok-cells.cells.items) c.in_ok-links.links) (to_z-of_z w32 c.args.a fits)
-    (subst (λ (cs : List Cell). AreLinksBelow (at_second (to_z w32 (of_z w32 c.args.a)) (grid_complex c.args.g.now)) cs (length cs) c.in_ok-links.links) c.deref-3.ensures.value c.in_ok-links.ensures) in
-    stored-built (at_second c.args.a (grid_complex c.args.g.now)) (factorial (size c.args.g.now)) (part_rules c.args.g.now c.args.a c.size-size.ensures.grid) refl (no_cell_past c.args.g.now c.args.a) c.in_ok-cells.cells.items cells c.in_ok-keys.keys.items keys c.in_ok-links.links links
+    let cells =
+    subst (λ (a : ℤ). AreCells (at_second a (grid_complex c.args.g.now))
+    (factorial (size c.args.g.now)) c.in_ok-cells.cells.items)
+    (to_z-of_z w32 c.args.a fits) c.in_ok-cells.ensures in
+    let keys =
+    subst (λ (cs : List Cell). AreKeys c.in_ok-keys.keys.items cs) c.deref.ensures.value c.in_ok-keys.ensures in
+    let links =
+    subst (λ (a : ℤ). AreLinksBelow (at_second a (grid_complex c.args.g.now)) c.in_ok-cells.cells.items
+    (length c.in_ok-cells.cells.items) c.in_ok-links.links) (to_z-of_z w32 c.args.a fits)
+    (subst (λ (cs : List Cell). AreLinksBelow (at_second (to_z w32 (of_z w32 c.args.a)) (grid_complex c.args.g.now)) cs
+    (length cs) c.in_ok-links.links) c.deref-3.ensures.value c.in_ok-links.ensures) in
+    kept-built (at_second c.args.a (grid_complex c.args.g.now)) (factorial (size c.args.g.now))
+    (part_rules c.args.g.now c.args.a c.size-size.ensures.grid) refl
+    (no_cell_past c.args.g.now c.args.a) c.in_ok-cells.cells.items cells c.in_ok-keys.keys.items keys
+    c.in_ok-links.links links
 
 pub of_parts-requires-clause-rules : goal.of_parts-requires-clause-rules
 of_parts-requires-clause-rules c =
     let fits : SFits w32 c.args.a = search rules in
-    let cells = subst (λ (a : ℤ). AreCells (at_second a (grid_complex c.args.g.now)) (factorial (size c.args.g.now)) c.in_ok-cells.cells.items) (to_z-of_z w32 c.args.a fits) c.in_ok-cells.ensures in
-    let keys = subst (λ (cs : List Cell). AreKeys c.in_ok-keys.keys.items cs) c.deref.ensures.value c.in_ok-keys.ensures in
-    let links = subst (λ (a : ℤ). AreLinksBelow (at_second a (grid_complex c.args.g.now)) c.in_ok-cells.cells.items (length c.in_ok-cells.cells.items) c.in_ok-links.links) (to_z-of_z w32 c.args.a fits)
-    (subst (λ (cs : List Cell). AreLinksBelow (at_second (to_z w32 (of_z w32 c.args.a)) (grid_complex c.args.g.now)) cs (length cs) c.in_ok-links.links) c.deref-3.ensures.value c.in_ok-links.ensures) in
-    built-rules (at_second c.args.a (grid_complex c.args.g.now)) (factorial (size c.args.g.now)) (part_rules c.args.g.now c.args.a c.size-size.ensures.grid) refl (no_cell_past c.args.g.now c.args.a) c.in_ok-cells.cells.items cells c.in_ok-keys.keys.items keys c.in_ok-links.links links
+    let cells =
+    subst (λ (a : ℤ). AreCells (at_second a (grid_complex c.args.g.now))
+    (factorial (size c.args.g.now)) c.in_ok-cells.cells.items)
+    (to_z-of_z w32 c.args.a fits) c.in_ok-cells.ensures in
+    let keys =
+    subst (λ (cs : List Cell). AreKeys c.in_ok-keys.keys.items cs) c.deref.ensures.value c.in_ok-keys.ensures in
+    let links =
+    subst (λ (a : ℤ). AreLinksBelow (at_second a (grid_complex c.args.g.now)) c.in_ok-cells.cells.items
+    (length c.in_ok-cells.cells.items) c.in_ok-links.links) (to_z-of_z w32 c.args.a fits)
+    (subst (λ (cs : List Cell). AreLinksBelow (at_second (to_z w32 (of_z w32 c.args.a)) (grid_complex c.args.g.now)) cs
+    (length cs) c.in_ok-links.links) c.deref-3.ensures.value c.in_ok-links.ensures) in
+    built-rules (at_second c.args.a (grid_complex c.args.g.now)) (factorial (size c.args.g.now))
+    (part_rules c.args.g.now c.args.a c.size-size.ensures.grid) refl
+    (no_cell_past c.args.g.now c.args.a) c.in_ok-cells.cells.items cells c.in_ok-keys.keys.items keys
+    c.in_ok-links.links links
 
 pub returns : goal.returns
 returns c =
     let fits : SFits w32 c.args.a = search rules in
-    let cells = subst (λ (a : ℤ). AreCells (at_second a (grid_complex c.args.g.now)) (factorial (size c.args.g.now)) c.in_ok-cells.cells.items) (to_z-of_z w32 c.args.a fits) c.in_ok-cells.ensures in
-    let keys = subst (λ (cs : List Cell). AreKeys c.in_ok-keys.keys.items cs) c.deref.ensures.value c.in_ok-keys.ensures in
-    let links = subst (λ (a : ℤ). AreLinksBelow (at_second a (grid_complex c.args.g.now)) c.in_ok-cells.cells.items (length c.in_ok-cells.cells.items) c.in_ok-links.links) (to_z-of_z w32 c.args.a fits)
-    (subst (λ (cs : List Cell). AreLinksBelow (at_second (to_z w32 (of_z w32 c.args.a)) (grid_complex c.args.g.now)) cs (length cs) c.in_ok-links.links) c.deref-3.ensures.value c.in_ok-links.ensures) in
-    ap slice_complex c.of_parts.ensures ∙ built-is (at_second c.args.a (grid_complex c.args.g.now)) (factorial (size c.args.g.now)) (part_rules c.args.g.now c.args.a c.size-size.ensures.grid) refl (no_cell_past c.args.g.now c.args.a) c.in_ok-cells.cells.items cells c.in_ok-keys.keys.items keys c.in_ok-links.links links
+    let cells =
+    subst (λ (a : ℤ). AreCells (at_second a (grid_complex c.args.g.now))
+    (factorial (size c.args.g.now)) c.in_ok-cells.cells.items)
+    (to_z-of_z w32 c.args.a fits) c.in_ok-cells.ensures in
+    let keys =
+    subst (λ (cs : List Cell). AreKeys c.in_ok-keys.keys.items cs) c.deref.ensures.value c.in_ok-keys.ensures in
+    let links =
+    subst (λ (a : ℤ). AreLinksBelow (at_second a (grid_complex c.args.g.now)) c.in_ok-cells.cells.items
+    (length c.in_ok-cells.cells.items) c.in_ok-links.links) (to_z-of_z w32 c.args.a fits)
+    (subst (λ (cs : List Cell). AreLinksBelow (at_second (to_z w32 (of_z w32 c.args.a)) (grid_complex c.args.g.now)) cs
+    (length cs) c.in_ok-links.links) c.deref-3.ensures.value c.in_ok-links.ensures) in
+    ap slice_complex c.of_parts.ensures
+    ∙ built-is (at_second c.args.a (grid_complex c.args.g.now)) (factorial (size c.args.g.now))
+    (part_rules c.args.g.now c.args.a c.size-size.ensures.grid) refl
+    (no_cell_past c.args.g.now c.args.a) c.in_ok-cells.cells.items cells c.in_ok-keys.keys.items keys
+    c.in_ok-links.links links

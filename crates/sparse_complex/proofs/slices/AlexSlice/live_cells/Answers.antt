@@ -12,5 +12,7 @@ pub returns : goal.returns
 returns c =
     IfOk-weaker c.live_among.result _ (λ cells. ListsCells (slice_complex c.args.self.now.slice) cells.items) (λ live l.
     subst (λ v. ListsCells (slice_complex v.slice) live.items) c.self.view_is
-    (ListsCells-live c.self.inside.keys.items c.self.inside.cells.items c.self.inside.links c.self.invariant.stored live.items
-    (subst (λ (t : List ℕ × List Cell). ListsLive t.0 t.1 (length t.1) live.items) (λ i. (c.deref.ensures.value i, c.deref-2.ensures.value i)) l))) c.live_among.ensures
+    (ListsCells-live c.self.inside.keys.items c.self.inside.cells.items c.self.inside.links c.self.invariant.by_key
+    live.items
+    (subst (λ (t : List ℕ × List Cell). ListsLive t.0 t.1 (length t.1) live.items)
+    (λ i. (c.deref.ensures.value i, c.deref-2.ensures.value i)) l))) c.live_among.ensures

@@ -9,5 +9,6 @@ returns-clause-proper c = record {
   low_below = c.row.ensures.below;
   high_below = c.row-2.ensures.below;
   columns = c.requires.apart;
-  rows = λ e. c.row.ensures.state.bijection.apart c.args.left c.args.right c.requires.left_below c.requires.right_below c.requires.apart (sym c.row.ensures.row ∙ e ∙ c.row-2.ensures.row);
+  rows = λ e. c.row.ensures.state.bijection.apart c.args.left c.args.right c.requires.left_below c.requires.right_below
+      c.requires.apart (sym c.row.ensures.row ∙ e ∙ c.row-2.ensures.row);
 }
