@@ -1,7 +1,7 @@
 //! The border of chains: the differential of the fully blocked grid complex over F2.
 //!
 //! Read `border` first. Its contract says that the answer is the border, and that the border of a
-//! border is empty (proofs/BorderLemmas.antt). `targets` lists the states of the border of one state,
+//! border is empty (proofs/Square/BorderLemmas.antt). `targets` lists the states of the border of one state,
 //! in order, and asks for no memory. Contracts see a chain as a set of states by their ranks. Stands on
 //! `torus_geom`, `state_rank` and `f2_chain`.
 //!
