@@ -6,74 +6,76 @@ const A: &str = "grid 2\nO 1 0\nX 0 1\n";
 
 const B: &str = "grid 5\nO 0 1 2 3 4\nX 2 3 4 0 1\n";
 
+// Texts in two parts, each with the fault and the line for which it is refused.
+const REFUSALS: [(&str, &str, TextFault, u32); 38] = [
+    ("", "", TextFault::NoEnd, 1),
+    (A, "", TextFault::NoEnd, 4),
+    (A, "end\nfront\n", TextFault::AfterEnd, 5),
+    (B, "cols 1 over\nend\n", TextFault::NotCommuting, 4),
+    ("grid 10\n", "", TextFault::BadNumber, 1),
+    ("grid 2\nO 1 1\n", "", TextFault::NotPermutation, 2),
+    (
+        "grid 2\nO 0 1\nX 0 1\n",
+        "hats\nend\n",
+        TextFault::SameSquare,
+        3,
+    ),
+    (A, "hats\n", TextFault::BadWord, 4),
+    (A, "class\n", TextFault::BadCount, 4),
+    (A, "class *\n", TextFault::BadChoice, 4),
+    (A, "border 011\n", TextFault::BadState, 4),
+    (A, "chain 01 01\n", TextFault::RepeatedState, 4),
+    // blank lines are counted, and a comment after a word is none
+    (
+        "# a\n\n\tgrid 2\r\n",
+        "O 1 1\n",
+        TextFault::NotPermutation,
+        4,
+    ),
+    (A, "\n# a\n \t\r\n", TextFault::NoEnd, 7),
+    (A, "end\n\n#\nshow\n", TextFault::AfterEnd, 7),
+    (A, "show # a\n", TextFault::BadCount, 4),
+    // the rows of a picture
+    ("picture 2\n", "OX\nOX\nend\n", TextFault::NotPermutation, 3),
+    ("picture 2\n", "O\nX O\nend\n", TextFault::BadCount, 2),
+    ("picture 3\n", "O?\n", TextFault::BadCount, 2),
+    ("picture 3\n", "O?O\n", TextFault::BadChoice, 2),
+    ("picture 4\n", "OOX.\n", TextFault::NotPermutation, 2),
+    ("picture 3\n", "XOX\n", TextFault::NotPermutation, 2),
+    ("picture 3\n", "..X\n", TextFault::NotPermutation, 2),
+    ("picture 3\n", "OX.\n# a\n\nXO.\n", TextFault::NoEnd, 6),
+    (
+        "picture 3\n",
+        "OX.\n# a\n\n.XO\n",
+        TextFault::NotPermutation,
+        5,
+    ),
+    ("picture 2\n", "OX\nXO\nOX\n", TextFault::BadWord, 4),
+    ("picture 10\n", "", TextFault::BadNumber, 1),
+    ("picture\n", "", TextFault::BadCount, 1),
+    ("grid 2\n", "OX\n", TextFault::BadWord, 2),
+    // one carriage return is dropped, and only at the end of a line
+    (A, "show\r\r\n", TextFault::BadWord, 4),
+    (A, "class\r+\n", TextFault::BadWord, 4),
+    // lines that are made to be misread
+    (A, "cols 1 over over\n", TextFault::BadCount, 4),
+    (
+        A,
+        "cols 99999999999999999999999 over\n",
+        TextFault::BadNumber,
+        4,
+    ),
+    (A, "cols 01 over\n", TextFault::BadNumber, 4),
+    (A, "rows 0 upper\n", TextFault::BadChoice, 4),
+    (A, "chain 01 011 01\n", TextFault::BadState, 4),
+    (A, "turn sideways\n", TextFault::BadChoice, 4),
+    (A, "\0\n", TextFault::BadWord, 4),
+];
+
 // Each text is refused for this fault at this line.
 #[test]
 fn refusals(rt: HostRuntime) -> Result<(), Fail> {
-    let rows: [(&str, &str, TextFault, u32); 38] = [
-        ("", "", TextFault::NoEnd, 1),
-        (A, "", TextFault::NoEnd, 4),
-        (A, "end\nfront\n", TextFault::AfterEnd, 5),
-        (B, "cols 1 over\nend\n", TextFault::NotCommuting, 4),
-        ("grid 10\n", "", TextFault::BadNumber, 1),
-        ("grid 2\nO 1 1\n", "", TextFault::NotPermutation, 2),
-        (
-            "grid 2\nO 0 1\nX 0 1\n",
-            "hats\nend\n",
-            TextFault::SameSquare,
-            3,
-        ),
-        (A, "hats\n", TextFault::BadWord, 4),
-        (A, "class\n", TextFault::BadCount, 4),
-        (A, "class *\n", TextFault::BadChoice, 4),
-        (A, "border 011\n", TextFault::BadState, 4),
-        (A, "chain 01 01\n", TextFault::RepeatedState, 4),
-        // blank lines are counted, and a comment after a word is none
-        (
-            "# a\n\n\tgrid 2\r\n",
-            "O 1 1\n",
-            TextFault::NotPermutation,
-            4,
-        ),
-        (A, "\n# a\n \t\r\n", TextFault::NoEnd, 7),
-        (A, "end\n\n#\nshow\n", TextFault::AfterEnd, 7),
-        (A, "show # a\n", TextFault::BadCount, 4),
-        // the rows of a picture
-        ("picture 2\n", "OX\nOX\nend\n", TextFault::NotPermutation, 3),
-        ("picture 2\n", "O\nX O\nend\n", TextFault::BadCount, 2),
-        ("picture 3\n", "O?\n", TextFault::BadCount, 2),
-        ("picture 3\n", "O?O\n", TextFault::BadChoice, 2),
-        ("picture 4\n", "OOX.\n", TextFault::NotPermutation, 2),
-        ("picture 3\n", "XOX\n", TextFault::NotPermutation, 2),
-        ("picture 3\n", "..X\n", TextFault::NotPermutation, 2),
-        ("picture 3\n", "OX.\n# a\n\nXO.\n", TextFault::NoEnd, 6),
-        (
-            "picture 3\n",
-            "OX.\n# a\n\n.XO\n",
-            TextFault::NotPermutation,
-            5,
-        ),
-        ("picture 2\n", "OX\nXO\nOX\n", TextFault::BadWord, 4),
-        ("picture 10\n", "", TextFault::BadNumber, 1),
-        ("picture\n", "", TextFault::BadCount, 1),
-        ("grid 2\n", "OX\n", TextFault::BadWord, 2),
-        // one carriage return is dropped, and only at the end of a line
-        (A, "show\r\r\n", TextFault::BadWord, 4),
-        (A, "class\r+\n", TextFault::BadWord, 4),
-        // lines that are made to be misread
-        (A, "cols 1 over over\n", TextFault::BadCount, 4),
-        (
-            A,
-            "cols 99999999999999999999999 over\n",
-            TextFault::BadNumber,
-            4,
-        ),
-        (A, "cols 01 over\n", TextFault::BadNumber, 4),
-        (A, "rows 0 upper\n", TextFault::BadChoice, 4),
-        (A, "chain 01 011 01\n", TextFault::BadState, 4),
-        (A, "turn sideways\n", TextFault::BadChoice, 4),
-        (A, "\0\n", TextFault::BadWord, 4),
-    ];
-    for (head, rest, fault, line) in rows {
+    for (head, rest, fault, line) in REFUSALS {
         let text = format!(in rt.alloc(); "{head}{rest}")?;
         if text.len() > MAX_TEXT {
             return Err(Fail::from("long"));
