@@ -14,5 +14,5 @@ mod reductions;
 mod steps;
 
 pub use logs::{CancelLog, LogEntry};
-pub use maps::{Pushed, lift, pull, push};
+pub use maps::{Pushed, lift, lift_before, pull, pull_before, push};
 pub use reductions::reduce;

@@ -1,5 +1,5 @@
 //! Chains carried along a log, and cochains carried back.
-ghost use Rattle.std.specs.Prelude.{◌≡◌, ℤ, List, [], length, IfOk, OnOk};
+ghost use Rattle.std.specs.Prelude.{◌≡◌, ◌≤◌, ℤ, List, [], length, take, IfOk, OnOk};
 ghost use Rattle.std.specs.List.{All};
 ghost use Rattle.f2_algebra.specs.Chain.{single as single_of};
 ghost use Rattle.f2_algebra.specs.Complex.{Complex, IsComplex};
@@ -82,6 +82,35 @@ pub fn pull(alloc: Global, log: &CancelLog, code: u32) -> Result<Cochain, NoMemo
         → KeepsPullDegrees C entries }
 {
     pull_along(alloc, log.entries(), code)
+}
+
+/// The lift of `code` by the first `k` entries of the log alone: the chain of the first slice that stands
+/// for the cell `code` of the slice before the entry with the number `k`, from 0.
+///
+/// # Errors
+///
+/// `NoMemory` if the allocator refuses.
+pub fn lift_before(alloc: Global, log: &CancelLog, k: usize, code: u32) -> Result<Chain, NoMemory>
+    requires { k ≤ length log.now }
+    ensures lift { IfOk result (λ z. z ≡ lift_of (take k (log_of log.now)) (single_of code)) }
+{
+    let entries = log.entries();
+    lift_along(alloc, &entries[..k], code)
+}
+
+/// The pull of `code` by the first `k` entries of the log alone: the cochain of the first slice that pairs
+/// oddly with exactly those chains whose rest after these entries holds `code`.
+///
+/// # Errors
+///
+/// `NoMemory` if the allocator refuses.
+pub fn pull_before(alloc: Global, log: &CancelLog, k: usize, code: u32) -> Result<Cochain, NoMemory>
+    requires { k ≤ length log.now }
+    ensures map { IfOk result (λ f. f ≡ pull_of (take k (log_of log.now)) (single_of code)) }
+    ensures pull { IfOk result (λ f. IsPull (take k (log_of log.now)) code f) }
+{
+    let entries = log.entries();
+    pull_along(alloc, &entries[..k], code)
 }
 
 // The lift of a code, from the last of the entries to the first.

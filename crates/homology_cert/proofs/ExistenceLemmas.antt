@@ -65,10 +65,10 @@ between_or_not b z = elim (cases_Bool (int_lt (pos b) z)) [
 ]
 
 -- ---- the numbers between the bounds, the greatest first
-window : ℕ → List ℤ
+pub window : ℕ → List ℤ
 window b = map (λ k. pos b -ℤ pos k) (ascending (b + b + 1))
 
-window-falls : (b : ℕ) → AllPairs (λ x y. y <ℤ x) (window b)
+pub window-falls : (b : ℕ) → AllPairs (λ x y. y <ℤ x) (window b)
 unfolding window
 window-falls b =
     pairs_map (λ (i j : ℕ). i < j) (λ x y. y <ℤ x) (λ k. pos b -ℤ pos k) (ascending (b + b + 1)) (λ i j less. omega (arith, ints, less)) (ascending_rises (b + b + 1))
@@ -77,7 +77,7 @@ place_in : (b : ℕ) (z : ℤ) → IsBetween b z → (k : ℕ) × (k < b + b + 1
 place_in b (pos k) within = let high = within.1 in (b - k, omega (arith, ints, high), omega (arith, ints, high))
 place_in b (negsuc k) within = let low = within.0 in (b + suc k, omega (arith, ints, low), omega (arith, ints, low))
 
-Contains-window : (b : ℕ) (z : ℤ) → IsBetween b z → Contains (window b) z
+pub Contains-window : (b : ℕ) (z : ℤ) → IsBetween b z → Contains (window b) z
 unfolding window
 Contains-window b z within =
     let place = place_in b z within in

@@ -8,4 +8,11 @@ pub mod ExistenceLemmas
 pub mod CheckLemmas
 pub mod PassingLemmas
 pub mod CertifiedLemmas
+pub mod YesLemmas
+pub mod SlicePairLemmas
+pub mod StepCountLemmas
+pub mod MadeLemmas
+pub mod SizeLemmas
+pub mod MakingLaws
+pub mod MakingLemmas
 pub mod TextLemmas

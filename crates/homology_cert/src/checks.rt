@@ -45,7 +45,7 @@ pub fn check_cert(alloc: Global, c: &Cert) -> Result<CertVerdict, NoMemory>
 }
 
 // Whether the state of rank `code` has this bidegree.
-fn has_degree(g: &Grid, d: &Bidegree, code: u32) -> bool
+pub(crate) fn has_degree(g: &Grid, d: &Bidegree, code: u32) -> bool
     requires { code < factorial (size g.now) }
     ensures { result ≡ has_degree_of g.now (d.now.m, d.now.a) code }
 {

@@ -7,12 +7,14 @@
 //! are cancelled, and the cells that are left are counted, in a map from bidegrees to ranks.
 //!
 //! `check_cert` checks a certificate of a table by borders, pairings and counts alone; its contract says
-//! that one that passes tells the table of its grid. `print_cert` gives its text.
+//! that one that passes tells the table of its grid. `make_cert` makes one that passes. `print_cert` gives its
+//! text.
 #![tactic(auto)]
 
 mod certificates;
 mod checks;
 mod degrees;
+mod making;
 mod printing;
 mod ranks;
 mod tables;
@@ -20,6 +22,7 @@ mod verdicts;
 
 pub use certificates::Cert;
 pub use checks::check_cert;
+pub use making::make_cert;
 pub use printing::print_cert;
 pub use tables::rank_table;
 pub use verdicts::{CertTest, CertVerdict};
