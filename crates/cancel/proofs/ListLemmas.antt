@@ -9,11 +9,14 @@ use Rattle.state_rank.proofs.MemberLemmas.{member_cases, no_member, member_of_fi
 use Rattle.sparse_complex.specs.Slices.{ListsOnce}
 
 -- without x the list has the codes other than x
-pub ListsOnce-without : (xs : List ℕ) (test : ℕ → Bool) (x : ℕ) → ListsOnce xs test → ListsOnce (filter (λ s. not (eqb s x)) xs) (λ s. test s && not (eqb s x))
+pub ListsOnce-without : (xs : List ℕ) (test : ℕ → Bool) (x : ℕ) → ListsOnce xs test
+    → ListsOnce (filter (λ s. not (eqb s x)) xs) (λ s. test s && not (eqb s x))
 ListsOnce-without xs test x l = record {
   each = λ c. (
-    (λ m. let (stood, other) = member_of_filter (λ s. not (eqb s x)) xs c m in and_from (test c) (not (eqb c x)) ((l.each c).0 stood) other),
-    (λ e. let (passes, other) = and_parts (test c) (not (eqb c x)) e in Contains-filter (λ s. not (eqb s x)) xs c ((l.each c).1 passes) other),
+    (λ m. let (stood, other) = member_of_filter (λ s. not (eqb s x)) xs c m in
+        and_from (test c) (not (eqb c x)) ((l.each c).0 stood) other),
+    (λ e. let (passes, other) = and_parts (test c) (not (eqb c x)) e in
+        Contains-filter (λ s. not (eqb s x)) xs c ((l.each c).1 passes) other),
   );
   once = pairs_filter (λ b c. b ≢ c) (λ s. not (eqb s x)) xs l.once;
 }
@@ -34,7 +37,8 @@ any-member (x ∷ xs) s m = elim (member_cases x xs s m) [
 pub holds-listed : (xs : List ℕ) (test : ℕ → Bool) → ListsOnce xs test → (s : ℕ) → holds (of_codes xs) s ≡ test s
 holds-listed xs test l s =
     holds-of_codes xs s
-    ∙ both (any s xs) (test s) (λ e. (l.each s).0 (Contains-from_any (λ a b. eqb-true a b) s xs e)) (λ e. any-member xs s ((l.each s).1 e))
+    ∙ both (any s xs) (test s) (λ e. (l.each s).0 (Contains-from_any (λ a b. eqb-true a b) s xs e))
+    (λ e. any-member xs s ((l.each s).1 e))
   where
     both : (a b : Bool) → (a ≡ true → b ≡ true) → (b ≡ true → a ≡ true) → a ≡ b
     both true b f g = sym (f refl)

@@ -17,12 +17,14 @@ use Rattle.cancel.specs.Logs.{entry_of, log_of, HasEachOnce, IsLeftOf}
 
 -- ---- one more entry
 -- a log that stands, with an entry of what is left after it, stands
-IsLog-push : {G : Type 0} (C : Complex G) (log : List Entry) (e : Entry) → IsLog C log → IsEntry (after C log) e → IsLog C (log ++ e ∷ [])
+IsLog-push : {G : Type 0} (C : Complex G) (log : List Entry) (e : Entry) → IsLog C log → IsEntry (after C log) e
+    → IsLog C (log ++ e ∷ [])
 IsLog-push C [] e stands fits = (fits, tt)
 IsLog-push C (d ∷ log) e stands fits = (stands.0, IsLog-push (cancelled C d.x d.y) log e stands.1 fits)
 
 -- what is left after one more entry
-after-push : {G : Type 0} (C : Complex G) (log : List Entry) (e : Entry) → after C (log ++ e ∷ []) ≡ cancelled (after C log) e.x e.y
+after-push : {G : Type 0} (C : Complex G) (log : List Entry) (e : Entry)
+    → after C (log ++ e ∷ []) ≡ cancelled (after C log) e.x e.y
 after-push C [] e = refl
 after-push C (d ∷ log) e = after-push (cancelled C d.x d.y) log e
 
@@ -37,11 +39,17 @@ pub LeadsTo-none : (first : Slice) → LeadsTo first first []
 LeadsTo-none first = record { stands = tt; is_after = refl; once = λ k d l. absurd (omega arith) }
 
 -- one more entry leads on
-pub LeadsTo-push : (first now next : Slice) (entries : List LogEntry) (e : LogEntry) → LeadsTo first now entries → IsEntry (slice_complex now) (entry_of e) → HasEachOnce e → slice_complex next ≡ cancelled (slice_complex now) e.x e.y
+pub LeadsTo-push : (first now next : Slice) (entries : List LogEntry) (e : LogEntry) → LeadsTo first now entries
+    → IsEntry (slice_complex now) (entry_of e) → HasEachOnce e
+    → slice_complex next ≡ cancelled (slice_complex now) e.x e.y
     → LeadsTo first next (entries ++ e ∷ [])
 LeadsTo-push first now next entries e so_far fits once left = record {
-  stands = subst (IsLog (slice_complex first)) (sym (map-append entry_of entries (e ∷ []))) (IsLog-push (slice_complex first) (log_of entries) (entry_of e) so_far.stands (subst (λ C. IsEntry C (entry_of e)) so_far.is_after fits));
-  is_after = left ∙ ap (λ C. cancelled C e.x e.y) so_far.is_after ∙ sym (after-push (slice_complex first) (log_of entries) (entry_of e)) ∙ ap (after (slice_complex first)) (sym (map-append entry_of entries (e ∷ [])));
+  stands = subst (IsLog (slice_complex first)) (sym (map-append entry_of entries (e ∷ [])))
+      (IsLog-push (slice_complex first) (log_of entries) (entry_of e) so_far.stands
+      (subst (λ C. IsEntry C (entry_of e)) so_far.is_after fits));
+  is_after = left ∙ ap (λ C. cancelled C e.x e.y) so_far.is_after
+      ∙ sym (after-push (slice_complex first) (log_of entries) (entry_of e))
+      ∙ ap (after (slice_complex first)) (sym (map-append entry_of entries (e ∷ [])));
   once = All-append HasEachOnce entries (e ∷ []) so_far.once alone;
 }
   where
@@ -50,7 +58,8 @@ LeadsTo-push first now next entries e so_far fits once left = record {
     alone (suc k) d l = absurd (omega arith)
 
 -- what is left when a log breaks off
-pub LeadsTo_IsLeftOf : (first now next : Slice) (entries : List LogEntry) → LeadsTo first now entries → next ≡ now → IsLeftOf first next
+pub LeadsTo_IsLeftOf : (first now next : Slice) (entries : List LogEntry) → LeadsTo first now entries → next ≡ now
+    → IsLeftOf first next
 LeadsTo_IsLeftOf first now next entries so_far same = record {
   log = log_of entries;
   stands = so_far.stands;
@@ -58,7 +67,8 @@ LeadsTo_IsLeftOf first now next entries so_far same = record {
 }
 
 -- where no arrow is left, the slice is reduced
-pub LeadsTo_IsReduced : (first now : Slice) (entries : List LogEntry) → LeadsTo first now entries → ((s t : ℕ) → arrow (slice_complex now) s t ≡ false) → IsReduced first now (log_of entries)
+pub LeadsTo_IsReduced : (first now : Slice) (entries : List LogEntry) → LeadsTo first now entries
+    → ((s t : ℕ) → arrow (slice_complex now) s t ≡ false) → IsReduced first now (log_of entries)
 LeadsTo_IsReduced first now entries so_far none = record {
   stands = so_far.stands;
   is_after = so_far.is_after;
@@ -75,7 +85,8 @@ abbrev pub live_count : Slice → ℕ
 live_count s = cardinality (live_codes s)
 
 holds-live_codes : (s : Slice) (k : ℕ) → holds (live_codes s) k ≡ is_some ((slice_complex s).degree k)
-holds-live_codes s k = holds-of_codes (fin.keys s) k ∙ sym (any-is k (fin.keys s)) ∙ sym (fin.contains_key-keys s k) ∙ by (fin.get s k)
+holds-live_codes s k =
+    holds-of_codes (fin.keys s) k ∙ sym (any-is k (fin.keys s)) ∙ sym (fin.contains_key-keys s k) ∙ by (fin.get s k)
   where
     by : (o : Option (ℤ × Chain)) → is_some o ≡ is_some (degree_in o)
     by None = refl
@@ -90,7 +101,8 @@ live_source s x y is = holds-live_codes s x ∙ by (fin.get s x) is
     by (Some v) h = refl
 
 -- where an arrow was cancelled, fewer codes are live
-pub live_count_falls : (old new : Slice) (x y : ℕ) → arrow (slice_complex old) x y ≡ true → slice_complex new ≡ cancelled (slice_complex old) x y → live_count new < live_count old
+pub live_count_falls : (old new : Slice) (x y : ℕ) → arrow (slice_complex old) x y ≡ true
+    → slice_complex new ≡ cancelled (slice_complex old) x y → live_count new < live_count old
 live_count_falls old new x y is left =
     let without_x = where_code (λ t. not (eqb t x)) (live_codes old) in
     let without_both = where_code (λ t. not (eqb t y)) without_x in
@@ -100,8 +112,10 @@ live_count_falls old new x y is left =
     ∙ ap (λ b. (b && not (eqb k x)) && not (eqb k y)) (sym (holds-live_codes old k))
     ∙ ap (λ b. b && not (eqb k y)) (sym (holds-where_code (λ t. not (eqb t x)) (live_codes old) k))
     ∙ sym (holds-where_code (λ t. not (eqb t y)) without_x k)) in
-    let x_leaves : cardinality (live_codes old) ≡ cardinality without_x + 1 = cardinality-without (live_codes old) x ∙ ap (λ b. cardinality without_x + cond b 1 0) (live_source old x y is) in
-    let y_leaves : cardinality without_x ≡ cardinality without_both + cond (holds without_x y) 1 0 = cardinality-without without_x y in
+    let x_leaves : cardinality (live_codes old) ≡ cardinality without_x + 1 =
+    cardinality-without (live_codes old) x ∙ ap (λ b. cardinality without_x + cond b 1 0) (live_source old x y is) in
+    let y_leaves : cardinality without_x ≡ cardinality without_both + cond (holds without_x y) 1 0 =
+    cardinality-without without_x y in
     let now : live_count new ≡ cardinality without_both = ap cardinality both_left in
     omega arith
   where

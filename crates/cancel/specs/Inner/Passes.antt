@@ -13,4 +13,5 @@ held (e ∷ log) z = holds z e.y ∷ held log (rest_of_one e z)
 abbrev pub correction_by_marks : List Entry → List Bool → Chain
 correction_by_marks [] marks = nothing
 correction_by_marks (e ∷ log) [] = nothing
-correction_by_marks (e ∷ log) (mark ∷ marks) = lift_of_one e (correction_by_marks log marks) ⊕ cond mark (single e.x) nothing
+correction_by_marks (e ∷ log) (mark ∷ marks) =
+    lift_of_one e (correction_by_marks log marks) ⊕ cond mark (single e.x) nothing

@@ -8,7 +8,9 @@ use Rattle.cancel.proofs.MapLemmas.{pairs-IsApart}
 use Rattle.cancel.proofs.maps.builder_of.Goals as goal
 
 pub toggle_all-requires : goal.toggle_all-requires
-toggle_all-requires c = subst (AllPairs (λ b c. b ≢ c)) (sym c.codes.ensures) (pairs-IsApart (codes c.args.z.now) (IsApart-codes c.args.z.now))
+toggle_all-requires c =
+    subst (AllPairs (λ b c. b ≢ c)) (sym c.codes.ensures)
+    (pairs-IsApart (codes c.args.z.now) (IsApart-codes c.args.z.now))
 
 pub returns : goal.returns
 returns c =

@@ -17,4 +17,7 @@ pub lift_over-requires : goal.lift_over-requires
 lift_over-requires c = c.requires (c.loop-k.k - 1) _ (omega arith)
 
 pub loop-k-preserved : goal.loop-k-preserved
-loop-k-preserved c = lift-back c.args.entries.now c.loop-k.k _ (single c.args.code) c.loop-k.chain c.lift_over.new.chain c.loop-k-test.true (omega arith) c.loop-k.invariant c.in_ok-lift_over.ensures
+loop-k-preserved c =
+    lift-back c.args.entries.now c.loop-k.k _
+    (single c.args.code) c.loop-k.chain c.lift_over.new.chain c.loop-k-test.true
+    (omega arith) c.loop-k.invariant c.in_ok-lift_over.ensures

@@ -17,4 +17,7 @@ pub pull_over-requires : goal.pull_over-requires
 pull_over-requires c = c.requires _ _ (omega arith)
 
 pub loop-k-preserved : goal.loop-k-preserved
-loop-k-preserved c = pull-back c.args.entries.now c.loop-k.k _ (single c.args.code) c.loop-k.cochain c.pull_over.new.cochain c.loop-k-test.true (omega arith) c.loop-k.invariant c.in_ok-pull_over.ensures
+loop-k-preserved c =
+    pull-back c.args.entries.now c.loop-k.k _
+    (single c.args.code) c.loop-k.cochain c.pull_over.new.cochain c.loop-k-test.true
+    (omega arith) c.loop-k.invariant c.in_ok-pull_over.ensures

@@ -11,7 +11,8 @@ use Rattle.cancel.proofs.maps.pull_before.Goals as goal
 pub returns-clause-map : goal.returns-clause-map
 returns-clause-map c =
     subst (λ log. IfOk c.pull_along.result (λ f. f ≡ pull log (single c.args.code)))
-    (ap (λ entries. log_of (take c.args.k entries)) c.entries-entries.ensures.entries ∙ sym (take-map entry_of c.args.k c.args.log.now)) c.pull_along.ensures
+    (ap (λ entries. log_of (take c.args.k entries)) c.entries-entries.ensures.entries
+    ∙ sym (take-map entry_of c.args.k c.args.log.now)) c.pull_along.ensures
 
 pub returns-clause-pull : goal.returns-clause-pull
 returns-clause-pull c =

@@ -15,5 +15,7 @@ correct_along-requires-clause-long c =
 pub returns-clause-correction : goal.returns-clause-correction
 returns-clause-correction c =
     c.in_ok-correction.ensures
-    ∙ ap (correction_by_marks (log_of c.args.entries.now)) (c.deref.ensures.value ∙ c.in_ok-rest_along.ensures.marks ∙ ap (held (log_of c.args.entries.now)) c.in_ok-chain.ensures)
+    ∙ ap (correction_by_marks (log_of c.args.entries.now))
+    (c.deref.ensures.value ∙ c.in_ok-rest_along.ensures.marks
+    ∙ ap (held (log_of c.args.entries.now)) c.in_ok-chain.ensures)
     ∙ correction-marks (log_of c.args.entries.now) c.args.z.now

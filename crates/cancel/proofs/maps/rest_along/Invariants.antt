@@ -8,5 +8,6 @@ use Rattle.cancel.proofs.maps.rest_along.Given as goal
 abbrev pub invariant-loop-entry : goal.invariant-loop-entry
 invariant-loop-entry l = record {
   left : rest (log_of (drop l.entry-index l.entries)) l.chain ≡ rest (log_of l.entries) l.initial.chain;
-  marks : l.marks.items ++ held (log_of (drop l.entry-index l.entries)) l.chain ≡ held (log_of l.entries) l.initial.chain;
+  marks : l.marks.items ++ held (log_of (drop l.entry-index l.entries)) l.chain
+      ≡ held (log_of l.entries) l.initial.chain;
 }

@@ -11,14 +11,22 @@ use Rattle.cancel.proofs.reductions.other_sources.Goals as goal
 
 pub returns-clause-codes : goal.returns-clause-codes
 returns-clause-codes c =
-    let listed : ListsOnce c.remove_code.new.list.items (λ s. arrow (slice_complex c.args.slice.now.slice) s c.args.gone.y && not (eqb s c.args.gone.x)) =
-    c.remove_code.ensures (λ s. arrow (slice_complex c.args.slice.now.slice) s c.args.gone.y) c.in_ok-sources_of.ensures.all in
-    IfOk-weaker c.placed.result _ (λ list. (s : ℕ) → holds (of_codes list.now) s ≡ (arrow (slice_complex c.args.slice.now.slice) s c.args.gone.y && not (eqb s c.args.gone.x))) (λ list e.
-    holds-listed list.now (λ s. arrow (slice_complex c.args.slice.now.slice) s c.args.gone.y && not (eqb s c.args.gone.x)) (subst (λ xs. ListsOnce xs (λ s. arrow (slice_complex c.args.slice.now.slice) s c.args.gone.y && not (eqb s c.args.gone.x))) (sym (e ∙ c.deref.ensures.value)) listed)) c.placed.ensures
+    let listed : ListsOnce c.remove_code.new.list.items
+    (λ s. arrow (slice_complex c.args.slice.now.slice) s c.args.gone.y && not (eqb s c.args.gone.x)) =
+    c.remove_code.ensures
+    (λ s. arrow (slice_complex c.args.slice.now.slice) s c.args.gone.y) c.in_ok-sources_of.ensures.all in
+    IfOk-weaker c.placed.result _ (λ list. (s : ℕ) → holds (of_codes list.now) s
+    ≡ (arrow (slice_complex c.args.slice.now.slice) s c.args.gone.y && not (eqb s c.args.gone.x))) (λ list e.
+    holds-listed list.now (λ s. arrow (slice_complex c.args.slice.now.slice) s c.args.gone.y
+    && not (eqb s c.args.gone.x)) (subst (λ xs. ListsOnce xs
+    (λ s. arrow (slice_complex c.args.slice.now.slice) s c.args.gone.y && not (eqb s c.args.gone.x)))
+    (sym (e ∙ c.deref.ensures.value)) listed)) c.placed.ensures
 
 pub returns-clause-once : goal.returns-clause-once
 returns-clause-once c =
-    let listed : ListsOnce c.remove_code.new.list.items (λ s. arrow (slice_complex c.args.slice.now.slice) s c.args.gone.y && not (eqb s c.args.gone.x)) =
-    c.remove_code.ensures (λ s. arrow (slice_complex c.args.slice.now.slice) s c.args.gone.y) c.in_ok-sources_of.ensures.all in
+    let listed : ListsOnce c.remove_code.new.list.items
+    (λ s. arrow (slice_complex c.args.slice.now.slice) s c.args.gone.y && not (eqb s c.args.gone.x)) =
+    c.remove_code.ensures
+    (λ s. arrow (slice_complex c.args.slice.now.slice) s c.args.gone.y) c.in_ok-sources_of.ensures.all in
     IfOk-weaker c.placed.result _ (λ list. AllPairs (λ b c. b ≢ c) list.now) (λ list e.
     subst (AllPairs (λ b c. b ≢ c)) (sym (e ∙ c.deref.ensures.value)) listed.once) c.placed.ensures

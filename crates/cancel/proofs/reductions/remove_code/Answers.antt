@@ -8,5 +8,6 @@ use Rattle.cancel.proofs.reductions.remove_code.Goals as goal
 pub returns : goal.returns
 returns c = λ test l.
     subst (λ xs. ListsOnce xs (λ other. test other && not (eqb other c.args.code)))
-    (sym (filter_same _ (λ other. not (eqb other c.args.code)) _ (λ a b f k. search rules) _ _ c.retain.ensures.filtered))
+    (sym (filter_same _ (λ other. not (eqb other c.args.code)) _
+    (λ a b f k. search rules) _ _ c.retain.ensures.filtered))
     (ListsOnce-without _ test c.args.code l)

@@ -7,7 +7,8 @@ use Rattle.cancel.proofs.MapLemmas.{IsApart-pairs}
 use Rattle.cancel.proofs.steps.shares_oddly.Goals as goal
 
 pub loop-code-preserved : goal.loop-code-preserved
-loop-code-preserved c = xor-beq _ _ _ _ c.loop-code.invariant c.holds-odd.ensures ∙ sym (parity-take _ _ _ c.loop-code-test.true)
+loop-code-preserved c =
+    xor-beq _ _ _ _ c.loop-code.invariant c.holds-odd.ensures ∙ sym (parity-take _ _ _ c.loop-code-test.true)
 
 pub returns : goal.returns
 returns c =
