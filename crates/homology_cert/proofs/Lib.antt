@@ -9,3 +9,13 @@ pub mod CheckLemmas
 pub mod PassingLemmas
 pub mod CertifiedLemmas
 pub mod TextLemmas
+pub mod LineLemmas
+pub mod PlaceLemmas
+pub mod MarkLemmas
+pub mod PathLemmas
+pub mod CompletionLemmas
+pub mod ByteLemmas
+pub mod ReadLemmas
+pub mod SetLemmas
+pub mod NextLemmas
+pub mod DecisionLemmas

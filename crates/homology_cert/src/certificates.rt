@@ -1,9 +1,12 @@
 //! Certificates.
-ghost use Rattle.std.specs.Prelude.{◌≡◌};
+ghost use Rattle.std.specs.Prelude.{◌≡◌, IfOk};
+ghost use Rattle.homology_cert.specs.Inner.Cells.{new_cell, with_cycle, with_step};
 ghost use Rattle.homology_cert.specs.Certificates.{IsCertificate};
 
 use f2_chain::{Chain, Cochain};
 use gradings::Bidegree;
+use grid_ports::NoMemory;
+use std::alloc::Global;
 use std::marker::Model;
 use torus_geom::Grid;
 
@@ -83,6 +86,51 @@ impl Model for Cert {
 }
 
 impl CertCell {
+    // A cell with no pairs.
+    pub(crate) fn new(alloc: Global, degree: Bidegree) -> CertCell
+        ensures { result ≡ new_cell (degree.m, degree.a) }
+    {
+        CertCell {
+            degree,
+            cycles: Vec::new(alloc),
+            steps: Vec::new(alloc),
+        }
+    }
+
+    // The cell with one more cycle pair.
+    pub(crate) fn with_cycle(self, cycle: Chain, cocycle: Cochain) -> Result<CertCell, NoMemory>
+        ensures { IfOk result (λ c. c ≡ with_cycle self cycle cocycle) }
+    {
+        let CertCell {
+            degree,
+            mut cycles,
+            steps,
+        } = self;
+        cycles.push(CyclePair { cycle, cocycle })?;
+        Ok(CertCell {
+            degree,
+            cycles,
+            steps,
+        })
+    }
+
+    // The cell with one more step pair.
+    pub(crate) fn with_step(self, step: Chain, probe: Cochain) -> Result<CertCell, NoMemory>
+        ensures { IfOk result (λ c. c ≡ with_step self step probe) }
+    {
+        let CertCell {
+            degree,
+            cycles,
+            mut steps,
+        } = self;
+        steps.push(StepPair { step, probe })?;
+        Ok(CertCell {
+            degree,
+            cycles,
+            steps,
+        })
+    }
+
     // The bidegree.
     pub(crate) fn degree(&self) -> &Bidegree
         ensures { (result.now.m, result.now.a) ≡ self.now.at }
@@ -106,6 +154,14 @@ impl CertCell {
 }
 
 impl Cert {
+    // The certificate of these cells.
+    pub(crate) fn of(grid: Grid, cells: Vec<CertCell>) -> Cert
+        requires { IsCertificate (record { grid = grid; cells = cells.items }) }
+        ensures { result ≡ record { grid = grid; cells = cells.items } }
+    {
+        Cert { grid, cells }
+    }
+
     /// The grid.
     pub fn grid(&self) -> &Grid
         ensures grid { result.now ≡ self.now.grid }
