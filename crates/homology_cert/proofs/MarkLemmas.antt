@@ -1,9 +1,9 @@
 -- The rows of marks in a line: a digit after each space.
-use Rattle.std.proofs.Common.{◌≡◌, ◌≢◌, ℕ, zero, suc, ◌+◌, ◌-◌, ◌*◌, ◌<◌, ◌≤◌, List, [], ◌∷◌, ◌++◌, length, take, drop, set, get_or, slice_index, All, Option, None, Some, IsNone, IfSome, IfNone, OnSome, refl, sym, ap, ap₂, subst, ◌∙◌, arith, append_assoc, length-append}
+use Rattle.std.proofs.Common.{◌≡◌, ◌≢◌, ℕ, zero, suc, ◌+◌, ◌*◌, ◌<◌, ◌≤◌, List, [], ◌∷◌, ◌++◌, length, take, drop, set, get_or, slice_index, All, Option, None, Some, IsNone, IfSome, IfNone, OnSome, refl, sym, ap, ap₂, subst, ◌∙◌, arith, append_assoc}
 use Rattle.std.specs.List.{flat_map}
 use Rattle.std.specs.Fmt.{decimal}
 use Rattle.std.proofs.lemmas.Fmt.{decimal_digit}
-use Rattle.std.proofs.lemmas.List.{append-nil, take_more, take_more_set}
+use Rattle.std.proofs.lemmas.List.{take_more, take_more_set}
 use Rattle.state_rank.specs.Bijection.{IsSize, IsBijection}
 use Rattle.state_rank.specs.States.{IsState}
 use Rattle.torus_geom.specs.Marks.{IsGrid, SharesSquare}
@@ -19,9 +19,11 @@ length-spaced (r ∷ x) = let more = length-spaced x in omega (arith, more)
 spaced-decimal : (x : List ℕ) → All (λ r. r < 10) x → flat_map (λ r. 32 ∷ decimal r) x ≡ spaced x
 spaced-decimal [] h = refl
 spaced-decimal (r ∷ x) h =
-    ap₂ (λ d t. (32 ∷ d) ++ t) (decimal_digit r (h 0 r (omega arith))) (spaced-decimal x (λ k d l. h (suc k) d (omega arith)))
+    ap₂ (λ d t. (32 ∷ d) ++ t) (decimal_digit r (h 0 r (omega arith))) (spaced-decimal x
+    (λ k d l. h (suc k) d (omega arith)))
 
-pub marks_line-spaced : (letter n : ℕ) (o : List ℕ) → IsSmallSize n → IsBijection n o → marks_line (letter ∷ []) o ≡ letter ∷ spaced o
+pub marks_line-spaced : (letter n : ℕ) (o : List ℕ) → IsSmallSize n → IsBijection n o
+    → marks_line (letter ∷ []) o ≡ letter ∷ spaced o
 marks_line-spaced letter n o small is = ap (λ t. letter ∷ t) (spaced-decimal o (small_rows n o is small.size.greatest))
 
 -- each byte of spaced digits
@@ -44,11 +46,13 @@ spaced-push [] r = refl
 spaced-push (s ∷ x) r = ap (λ t. 32 ∷ (48 + s) ∷ t) (spaced-push x r)
 
 -- one more digit
-pub spaced-more : (bytes rows : List ℕ) (c r : ℕ) → 2 * c + 1 < length bytes → c < length rows → get_or bytes (2 * c) 0 ≡ 32 → get_or bytes (2 * c + 1) 0 ≡ 48 + r
+pub spaced-more : (bytes rows : List ℕ) (c r : ℕ) → 2 * c + 1 < length bytes → c < length rows
+    → get_or bytes (2 * c) 0 ≡ 32 → get_or bytes (2 * c + 1) 0 ≡ 48 + r
     → take (2 * c) bytes ≡ spaced (take c rows) → take (2 * (c + 1)) bytes ≡ spaced (take (c + 1) (set rows c r))
 spaced-more bytes rows c r within room space digit e =
     let two : 2 * (c + 1) ≡ 2 * c + 1 + 1 = omega arith in
-    ap (λ k. take k bytes) two ∙ take_more bytes (2 * c + 1) 0 within ∙ ap (λ t. t ++ get_or bytes (2 * c + 1) 0 ∷ []) (take_more bytes (2 * c) 0 (omega (arith, within)))
+    ap (λ k. take k bytes) two ∙ take_more bytes (2 * c + 1) 0 within ∙ ap (λ t. t ++ get_or bytes (2 * c + 1) 0 ∷ [])
+    (take_more bytes (2 * c) 0 (omega (arith, within)))
     ∙ append_assoc (take (2 * c) bytes) (get_or bytes (2 * c) 0 ∷ []) (get_or bytes (2 * c + 1) 0 ∷ [])
     ∙ ap (λ t. t ++ get_or bytes (2 * c) 0 ∷ get_or bytes (2 * c + 1) 0 ∷ []) e
     ∙ ap₂ (λ s d. spaced (take c rows) ++ s ∷ d ∷ []) space digit
@@ -65,14 +69,17 @@ spaced-injective (r ∷ x) (s ∷ y) e =
     ap₂ (λ h t. h ∷ t) same (spaced-injective x y tail)
 
 -- what is read of the line of marks is their rows
-module _ (letter n : ℕ) (line rows : List ℕ) (small : IsSmallSize n) (long : length rows ≡ n) (e : line ≡ letter ∷ spaced rows) where
-  pub marks_read : (r : Option (List ℕ)) → IfSome r (λ x. x ≡ rows) → OnSome r (IsState rows) → IfSome r (λ x. IsBijection n x × (line ≡ marks_line (letter ∷ []) x))
+module _ (letter n : ℕ) (line rows : List ℕ) (small : IsSmallSize n) (long : length rows ≡ n)
+    (e : line ≡ letter ∷ spaced rows) where
+  pub marks_read : (r : Option (List ℕ)) → IfSome r (λ x. x ≡ rows) → OnSome r (IsState rows)
+      → IfSome r (λ x. IsBijection n x × (line ≡ marks_line (letter ∷ []) x))
   marks_read None same state = tt
   marks_read (Some x) same state =
       let is = subst (λ y. IsBijection n y) (sym same) (subst (λ m. IsBijection m rows) long state.bijection) in
       (is, e ∙ ap (λ t. letter ∷ spaced t) (sym same) ∙ sym (marks_line-spaced letter n x small is))
 
-  pub no_marks : (r : Option (List ℕ)) → (IsNone r → IsState rows → ⊥) → IfNone r ((o : List ℕ) → IsBijection n o → line ≢ marks_line (letter ∷ []) o)
+  pub no_marks : (r : Option (List ℕ)) → (IsNone r → IsState rows → ⊥) → IfNone r ((o : List ℕ) → IsBijection n o
+      → line ≢ marks_line (letter ∷ []) o)
   no_marks (Some x) none = tt
   no_marks None none = λ o bijection is.
       let all : letter ∷ spaced rows ≡ letter ∷ spaced o = sym e ∙ is ∙ marks_line-spaced letter n o small bijection in
@@ -83,11 +90,13 @@ module _ (letter n : ℕ) (line rows : List ℕ) (small : IsSmallSize n) (long :
       }))
 
 -- a line is its first byte and the rest
-pub first_and_rest : (letter : ℕ) (line : List ℕ) → 0 < length line → get_or line 0 0 ≡ letter → line ≡ letter ∷ drop 1 line
+pub first_and_rest : (letter : ℕ) (line : List ℕ) → 0 < length line → get_or line 0 0 ≡ letter
+    → line ≡ letter ∷ drop 1 line
 first_and_rest letter [] some is = absurd (omega (arith, some))
 first_and_rest letter (b ∷ line) some is = ap (λ c. c ∷ line) is
 
 -- marks that share a square are those of no grid
-pub not_apart : (o x rows_o rows_x : List ℕ) → rows_o ≡ o → rows_x ≡ x → SharesSquare (record { o = rows_o; x = rows_x }) → IsGrid (record { o = o; x = x }) → ⊥
+pub not_apart : (o x rows_o rows_x : List ℕ) → rows_o ≡ o → rows_x ≡ x → SharesSquare
+    (record { o = rows_o; x = rows_x }) → IsGrid (record { o = o; x = x }) → ⊥
 not_apart o x rows_o rows_x e f (k, l, same) is =
     is.apart k (subst (λ r. k < length r) e l) (ap (λ r. slice_index r k) (sym e) ∙ same ∙ ap (λ r. slice_index r k) f)

@@ -1,8 +1,8 @@
 -- A set of states as its line is gone through, state by state.
 --
--- What was read is a list of codes that ascends, and the bytes so far are theirs. Two lists of codes with one text begin
--- alike, so where no state follows, or one that is not above the last, the line is that of no set.
-use Rattle.std.proofs.Common.{◌≡◌, ◌≢◌, ◌⊎◌, ℕ, zero, suc, ◌+◌, ◌<◌, ◌≤◌, List, [], ◌∷◌, ◌++◌, length, slice_index, get_or, All, inl, inr, refl, sym, ap, ap₂, subst, ◌∙◌, arith, append_assoc, length-append}
+-- What was read is a list of codes that ascends, and the bytes so far are theirs. Two lists of codes with one text
+-- begin alike, so where no state follows, or one that is not above the last, the line is that of no set.
+use Rattle.std.proofs.Common.{◌≡◌, ◌≢◌, ◌⊎◌, ℕ, zero, suc, ◌+◌, ◌<◌, ◌≤◌, List, [], ◌∷◌, ◌++◌, length, slice_index, All, inl, inr, refl, sym, ap, ap₂, subst, ◌∙◌, arith, append_assoc, length-append}
 use Rattle.std.specs.List.{flat_map}
 use Rattle.std.specs.List.Sorted.{IsStrictlyIncreasing}
 use Rattle.std.proofs.lemmas.Bool.{cases_lt}
@@ -29,18 +29,28 @@ same_code n s t l m h =
 
 -- the codes that were read are the first of any list with this text
 first_codes : (n : ℕ) (xs ys rest : List ℕ) → All (λ s. s < factorial n) xs → All (λ s. s < factorial n) ys
-    → flat_map (state_bytes_of n) ys ≡ flat_map (state_bytes_of n) xs ++ rest → (zs : List ℕ) × (ys ≡ xs ++ zs) × (rest ≡ flat_map (state_bytes_of n) zs)
+    → flat_map (state_bytes_of n) ys ≡ flat_map (state_bytes_of n) xs ++ rest → (zs : List ℕ) × (ys ≡ xs ++ zs)
+    × (rest ≡ flat_map (state_bytes_of n) zs)
 first_codes n [] ys rest p q e = (ys, refl, sym e)
 first_codes n (x ∷ xs) [] rest p q e =
     let l = ap length e in
     let m = length-state_bytes n x (p 0 x (omega arith)) in
-    absurd (omega (arith, l, m, length-append (state_bytes_of n x ++ flat_map (state_bytes_of n) xs) rest, length-append (state_bytes_of n x) (flat_map (state_bytes_of n) xs)))
+    absurd (omega (
+      arith,
+      l,
+      m,
+      length-append (state_bytes_of n x ++ flat_map (state_bytes_of n) xs) rest,
+      length-append (state_bytes_of n x) (flat_map (state_bytes_of n) xs),
+    ))
 first_codes n (x ∷ xs) (y ∷ ys) rest p q e =
     let px = p 0 x (omega arith) in
     let qy = q 0 y (omega arith) in
-    let parts = append-parts (state_bytes_of n y) (state_bytes_of n x) (flat_map (state_bytes_of n) ys) (flat_map (state_bytes_of n) xs ++ rest)
-    (length-state_bytes n y qy ∙ sym (length-state_bytes n x px)) (e ∙ append_assoc (state_bytes_of n x) (flat_map (state_bytes_of n) xs) rest) in
-    let (zs, same, left) = first_codes n xs ys rest (λ i d l. p (suc i) d (omega arith)) (λ i d l. q (suc i) d (omega arith)) parts.1 in
+    let parts = append-parts (state_bytes_of n y) (state_bytes_of n x) (flat_map (state_bytes_of n) ys)
+    (flat_map (state_bytes_of n) xs ++ rest)
+    (length-state_bytes n y qy ∙ sym (length-state_bytes n x px)) (e ∙ append_assoc (state_bytes_of n x)
+    (flat_map (state_bytes_of n) xs) rest) in
+    let (zs, same, left) = first_codes n xs ys rest (λ i d l. p (suc i) d (omega arith))
+    (λ i d l. q (suc i) d (omega arith)) parts.1 in
     (zs, ap₂ (λ h t. h ∷ t) (same_code n y x qy px parts.0) same, left)
 
 pub record IsReadSet (n : ℕ) (word line rest : List ℕ) (set : Chain) (least : ℕ) : Type 0 where
@@ -52,7 +62,8 @@ pub record IsReadSet (n : ℕ) (word line rest : List ℕ) (set : Chain) (least 
   pub last : (k : ℕ) → k < length read → slice_index read k < least
   pub least_is : (least ≡ 0) ⊎ ((k : ℕ) × (k < length read) × (slice_index read k + 1 ≡ least))
 
-pub IsReadSet-start : (n : ℕ) (word line states : List ℕ) → line ≡ word ++ states → IsReadSet n word line states nothing 0
+pub IsReadSet-start : (n : ℕ) (word line states : List ℕ) → line ≡ word ++ states
+    → IsReadSet n word line states nothing 0
 unfolding of_codes
 IsReadSet-start n word line states begins = record {
   read = [];
@@ -87,18 +98,25 @@ flat_map-push f [] x = append-nil (f x)
 flat_map-push f (y ∷ xs) x = ap (λ t. f y ++ t) (flat_map-push f xs x) ∙ sym (append_assoc (f y) (flat_map f xs) (f x))
 
 -- one more state, above the last
-module _ (n : ℕ) (word line rest after : List ℕ) (set : Chain) (least code : ℕ) (h : IsReadSet n word line rest set least) (is_code : code < factorial n)
+module _ (n : ℕ) (word line rest after : List ℕ) (set : Chain) (least code : ℕ)
+    (h : IsReadSet n word line rest set least) (is_code : code < factorial n)
     (split : rest ≡ state_bytes_of n code ++ after) where
   pub IsReadSet-next : least ≤ code → IsReadSet n word line after (set ⊕ single code) (code + 1)
   IsReadSet-next above = record {
     read = h.read ++ code ∷ [];
-    chain = ap (λ z. z ⊕ single code) h.chain ∙ sym (of_codes-push h.read code (any-above code h.read (λ k l. omega (arith, h.last k l, above))));
-    split = h.split ∙ ap (λ t. word ++ t) (ap (λ r. flat_map (state_bytes_of n) h.read ++ r) split ∙ sym (append_assoc (flat_map (state_bytes_of n) h.read) (state_bytes_of n code) after)
+    chain = ap (λ z. z ⊕ single code) h.chain
+        ∙ sym (of_codes-push h.read code (any-above code h.read (λ k l. omega (arith, h.last k l, above))));
+    split = h.split ∙ ap (λ t. word ++ t) (ap (λ r. flat_map (state_bytes_of n) h.read ++ r) split
+        ∙ sym (append_assoc (flat_map (state_bytes_of n) h.read) (state_bytes_of n code) after)
         ∙ ap (λ t. t ++ after) (sym (flat_map-push (state_bytes_of n) h.read code)));
     rising = λ k l. rising_next k (omega (arith, l, length-append h.read (code ∷ [])));
     below = push_all (λ s. s < factorial n) h.read code h.below is_code;
     last = λ k l. last_next k (omega (arith, l, length-append h.read (code ∷ [])));
-    least_is = inr (length h.read, omega (arith, length-append h.read (code ∷ [])), ap (λ s. s + 1) (push_new h.read code (length h.read) refl));
+    least_is = inr (
+      length h.read,
+      omega (arith, length-append h.read (code ∷ [])),
+      ap (λ s. s + 1) (push_new h.read code (length h.read) refl),
+    );
   }
     where
       last_next : (k : ℕ) → k < length h.read + 1 → slice_index (h.read ++ code ∷ []) k < code + 1
@@ -107,12 +125,19 @@ module _ (n : ℕ) (word line rest after : List ℕ) (set : Chain) (least code :
         | inr new ↦ omega (arith, push_new h.read code k (omega (arith, l, new)))
       ]
 
-      rising_next : (k : ℕ) → k + 1 < length h.read + 1 → slice_index (h.read ++ code ∷ []) k < slice_index (h.read ++ code ∷ []) (k + 1)
+      rising_next : (k : ℕ) → k + 1 < length h.read + 1 → slice_index (h.read ++ code ∷ []) k < slice_index
+          (h.read ++ code ∷ []) (k + 1)
       rising_next k l =
           let old : k < length h.read = omega (arith, l) in
           elim (cases_lt (k + 1) (length h.read)) [
             | inl both ↦ omega (arith, push_old h.read code k old, push_old h.read code (k + 1) both, h.rising k both)
-            | inr new ↦ omega (arith, push_old h.read code k old, push_new h.read code (k + 1) (omega (arith, l, new)), h.last k old, above)
+            | inr new ↦ omega (
+              arith,
+              push_old h.read code k old,
+              push_new h.read code (k + 1) (omega (arith, l, new)),
+              h.last k old,
+              above,
+            )
           ]
 
 -- ---- no set has the line
@@ -128,10 +153,12 @@ module _ (n : ℕ) (word line rest : List ℕ) (set : Chain) (least : ℕ) (h : 
 
   code_is : (s : ℕ) (zs : List ℕ) → ranks z ≡ h.read ++ s ∷ zs → s < factorial n
   code_is s zs same =
-      subst (λ t. t < factorial n) (get_or-append_seam h.read s zs s) (codes_left (s ∷ zs) same (length h.read) s (omega (arith, length-append h.read (s ∷ zs))))
+      subst (λ t. t < factorial n) (get_or-append_seam h.read s zs s) (codes_left (s ∷ zs) same (length h.read) s
+      (omega (arith, length-append h.read (s ∷ zs))))
 
   -- no state follows
-  pub no_set-no_code : 0 < length rest → ((s : ℕ) (more : List ℕ) → s < factorial n → rest ≢ state_bytes_of n s ++ more) → ⊥
+  pub no_set-no_code : 0 < length rest → ((s : ℕ) (more : List ℕ) → s < factorial n → rest ≢ state_bytes_of n s ++ more)
+      → ⊥
   no_set-no_code some none = by_left left_of.0 left_of.1 left_of.2
     where
       by_left : (zs : List ℕ) → ranks z ≡ h.read ++ zs → rest ≡ flat_map (state_bytes_of n) zs → ⊥
@@ -140,23 +167,35 @@ module _ (n : ℕ) (word line rest : List ℕ) (set : Chain) (least : ℕ) (h : 
           none s (flat_map (state_bytes_of n) zs) (code_is s zs same) left
 
   -- one that is not above the last
-  pub no_set-not_above : (code : ℕ) (after : List ℕ) → code < factorial n → rest ≡ state_bytes_of n code ++ after → code < least → ⊥
+  pub no_set-not_above : (code : ℕ) (after : List ℕ) → code < factorial n → rest ≡ state_bytes_of n code ++ after
+      → code < least → ⊥
   no_set-not_above code after is_code split under = by_left left_of.0 left_of.1 left_of.2
     where
       by_left : (zs : List ℕ) → ranks z ≡ h.read ++ zs → rest ≡ flat_map (state_bytes_of n) zs → ⊥
-      by_left [] same left = let l = ap length (sym split ∙ left) in omega (arith, l, length-append (state_bytes_of n code) after)
+      by_left [] same left = let l = ap length (sym split ∙ left) in
+          omega (arith, l, length-append (state_bytes_of n code) after)
       by_left (s ∷ zs) same left =
           let parts = append-parts (state_bytes_of n s) (state_bytes_of n code) (flat_map (state_bytes_of n) zs) after
           (length-state_bytes n s (code_is s zs same) ∙ sym (length-state_bytes n code is_code)) (sym left ∙ split) in
           let one = same_code n s code (code_is s zs same) is_code parts.0 in
           by_last s zs same one h.least_is
         where
-          by_last : (s : ℕ) (zs : List ℕ) → ranks z ≡ h.read ++ s ∷ zs → s ≡ code → (least ≡ 0) ⊎ ((k : ℕ) × (k < length h.read) × (slice_index h.read k + 1 ≡ least)) → ⊥
+          by_last : (s : ℕ) (zs : List ℕ) → ranks z ≡ h.read ++ s ∷ zs → s ≡ code → (least ≡ 0)
+              ⊎ ((k : ℕ) × (k < length h.read) × (slice_index h.read k + 1 ≡ least)) → ⊥
           by_last s zs same one (inl none) = omega (arith, none, under)
           by_last s zs same one (inr (k, l, is_last)) =
               let rising = subst IsStrictlyIncreasing same (rising-codes z) in
-              let before = rises (h.read ++ s ∷ zs) rising k (length h.read) l (omega (arith, length-append h.read (s ∷ zs))) in
-              omega (arith, before, get_or-append h.read (s ∷ zs) 0 k l, get_or-append_seam h.read s zs 0, is_last, under, one)
+              let before = rises (h.read ++ s ∷ zs) rising k (length h.read) l
+              (omega (arith, length-append h.read (s ∷ zs))) in
+              omega (
+                arith,
+                before,
+                get_or-append h.read (s ∷ zs) 0 k l,
+                get_or-append_seam h.read s zs 0,
+                is_last,
+                under,
+                one,
+              )
 
 -- ---- the end of the line
 pub IsReadSet-end : (n : ℕ) (word line : List ℕ) (set : Chain) (least : ℕ) → IsReadSet n word line [] set least
@@ -164,5 +203,6 @@ pub IsReadSet-end : (n : ℕ) (word line : List ℕ) (set : Chain) (least : ℕ)
 IsReadSet-end n word line set least h =
     let same : ranks set ≡ h.read = ap ranks h.chain ∙ codes-of_codes h.read h.rising in (
       subst (All (λ code. code < factorial n)) (sym same) h.below,
-      h.split ∙ ap (λ t. word ++ t) (append-nil (flat_map (state_bytes_of n) h.read) ∙ ap (flat_map (state_bytes_of n)) (sym same)),
+      h.split ∙ ap (λ t. word ++ t) (append-nil (flat_map (state_bytes_of n) h.read)
+          ∙ ap (flat_map (state_bytes_of n)) (sym same)),
     )

@@ -1,5 +1,5 @@
--- The text of a certificate, and the first bad line of a text that is not one. Each line is ended by one line feed, words
--- stand one space apart, numbers are plain decimals. So a certificate has one text.
+-- The text of a certificate, and the first bad line of a text that is not one. Each line is ended by one line feed,
+-- words stand one space apart, numbers are plain decimals. So a certificate has one text.
 --     set_line word n z          a word, and the states of size n of a set, in ascending order
 --     marks_line word rows       a word, and the rows of marks from column 0 on
 --     degree_line d              the word `cell`, the Maslov degree and the Alexander degree
@@ -41,7 +41,8 @@ abbrev pub cell_lines : ℕ → Cell → List (List ℕ)
 cell_lines n cell = degree_line cell.at ∷ flat_map (cycle_lines n) cell.cycles ++ flat_map (step_lines n) cell.steps
 
 abbrev pub head_lines : Marks → List (List ℕ)
-head_lines g = codes "gridcert 1" ∷ (codes "grid " ++ decimal (size g)) ∷ marks_line (codes "O") g.o ∷ marks_line (codes "X") g.x ∷ []
+head_lines g = codes "gridcert 1" ∷ (codes "grid " ++ decimal (size g)) ∷ marks_line (codes "O") g.o ∷ marks_line (codes
+    "X") g.x ∷ []
 
 unfoldable pub certificate_lines : Certificate → List (List ℕ)
 certificate_lines c = head_lines c.grid ++ flat_map (cell_lines (size c.grid)) c.cells ++ codes "end" ∷ []

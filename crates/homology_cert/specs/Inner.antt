@@ -1,5 +1,5 @@
--- What only private functions and proofs speak of: what is kept while a table is made, while a certificate is checked, and
--- while one is read.
+-- What only private functions and proofs speak of: what is kept while a table is made, while a certificate is checked,
+-- and while one is read.
 pub mod Ranks
 pub mod Checks
 pub mod Cells

@@ -97,7 +97,6 @@ pub fn read_cert(alloc: Global, text: &[u8]) -> Result<Cert, CertEnd>
         → ((c : Certificate) × IsCertificate c × (t ≡ certificate_text c)) ⊎ ((line : ℕ) × IsFirstBadLine t line) }
     ensures one_line { (t : List ℕ) (k l : ℕ) → IsFirstBadLine t k → IsFirstBadLine t l → k ≡ l }
 {
-    let _length = text.len();
     cert_of(alloc, text)
 }
 
@@ -128,7 +127,8 @@ fn cert_of(alloc: Global, text: &[u8]) -> Result<Cert, CertEnd>
 
 // The certificate, if this is the place after its last line and nothing follows.
 fn whole(place: Place, cells: Vec<CertCell>, rest: &[u8]) -> Option<Cert>
-    requires { (g : Marks) → place ≡ Place.End g → rest.now ≡ [] → IsCertificate (record { grid = g; cells = cells.items }) }
+    requires { (g : Marks) → place ≡ Place.End g → rest.now ≡ []
+        → IsCertificate (record { grid = g; cells = cells.items }) }
     ensures { MatchOption result ((g : Marks) → place ≡ Place.End g → rest.now ≢ [])
         (λ c. (place ≡ Place.End c.grid) × (c.cells ≡ cells.items) × (rest.now ≡ [])) }
 {
@@ -246,7 +246,8 @@ fn o_place(n: u8, line: &[u8]) -> Option<Place>
 // After the line of the O.
 fn x_place(o: State, line: &[u8]) -> Option<Place>
     requires { IsSmallSize (length o) }
-    ensures { MatchOption result ((x : List ℕ) → IsGrid (record { o = o; x = x }) → line.now ≢ marks_line (codes_of_text "X") x)
+    ensures { MatchOption result
+        ((x : List ℕ) → IsGrid (record { o = o; x = x }) → line.now ≢ marks_line (codes_of_text "X") x)
         (λ q. (x : List ℕ) × IsGrid (record { o = o; x = x }) × (line.now ≡ marks_line (codes_of_text "X") x)
         × (q ≡ Place.NoCell (record { o = o; x = x }))) }
 {
@@ -357,8 +358,10 @@ fn pair_place(
     ensures { IfOk result (λ next. MatchOption next
         (((z : Codes) → AreStates g z → cell.steps ≡ [] → line.now ≢ set_line (codes_of_text "cycle") (size g) z)
         × ((z : Codes) → AreStates g z → line.now ≢ set_line (codes_of_text "step") (size g) z))
-        (λ q. ((z : Codes) × AreStates g z × (cell.steps ≡ []) × (line.now ≡ set_line (codes_of_text "cycle") (size g) z) × (q ≡ Place.InCycle g cell z))
-        ⊎ ((z : Codes) × AreStates g z × (line.now ≡ set_line (codes_of_text "step") (size g) z) × (q ≡ Place.InStep g cell z)))) }
+        (λ q. ((z : Codes) × AreStates g z × (cell.steps ≡ [])
+        × (line.now ≡ set_line (codes_of_text "cycle") (size g) z) × (q ≡ Place.InCycle g cell z))
+        ⊎ ((z : Codes) × AreStates g z
+        × (line.now ≡ set_line (codes_of_text "step") (size g) z) × (q ≡ Place.InStep g cell z)))) }
 {
     let step = set_of(alloc, b"step", &g, line)?;
     if let Some(step) = step {
@@ -470,8 +473,10 @@ fn is_printed(z: i32, word: &[u8]) -> bool
 
 // The set of the states whose words the line has after its first word, which is this one.
 fn set_of(alloc: Global, word: &[u8], g: &Grid, line: &[u8]) -> Result<Option<Chain>, NoMemory>
-    ensures some { IfOk result (λ set. IfSome set (λ z. AreStates g.now z × (line.now ≡ set_line word.now (size g.now) z))) }
-    ensures none { IfOk result (λ set. IfNone set ((z : Codes) → AreStates g.now z → line.now ≢ set_line word.now (size g.now) z)) }
+    ensures some { IfOk result (λ set. IfSome set
+        (λ z. AreStates g.now z × (line.now ≡ set_line word.now (size g.now) z))) }
+    ensures none { IfOk result (λ set. IfNone set
+        ((z : Codes) → AreStates g.now z → line.now ≢ set_line word.now (size g.now) z)) }
 {
     let n = g.size();
     let Some(states) = after_prefix(line, word) else {
@@ -530,7 +535,8 @@ fn state_of(n: u8, digits: &[u8]) -> Option<State>
 // The numbers whose digits these are, in front of an array.
 fn read_digits(digits: &[u8]) -> Option<[u8; ROOM]>
     requires { length digits.now ≤ ROOM }
-    ensures some { IfSome result (λ rows. (length rows ≡ ROOM) × (digits.now ≡ state_word (take (length digits.now) rows))) }
+    ensures some { IfSome result
+        (λ rows. (length rows ≡ ROOM) × (digits.now ≡ state_word (take (length digits.now) rows))) }
     ensures none { IfNone result ((x : List ℕ) → digits.now ≢ state_word x) }
 {
     let mut rows = [0; ROOM];

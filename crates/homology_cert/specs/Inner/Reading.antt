@@ -1,25 +1,25 @@
--- The places of the reader of certificates, and which lines may stand there. The reader has at each place the cells that
--- are closed; the cell that is open is part of the place.
+-- The places of the reader of certificates, and which lines may stand there. The reader has at each place the cells
+-- that are closed; the cell that is open is part of the place.
 --     size_line n               the line of a size
 --     spaced rows               the digits of numbers, each after a space
---     IsSmallGrid g             a grid of size at most six
---     MayBegin d                both degrees are small
---     LeadsTo p ds line q es    at the place p, with the closed cells ds, this line may stand, and it leads to the place q
---                               with the closed cells es
+--     IsSmallSize n             a size that is handled, at most six
+--     IsSmallGrid g             a grid of such a size
+--     LeadsTo p ds line q es    at the place p, with the closed cells ds, this line may stand, and it leads to the
+--                               place q with the closed cells es
 --     Path p ds lines q es      these lines, in order, lead from p and ds to q and es
+--     lines_in g ds             the lines of the grid and of these cells
 --     lines_at p ds             the lines that lead from the start to p and ds
 --     AreClosed g ds            the cells are those of a certificate of the grid, but for the number of entries
 --     IsAt p ds                 what is known at a place
 --     IsFree b bytes            the byte b is not among these
 --     AreFree lines             no line has a line feed in it
 --     IsRead text p ds rest number
---                               the lines at the place were read of the text, the rest follows, and the next line has this
---                               number
+--                               the lines at the place were read of the text, the rest follows, and the next line has
+--                               this number
 use Rattle.std.specs.Prelude.{◌≡◌, ◌≢◌, ◌⊎◌, ℕ, ◌+◌, ◌≤◌, ℤ, List, [], ◌∷◌, ◌++◌, length, codes, IsTrue}
 use Rattle.std.specs.List.{All, AllPairs, flat_map}
 use Rattle.std.specs.Fmt.{decimal}
 use Rattle.f2_algebra.specs.Chain.{Chain}
-use Rattle.f2_algebra.specs.Certificate.{CertCell}
 use Rattle.state_rank.specs.Bijection.{IsSize, IsBijection}
 use Rattle.torus_geom.specs.Marks.{Marks, size, IsGrid}
 use Rattle.homology_cert.specs.Certificates.{Cell, comes_first, HasSmallDegrees, AreStates, HasPairStates}
@@ -45,21 +45,27 @@ pub record IsSmallGrid (g : Marks) : Type 0 where
 abbrev pub LeadsTo : Place → List Cell → List ℕ → Place → List Cell → Type 0
 LeadsTo Start ds line q es = (line ≡ codes "gridcert 1") × (q ≡ Size) × (es ≡ ds)
 LeadsTo Size ds line q es = (n : ℕ) × IsSmallSize n × (line ≡ size_line n) × (q ≡ OLine n) × (es ≡ ds)
-LeadsTo (OLine n) ds line q es = (o : List ℕ) × IsBijection n o × (line ≡ marks_line (codes "O") o) × (q ≡ XLine o) × (es ≡ ds)
+LeadsTo (OLine n) ds line q es = (o : List ℕ) × IsBijection n o × (line ≡ marks_line (codes "O") o) × (q ≡ XLine o)
+    × (es ≡ ds)
 LeadsTo (XLine o) ds line q es =
-    (x : List ℕ) × IsGrid (record { o = o; x = x }) × (line ≡ marks_line (codes "X") x) × (q ≡ NoCell (record { o = o; x = x })) × (es ≡ ds)
+    (x : List ℕ) × IsGrid (record { o = o; x = x }) × (line ≡ marks_line (codes "X") x)
+    × (q ≡ NoCell (record { o = o; x = x })) × (es ≡ ds)
 LeadsTo (NoCell g) ds line q es =
     ((line ≡ codes "end") × (q ≡ End g) × (es ≡ ds))
     ⊎ ((d : ℤ × ℤ) × HasSmallDegrees d × (line ≡ degree_line d) × (q ≡ InCell g (new_cell d)) × (es ≡ ds))
 LeadsTo (InCell g c) ds line q es =
     ((line ≡ codes "end") × (q ≡ End g) × (es ≡ ds ++ c ∷ []))
-    ⊎ ((d : ℤ × ℤ) × HasSmallDegrees d × IsTrue (comes_first c (new_cell d)) × (line ≡ degree_line d) × (q ≡ InCell g (new_cell d)) × (es ≡ ds ++ c ∷ []))
-    ⊎ ((z : Chain) × AreStates g z × (c.steps ≡ []) × (line ≡ set_line (codes "cycle") (size g) z) × (q ≡ InCycle g c z) × (es ≡ ds))
+    ⊎ ((d : ℤ × ℤ) × HasSmallDegrees d × IsTrue (comes_first c (new_cell d)) × (line ≡ degree_line d)
+    × (q ≡ InCell g (new_cell d)) × (es ≡ ds ++ c ∷ []))
+    ⊎ ((z : Chain) × AreStates g z × (c.steps ≡ []) × (line ≡ set_line (codes "cycle") (size g) z) × (q ≡ InCycle g c z)
+    × (es ≡ ds))
     ⊎ ((z : Chain) × AreStates g z × (line ≡ set_line (codes "step") (size g) z) × (q ≡ InStep g c z) × (es ≡ ds))
 LeadsTo (InCycle g c z) ds line q es =
-    (f : Chain) × AreStates g f × (line ≡ set_line (codes "cocycle") (size g) f) × (q ≡ InCell g (with_cycle c z f)) × (es ≡ ds)
+    (f : Chain) × AreStates g f × (line ≡ set_line (codes "cocycle") (size g) f) × (q ≡ InCell g (with_cycle c z f))
+    × (es ≡ ds)
 LeadsTo (InStep g c z) ds line q es =
-    (f : Chain) × AreStates g f × (line ≡ set_line (codes "probe") (size g) f) × (q ≡ InCell g (with_step c z f)) × (es ≡ ds)
+    (f : Chain) × AreStates g f × (line ≡ set_line (codes "probe") (size g) f) × (q ≡ InCell g (with_step c z f))
+    × (es ≡ ds)
 LeadsTo (End g) ds line q es = ⊥
 
 abbrev pub Path : Place → List Cell → List (List ℕ) → Place → List Cell → Type 0

@@ -8,5 +8,6 @@ use Rattle.homology_cert.proofs.reading.cycle_place.Goals as goal
 
 pub returns-in_ok-with_cycle-in-Some : goal.returns-in_ok-with_cycle-in-Some
 returns-in_ok-with_cycle-in-Some c =
-    let is = from_some (λ z. AreStates c.args.g z × (c.args.line.now ≡ set_line (codes "cocycle") (size c.args.g) z)) c.in_ok-cocycle.field-0 c.in-Some.cocycle c.in-Some.is c.in_ok-cocycle.ensures.some in
+    let is = from_some (λ z. AreStates c.args.g z × (c.args.line.now ≡ set_line (codes "cocycle") (size c.args.g) z))
+    c.in_ok-cocycle.field-0 c.in-Some.cocycle c.in-Some.is c.in_ok-cocycle.ensures.some in
     (c.in-Some.cocycle, is.0, is.1, ap (InCell c.args.g) c.in_ok-with_cycle-in-Some.ensures)

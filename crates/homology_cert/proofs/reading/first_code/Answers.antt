@@ -1,4 +1,4 @@
-use Rattle.std.proofs.Common.{◌<◌, ◌+◌, ◌∷◌, ◌++◌, arith, ◌∙◌, sym, ap, take, drop}
+use Rattle.std.proofs.Common.{◌+◌, ◌∷◌, ◌++◌, arith, ◌∙◌, sym, ap, take, drop}
 use Rattle.sparse_complex.proofs.BuildLemmas.{factorial_fits}
 use Rattle.state_rank.specs.States.{unrank, state_word}
 use Rattle.state_rank.proofs.RankLemmas.{IsBijection-unrank}
@@ -22,7 +22,14 @@ returns-in_default-clause-none c s more below e =
 
 pub returns-clause-some : goal.returns-clause-some
 returns-clause-some c =
-    let is = state_bytes c.args.n c.args.bytes.now c.in-Some.state c.rank.result (omega (arith, c.if-bytes-digits.false, c.from-digits.ensures)) c.if-bytes-ne32.false
-    c.in-Some.ensures.0 (ap (λ k. take k (drop 1 c.args.bytes.now)) (omega (arith, c.from-digits.ensures)) ∙ c.in-Some.ensures.1) c.rank.ensures.rank c.rank.ensures.below in
-    let small = factorial_fits c.args.n c.requires.greatest in
-    (is.0, omega (arith, is.0, small), is.2 ∙ ap (λ t. (32 ∷ state_word (unrank c.args.n c.rank.result)) ++ t) (ap (λ k. drop (k + 1) c.args.bytes.now) (sym c.from-digits.ensures) ∙ sym (rest_whole (c.from-digits.result + 1) c.args.bytes.now)))
+    let is = state_bytes c.args.n c.args.bytes.now c.in-Some.state c.rank.result
+    (omega (arith, c.if-bytes-digits.false, c.from-digits.ensures)) c.if-bytes-ne32.false
+    c.in-Some.ensures.0 (ap (λ k. take k (drop 1 c.args.bytes.now)) (omega (arith, c.from-digits.ensures))
+    ∙ c.in-Some.ensures.1) c.rank.ensures.rank c.rank.ensures.below in
+    let small = factorial_fits c.args.n c.requires.greatest in (
+      is.0,
+      omega (arith, is.0, small),
+      is.2 ∙ ap (λ t. (32 ∷ state_word (unrank c.args.n c.rank.result)) ++ t)
+          (ap (λ k. drop (k + 1) c.args.bytes.now) (sym c.from-digits.ensures)
+          ∙ sym (rest_whole (c.from-digits.result + 1) c.args.bytes.now)),
+    )

@@ -1,6 +1,5 @@
-use Rattle.std.proofs.Common.{◌∙◌, sym, subst, ap, ◌≡◌, ℕ, List}
+use Rattle.std.proofs.Common.{◌∙◌, sym, ap}
 use Rattle.std.specs.Result.{result_ok}
-use Rattle.std.specs.Fmt.{signed_decimal}
 use Rattle.homology_cert.proofs.ByteLemmas.{small_ascii, parsed, as_i32}
 use Rattle.homology_cert.proofs.reading.number_of.Goals as goal
 

@@ -3,7 +3,8 @@ use Rattle.homology_cert.proofs.DecisionLemmas.{some_answer}
 use Rattle.homology_cert.proofs.reading.read_cert.Goals as goal
 
 pub returns-clause-read_back : goal.returns-clause-read_back
-returns-clause-read_back c d is e = read_back c.args.text.now c.cert_of.result d is e c.cert_of.ensures.certificate c.cert_of.ensures.read
+returns-clause-read_back c d is e = read_back c.args.text.now c.cert_of.result d is e c.cert_of.ensures.certificate
+    c.cert_of.ensures.read
 
 pub returns-clause-one_certificate : goal.returns-clause-one_certificate
 returns-clause-one_certificate c = one_certificate

@@ -1,6 +1,6 @@
-use Rattle.std.proofs.Common.{◌≡◌, ◌+◌, ◌++◌, ◌<◌, ℕ, [], All, length, drop, take, arith, sym, ap, subst, ◌∙◌, get_or}
+use Rattle.std.proofs.Common.{◌≡◌, ◌+◌, ◌<◌, [], All, arith, sym, ap, subst, ◌∙◌}
 use Rattle.std.proofs.lemmas.Bool.Decides.{nat_tests}
-use Rattle.f2_algebra.specs.Chain.{Chain, codes}
+use Rattle.f2_algebra.specs.Chain.{codes}
 use Rattle.state_rank.specs.States.{factorial}
 use Rattle.torus_geom.specs.Marks.{size}
 use Rattle.homology_cert.specs.CertificateText.{set_line}
@@ -30,8 +30,10 @@ returns-then-code-least-clause-none c z is e =
 pub loop-rest-preserved : goal.loop-rest-preserved
 loop-rest-preserved c =
     let code = c.in-Some-first_code.ensures.some in
-    subst (λ s. IsReadSet c.size-n.result c.args.word.now c.args.line.now c.in-Some-first_code.after.now s (c.in-Some-first_code.code + 1)) (sym c.in_ok-toggle.ensures.toggled)
-    (IsReadSet-next c.size-n.result c.args.word.now c.args.line.now c.loop-rest.rest.now c.in-Some-first_code.after.now c.loop-rest.set c.loop-rest.least
+    subst (λ s. IsReadSet c.size-n.result c.args.word.now c.args.line.now c.in-Some-first_code.after.now s
+    (c.in-Some-first_code.code + 1)) (sym c.in_ok-toggle.ensures.toggled)
+    (IsReadSet-next c.size-n.result c.args.word.now c.args.line.now c.loop-rest.rest.now c.in-Some-first_code.after.now
+    c.loop-rest.set c.loop-rest.least
     c.in-Some-first_code.code c.loop-rest.invariant code.0 code.2 c.if-code-least.false)
 
 pub returns-clause-some : goal.returns-clause-some
@@ -40,6 +42,9 @@ returns-clause-some c =
     let rest = c.loop-rest.rest.now in
     let none : rest ≡ [] = no_bytes rest (grind (arith, nat_tests)) in
     let is = IsReadSet-end n c.args.word.now c.args.line.now c.loop-rest.set c.loop-rest.least
-    (subst (λ r. IsReadSet n c.args.word.now c.args.line.now r c.loop-rest.set c.loop-rest.least) none c.loop-rest.invariant) in
-    subst (λ z. All (λ code. code < factorial (size c.args.g.now)) (codes z) × (c.args.line.now ≡ set_line c.args.word.now (size c.args.g.now) z)) (sym c.in_ok-set.ensures)
-    (subst (λ k. All (λ code. code < factorial k) (codes c.loop-rest.set) × (c.args.line.now ≡ set_line c.args.word.now k c.loop-rest.set)) c.size-n.ensures.size is)
+    (subst (λ r. IsReadSet n c.args.word.now c.args.line.now r c.loop-rest.set c.loop-rest.least) none
+    c.loop-rest.invariant) in
+    subst (λ z. All (λ code. code < factorial (size c.args.g.now)) (codes z)
+    × (c.args.line.now ≡ set_line c.args.word.now (size c.args.g.now) z)) (sym c.in_ok-set.ensures)
+    (subst (λ k. All (λ code. code < factorial k) (codes c.loop-rest.set)
+    × (c.args.line.now ≡ set_line c.args.word.now k c.loop-rest.set)) c.size-n.ensures.size is)

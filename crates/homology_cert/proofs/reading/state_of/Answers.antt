@@ -1,4 +1,3 @@
-use Rattle.std.proofs.Common.{arith}
 use Rattle.homology_cert.proofs.ByteLemmas.{state_of-read}
 use Rattle.homology_cert.proofs.reading.state_of.Goals as goal
 
