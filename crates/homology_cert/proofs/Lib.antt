@@ -16,3 +16,13 @@ pub mod SizeLemmas
 pub mod MakingLaws
 pub mod MakingLemmas
 pub mod TextLemmas
+pub mod LineLemmas
+pub mod PlaceLemmas
+pub mod MarkLemmas
+pub mod PathLemmas
+pub mod CompletionLemmas
+pub mod ByteLemmas
+pub mod ReadLemmas
+pub mod SetLemmas
+pub mod NextLemmas
+pub mod DecisionLemmas

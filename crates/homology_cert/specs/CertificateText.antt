@@ -1,4 +1,5 @@
--- The text of a certificate. Each line is ended by one line feed, words stand one space apart, numbers are plain decimals.
+-- The text of a certificate, and the first bad line of a text that is not one. Each line is ended by one line feed,
+-- words stand one space apart, numbers are plain decimals. So a certificate has one text.
 --     set_line word n z          a word, and the states of size n of a set, in ascending order
 --     marks_line word rows       a word, and the rows of marks from column 0 on
 --     degree_line d              the word `cell`, the Maslov degree and the Alexander degree
@@ -9,14 +10,17 @@
 --     certificate_lines c        the head, the cells, and the word `end`
 --     text_of_lines lines        each line with a line feed after it
 --     certificate_text c         the text of a certificate
-use Rattle.std.specs.Prelude.{ℕ, ℤ, List, [], ◌∷◌, ◌++◌, codes}
+--     HasFirstLines text k       the text begins with the first k lines of some certificate
+--     IsFirstBadLine text number the text is no certificate; it begins with the lines before this one of some
+--                                certificate, but not with this one too
+use Rattle.std.specs.Prelude.{◌≡◌, ℕ, ◌+◌, ◌≤◌, ℤ, List, [], ◌∷◌, ◌++◌, length, take, codes}
 use Rattle.std.specs.List.{flat_map}
 use Rattle.std.specs.Fmt.{decimal, signed_decimal}
 use Rattle.f2_algebra.specs.Chain.{Chain, codes as ranks}
 use Rattle.f2_algebra.specs.Certificate.{CyclePair, StepPair}
 use Rattle.state_rank.specs.States.{unrank, state_word}
 use Rattle.torus_geom.specs.Marks.{Marks, size}
-use Rattle.homology_cert.specs.Certificates.{Cell, Certificate}
+use Rattle.homology_cert.specs.Certificates.{Cell, Certificate, IsCertificate}
 
 abbrev pub set_line : List ℕ → ℕ → Chain → List ℕ
 set_line word n z = word ++ flat_map (λ s. 32 ∷ state_word (unrank n s)) (ranks z)
@@ -37,7 +41,8 @@ abbrev pub cell_lines : ℕ → Cell → List (List ℕ)
 cell_lines n cell = degree_line cell.at ∷ flat_map (cycle_lines n) cell.cycles ++ flat_map (step_lines n) cell.steps
 
 abbrev pub head_lines : Marks → List (List ℕ)
-head_lines g = codes "gridcert 1" ∷ (codes "grid " ++ decimal (size g)) ∷ marks_line (codes "O") g.o ∷ marks_line (codes "X") g.x ∷ []
+head_lines g = codes "gridcert 1" ∷ (codes "grid " ++ decimal (size g)) ∷ marks_line (codes "O") g.o ∷ marks_line (codes
+    "X") g.x ∷ []
 
 unfoldable pub certificate_lines : Certificate → List (List ℕ)
 certificate_lines c = head_lines c.grid ++ flat_map (cell_lines (size c.grid)) c.cells ++ codes "end" ∷ []
@@ -47,3 +52,15 @@ text_of_lines lines = flat_map (λ line. line ++ 10 ∷ []) lines
 
 abbrev pub certificate_text : Certificate → List ℕ
 certificate_text c = text_of_lines (certificate_lines c)
+
+pub record HasFirstLines (text : List ℕ) (k : ℕ) : Type 0 where
+  pub certificate : Certificate
+  pub is_one : IsCertificate certificate
+  pub long : k ≤ length (certificate_lines certificate)
+  pub rest : List ℕ
+  pub begins : text ≡ text_of_lines (take k (certificate_lines certificate)) ++ rest
+
+pub record IsFirstBadLine (text : List ℕ) (number : ℕ) : Type 0 where
+  pub none : (c : Certificate) → IsCertificate c → text ≡ certificate_text c → ⊥
+  pub before : (k : ℕ) × (k + 1 ≡ number) × HasFirstLines text k
+  pub bad : HasFirstLines text number → ⊥

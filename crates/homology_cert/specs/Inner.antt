@@ -1,5 +1,7 @@
--- What only private functions and proofs speak of: what is kept while a table is made, and while a certificate is checked.
+-- What only private functions and proofs speak of: what is kept while a table is made, while a certificate is checked,
+-- and while one is read.
 pub mod Ranks
 pub mod Making
 pub mod Checks
 pub mod Cells
+pub mod Reading

@@ -7,8 +7,8 @@
 //! are cancelled, and the cells that are left are counted, in a map from bidegrees to ranks.
 //!
 //! `check_cert` checks a certificate of a table by borders, pairings and counts alone; its contract says
-//! that one that passes tells the table of its grid. `make_cert` makes one that passes. `print_cert` gives its
-//! text.
+//! that one that passes tells the table of its grid. `make_cert` makes one that passes, `print_cert` gives its
+//! text, and `read_cert` the certificate with a text, or the first bad line.
 #![tactic(auto)]
 
 mod certificates;
@@ -17,6 +17,7 @@ mod degrees;
 mod making;
 mod printing;
 mod ranks;
+mod reading;
 mod tables;
 mod verdicts;
 
@@ -24,6 +25,7 @@ pub use certificates::Cert;
 pub use checks::check_cert;
 pub use making::make_cert;
 pub use printing::print_cert;
+pub use reading::{CertEnd, read_cert};
 pub use tables::rank_table;
 pub use verdicts::{CertTest, CertVerdict};
 
