@@ -11,7 +11,7 @@ use grid_ports::{Sink, Source, write_all};
 use std::alloc::Global;
 
 /// The line that tells which words the program knows.
-const USAGE: &str = "usage: gridhom run | make --size N --seed K\n";
+const USAGE: &str = "usage: gridhom run | cert | check | make --size N --seed K\n";
 
 /// Does what the words ask for, and answers the exit status. Where they ask for nothing, `errors` is told
 /// the usage.

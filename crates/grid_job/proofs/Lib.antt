@@ -5,6 +5,10 @@ pub mod OutcomeLemmas
 pub mod ModeLemmas
 pub mod OptionLemmas
 pub mod WrittenLemmas
+pub mod HeadLemmas
+pub mod CertificateFacts
+pub mod CheckLemmas
+pub mod CertificateLemmas
 pub mod ChainLemmas
 pub mod ClassLemmas
 pub mod MadeLemmas

@@ -99,14 +99,6 @@ IsMake-one ws n m s t p q = one p.options q.options
     one (inr a) (inl b) = absurd (not_both ws m t s n b a)
     one (inr a) (inr b) = let same = AreOptions-one ws Seed Size s n t m a b in (same.1, same.0)
 
--- the word of a run is not that of `make`
-pub run_or_make : (ws : List (List ℕ)) (n s : ℕ) → ws ≡ codes "run" ∷ [] → IsMake ws n s → ⊥
-run_or_make ws n s run make =
-    let first : slice_index (word_at ws 0) 0 ≡ 114 = ap (λ xs. slice_index (word_at xs 0) 0) run in
-    let second : slice_index (word_at ws 0) 0 ≡ 109 = ap (λ w. slice_index w 0) make.command in
-    let bad : 114 ≡ 109 = sym first ∙ second in
-    absurd (omega (arith, bad))
-
 -- ---- the bounds of the numbers
 pub IsMake-size : (ws : List (List ℕ)) (n s : ℕ) → IsMake ws n s → IsSize n
 IsMake-size ws n s h = bounds h.options

@@ -6,5 +6,7 @@ pub mod Made
 pub mod Report
 pub mod Status
 pub mod Words
+pub mod Checked
+pub mod Certified
 pub mod Outcome
 pub mod Inner

@@ -1,9 +1,12 @@
 -- What a call of the program may come to. Each mode of the program has its outcomes for a text: the statuses with
 -- which a call may end, and the bytes that it then has written. The clauses of the top call speak of outcomes alone.
 --     IsForm words mode             the words after the program's name ask for this mode
---     left_of mode text             what is left of a text that a call went to the end of: a run reads one byte past the most
---                                   that is judged, and `make` reads nothing
---     IsRefusal text answer         the text is refused, and the answer is the line that says so
+--     left_of mode text             what is left of a text that a call went to the end of: it reads one byte past the
+--                                   most that is judged, and `make` reads nothing
+--     IsTooLong limit text answer   the text is longer than what is judged, and the answer is the line that says so
+--     IsFaulty text answer          the text is no document, and the answer tells its first fault
+--     IsRefusal text answer         the text is refused as a document, and the answer is the line that says so
+--     IsReported text answer        the text is a document, and the answer a report of its script
 --     IsOutcome mode text status answer
 --                                   a call in this mode, on this text, may end with this status and have written
 --                                   this answer
@@ -23,29 +26,34 @@ use Rattle.grid_text.specs.Script.{GridScript}
 use Rattle.grid_text.specs.declared.faults.TextFault.{TextFault}
 use Rattle.grid_text.specs.Limits.{max_text}
 use Rattle.report_text.specs.Lines.{refused_line}
+use Rattle.grid_job.specs.Certified.{IsCertified, IsTooLarge}
+use Rattle.grid_job.specs.Checked.{max_certificate, IsPassed, IsFailed, IsNoCertificate}
 use Rattle.grid_job.specs.Made.{IsMade}
 use Rattle.grid_job.specs.Report.{IsReport}
 use Rattle.grid_job.specs.Words.{IsMake}
 use Rattle.grid_job.specs.declared.modes.Mode.{Mode}
-use Rattle.grid_job.specs.declared.modes.Mode.TheVariants.{Run, Make}
+use Rattle.grid_job.specs.declared.modes.Mode.TheVariants.{Run, Cert, Check, Make}
 use Rattle.grid_job.specs.declared.statuses.Status.{Status}
 use Rattle.grid_job.specs.declared.statuses.Status.TheVariants.{Done, Usage, Refused, ReadFault, WriteFault, NoMemory, No}
 
--- `run` alone asks for a run, and `make` with its two options for a grid of this size and seed
+-- `run`, `cert` and `check` alone ask for what they say, and `make` with its two options for a grid of this size and
+-- seed
 abbrev pub IsForm : List (List ℕ) → Mode → Type 0
 IsForm words Run = words ≡ codes "run" ∷ []
+IsForm words Cert = words ≡ codes "cert" ∷ []
+IsForm words Check = words ≡ codes "check" ∷ []
 IsForm words (Make size seed) = IsMake words size seed
 
 abbrev pub left_of : Mode → List ℕ → List ℕ
 left_of Run text = drop (max_text + 1) text
+left_of Cert text = drop (max_text + 1) text
+left_of Check text = drop (max_certificate + 1) text
 left_of (Make size seed) text = text
 
--- the text is longer than what is judged
-pub record IsTooLong (text answer : List ℕ) : Type 0 where
-  pub long : max_text < length text
+pub record IsTooLong (limit : ℕ) (text answer : List ℕ) : Type 0 where
+  pub long : limit < length text
   pub told : answer ≡ refused_line (codes "TooLong") 0
 
--- the text is no document, and the line tells its first fault
 pub record IsFaulty (text answer : List ℕ) : Type 0 where
   pub within : length text ≤ max_text
   pub fault : TextFault
@@ -54,30 +62,25 @@ pub record IsFaulty (text answer : List ℕ) : Type 0 where
   pub told : answer ≡ refused_line (fault_word fault) number
 
 abbrev pub IsRefusal : List ℕ → List ℕ → Type 0
-IsRefusal text answer = IsTooLong text answer ⊎ IsFaulty text answer
+IsRefusal text answer = IsTooLong max_text text answer ⊎ IsFaulty text answer
 
--- the text is a document, and the answer a report of its script
 pub record IsReported (text answer : List ℕ) : Type 0 where
   pub within : length text ≤ max_text
   pub script : GridScript
   pub document : IsDocument text script
   pub report : IsReport script answer
 
+-- there is no other
 abbrev pub IsOutcome : Mode → List ℕ → Status → List ℕ → Type 0
 IsOutcome Run text Done answer = IsReported text answer
 IsOutcome Run text Refused answer = IsRefusal text answer
-IsOutcome Run text Usage answer = ⊥
-IsOutcome Run text ReadFault answer = ⊥
-IsOutcome Run text WriteFault answer = ⊥
-IsOutcome Run text NoMemory answer = ⊥
-IsOutcome Run text No answer = ⊥
+IsOutcome Cert text Done answer = IsCertified text answer
+IsOutcome Cert text Refused answer = IsRefusal text answer ⊎ IsTooLarge text answer
+IsOutcome Check text Done answer = IsPassed text answer
+IsOutcome Check text No answer = IsFailed text answer
+IsOutcome Check text Refused answer = IsTooLong max_certificate text answer ⊎ IsNoCertificate text answer
 IsOutcome (Make size seed) text Done answer = IsMade size seed answer
-IsOutcome (Make size seed) text Refused answer = ⊥
-IsOutcome (Make size seed) text Usage answer = ⊥
-IsOutcome (Make size seed) text ReadFault answer = ⊥
-IsOutcome (Make size seed) text WriteFault answer = ⊥
-IsOutcome (Make size seed) text NoMemory answer = ⊥
-IsOutcome (Make size seed) text No answer = ⊥
+IsOutcome mode text status answer = ⊥
 
 abbrev pub IsEnd : Status → Type 0
 IsEnd Done = Unit {0}
@@ -88,7 +91,8 @@ IsEnd ReadFault = ⊥
 IsEnd WriteFault = ⊥
 IsEnd NoMemory = ⊥
 
-pub record HasEnded (words : List (List ℕ)) (text : List ℕ) (status : Status) (left before after : Option (List ℕ)) : Type 0 where
+pub record HasEnded (words : List (List ℕ)) (text : List ℕ) (status : Status) (left before after : Option (List ℕ)) :
+    Type 0 where
   pub mode : Mode
   pub form : IsForm words mode
   pub answer : List ℕ

@@ -1,36 +1,44 @@
 //! The top call.
-ghost use Rattle.std.specs.Prelude.{◌≡◌, ◌≢◌, ◌⊎◌, ℕ, ◌+◌, ◌-◌, ◌^◌, ◌<◌, ◌≤◌, ◌↔◌, List, Some, length, drop, map, codes, string_bytes, IfSome};
+ghost use Rattle.std.specs.Prelude.{◌≡◌, ◌≢◌, ◌⊎◌, ℕ, ◌+◌, ◌-◌, ◌^◌, ◌<◌, ◌≤◌, ◌↔◌, List, [], ◌∷◌, Some, length, drop, map, codes, string_bytes, IfSome};
 ghost use Rattle.grid_ports.specs.Faults.{count_up};
 ghost use Rattle.grid_text.specs.Document.{IsDocument};
 ghost use Rattle.grid_text.specs.Limits.{max_text};
 ghost use Rattle.grid_text.specs.Faults.{IsFirstFault};
 ghost use Rattle.grid_text.specs.Script.{GridScript};
-ghost use Rattle.report_text.specs.Lines.{refused_line as refused_line_of};
 ghost use Rattle.state_rank.specs.Bijection.{IsSize};
+ghost use Rattle.torus_geom.specs.Homology.{IsHomologyTable};
+ghost use Rattle.homology_cert.specs.Certificates.{Certificate, IsCertificate};
+ghost use Rattle.homology_cert.specs.CertificateTests.{certified_rows};
+ghost use Rattle.homology_cert.specs.CertificateText.{certificate_text};
+ghost use Rattle.grid_job.specs.Checked.{yes_line};
 ghost use Rattle.grid_job.specs.Made.{IsMade};
 ghost use Rattle.grid_job.specs.Report.{IsReport};
 ghost use Rattle.grid_job.specs.Words.{IsMake};
 ghost use Rattle.grid_job.specs.Outcome.{IsForm, IsOutcome, IsEnd, HasEnded, HasBegun};
 ghost use Rattle.grid_job.specs.Inner.Written.{HasWritten, Tells};
 
+use crate::certificates::cert;
+use crate::checks::check;
 use crate::made::made_text;
 use crate::modes::{Mode, mode_of};
+use crate::refusals::refuse;
 use crate::reports::{ReportEnd, write_report};
 use crate::statuses::Status;
 use grid_ports::{ReadEnd, Sink, Source, read_all, write_all};
 use grid_text::{MAX_TEXT, Script, TextEnd, TextFault, fault_word, judge};
-use report_text::refused_line;
 use std::alloc::Global;
 
 /// Does what the words ask for: `run` alone reads a document from `src` and writes a report of it to `out`;
-/// `make --size N --seed K` reads nothing, and writes the script of this size and seed with a summary of its grid.
+/// `cert` alone reads a document and writes a certificate of the grid in force at its end, which has a size of at
+/// most six; `check` alone reads a certificate and writes whether it passes; `make --size N --seed K` reads
+/// nothing, and writes the script of this size and seed with a summary of its grid.
 ///
 /// The words are those after the program's name. The options of `make` stand in either order, each in one word
 /// with `=` or in two. All is read before anything is written. A text that is no document is refused by one
-/// line, which tells its first fault and the line that has it. A chain that the document names is followed
-/// through the turns and the commutations of the grid. The ranks that a report tells are those of the homology
-/// of the fully blocked grid complex over F2 (Ozsváth, Stipsicz and Szabó, "Grid Homology for Knots and
-/// Links", chapter 4).
+/// line, which tells its first fault and the line that has it; to `check`, one that is no certificate is, by its first
+/// bad line. A chain that the document names is followed through the turns and the commutations of the grid. The ranks
+/// that a report or a certificate tells are those of the homology of the fully blocked grid complex over F2
+/// (Ozsváth, Stipsicz and Szabó, "Grid Homology for Knots and Links", chapter 4).
 ///
 /// What is said of bytes holds for a source and a sink that tell theirs.
 pub fn gridhom<S: Source, K: Sink>(
@@ -43,7 +51,8 @@ pub fn gridhom<S: Source, K: Sink>(
     requires sink_count { K.faults out.old < 2 ^ 64 - 1 }
 
     // A call that went to its end has written the answer of one of its outcomes: a run has read all of the text, and
-    // written a report of a document, and of any other text the line that refuses it.
+    // written a report of a document, and of any other text the line that refuses it. So it is with `cert` and a
+    // certificate of the grid, and with `check` and the line of the verdict of a certificate.
     ensures ended { IsEnd result → IfSome (S.left src.old) (λ text. HasEnded
         (map string_bytes words.now) text result
         (S.left src.new) (K.written out.old) (K.written out.new)) }
@@ -73,7 +82,9 @@ pub fn gridhom<S: Source, K: Sink>(
     ensures write_fault { result ≡ Status.WriteFault
         → K.faults out.new ≡ K.faults out.old + 1 }
     ensures no_write_fault { result ≢ Status.WriteFault → K.faults out.new ≡ K.faults out.old }
-    ensures not_no { result ≢ Status.No }
+
+    // `check` alone finds that a certificate fails.
+    ensures no { result ≡ Status.No → map string_bytes words.now ≡ codes "check" ∷ [] }
 
     // A call of `make` reads nothing, whatever its end.
     ensures make_reads_nothing { (size seed : ℕ) → IsMake (map string_bytes words.now) size seed
@@ -84,6 +95,15 @@ pub fn gridhom<S: Source, K: Sink>(
         → (status : Status) × (answer : List ℕ) × IsOutcome mode text status answer }
     ensures one_status { (mode : Mode) (text : List ℕ) (s t : Status) (a b : List ℕ)
         → IsOutcome mode text s a → IsOutcome mode text t b → s ≡ t }
+
+    // What `cert` has written is a certificate that passes, and `check` says so.
+    ensures certificates_pass { (text answer : List ℕ) → IsOutcome Mode.Cert text Status.Done answer
+        → IsOutcome Mode.Check answer Status.Done yes_line }
+
+    // A yes of `check` tells the table of the grid of the certificate, whoever made it.
+    ensures yes_tells_the_table { (text answer : List ℕ) → IsOutcome Mode.Check text Status.Done answer
+        → (c : Certificate) × IsCertificate c × (text ≡ certificate_text c)
+        × IsHomologyTable c.grid (certified_rows c.cells) }
 
     // A text is a document of one script alone, and then it has no first fault, of which there is one.
     ensures one_script { (text : List ℕ) (s t : GridScript) → IsDocument text s → IsDocument text t
@@ -125,12 +145,14 @@ fn answer_words<S: Source, K: Sink>(
     ensures write_fault { result ≡ Status.WriteFault
         → K.faults out.new ≡ K.faults out.old + 1 }
     ensures no_write_fault { result ≢ Status.WriteFault → K.faults out.new ≡ K.faults out.old }
-    ensures not_no { result ≢ Status.No }
+    ensures no { result ≡ Status.No → map string_bytes words.now ≡ codes "check" ∷ [] }
     ensures make_reads_nothing { (size seed : ℕ) → IsMake (map string_bytes words.now) size seed
         → src.new ≡ src.old }
 {
     match mode_of(words) {
         Some(Mode::Run) => run(alloc, src, out),
+        Some(Mode::Cert) => cert(alloc, src, out),
+        Some(Mode::Check) => check(alloc, src, out),
         Some(Mode::Make { size, seed }) => make(alloc, size, seed, out),
         None => Status::Usage,
     }
@@ -198,20 +220,5 @@ fn answer_script<K: Sink>(alloc: Global, script: &Script, out: &mut K) -> Status
         Ok(()) => Status::Done,
         Err(ReportEnd::WriteFault) => Status::WriteFault,
         Err(ReportEnd::NoMemory) => Status::NoMemory,
-    }
-}
-
-// Writes the line of a refusal.
-fn refuse<K: Sink>(alloc: Global, fault: &str, line: u32, out: &mut K) -> Status
-    ensures { HasWritten
-        (λ status answer. (status ≡ Status.Refused) × (answer ≡ refused_line_of fault.now line)) result
-        (K.faults out.old) (K.faults out.new) (K.written out.old) (K.written out.new) }
-{
-    let Ok(text) = refused_line(alloc, fault, line) else {
-        return Status::NoMemory;
-    };
-    match write_all(out, &text) {
-        Ok(()) => Status::Refused,
-        Err(_) => Status::WriteFault,
     }
 }

@@ -5,9 +5,11 @@
 //! document and a report are is said in specs/, with no trace of how they are read and written.
 //! Stands on `grid_ports`, on `grid_text`, which judges texts, on `front_data`, `rectangles`, `homology_cert`,
 //! `hat_division` and `legendrian_class`, which answer the commands, and on `report_text`, which prints their
-//! answers.
+//! answers. `homology_cert` makes, reads and checks certificates too.
 #![tactic(auto)]
 
+mod certificates;
+mod checks;
 mod classes;
 mod generator;
 mod hats;
@@ -15,6 +17,7 @@ mod in_force;
 mod jobs;
 mod made;
 mod modes;
+mod refusals;
 mod reports;
 mod statuses;
 mod words;
@@ -25,6 +28,8 @@ pub use modes::Mode;
 pub use statuses::Status;
 pub use words::Flag;
 
+#[cfg(test)]
+mod certificate_tests;
 #[cfg(test)]
 mod failing_tests;
 #[cfg(test)]

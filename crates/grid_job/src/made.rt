@@ -83,8 +83,8 @@ fn verdict_word(alive: bool) -> &'static str
     if alive { "alive" } else { "null" }
 }
 
-// Appends the decimal digits of a number.
-fn push_number<I: Integer>(line: &mut Vec<u8>, number: I) -> Result<(), NoMemory>
+/// Appends the decimal digits of a number.
+pub(crate) fn push_number<I: Integer>(line: &mut Vec<u8>, number: I) -> Result<(), NoMemory>
     ensures { OnOk result (line.new.items ≡ line.old.items ++ I.text number) }
 {
     let mut buffer = Buffer::new();

@@ -1,5 +1,5 @@
 //! What the words after the program's name ask for.
-ghost use Rattle.std.specs.Prelude.{◌↔◌, map, string_bytes, codes, ◌≡◌, [], ◌∷◌, IfSome, IfNone, IsTrue};
+ghost use Rattle.std.specs.Prelude.{◌↔◌, map, string_bytes, ◌≡◌, [], ◌∷◌, IfSome, IfNone, IsTrue};
 ghost use Rattle.grid_job.specs.Outcome.{IsForm};
 
 use crate::words::make_numbers;
@@ -9,6 +9,10 @@ use crate::words::make_numbers;
 pub enum Mode {
     /// Reads a document and writes a report of it.
     Run,
+    /// Reads a document and writes a certificate of the grid in force at its end.
+    Cert,
+    /// Reads a certificate and writes whether it passes.
+    Check,
     /// Reads nothing, and writes the script of this size and seed, with a summary of its grid.
     Make { size: u8, seed: u32 },
 }
@@ -18,8 +22,14 @@ pub(crate) fn mode_of(words: &[String]) -> Option<Mode>
     ensures some { IfSome result (λ mode. IsForm (map string_bytes words.now) mode) }
     ensures none { IfNone result ((mode : Mode) → ¬ IsForm (map string_bytes words.now) mode) }
 {
-    if is_run(words) {
+    if is_alone(words, "run") {
         return Some(Mode::Run);
+    }
+    if is_alone(words, "cert") {
+        return Some(Mode::Cert);
+    }
+    if is_alone(words, "check") {
+        return Some(Mode::Check);
     }
     let Some((size, seed)) = make_numbers(words) else {
         return None;
@@ -30,12 +40,12 @@ pub(crate) fn mode_of(words: &[String]) -> Option<Mode>
     })
 }
 
-// Whether the words are `run` alone.
-fn is_run(words: &[String]) -> bool
-    ensures { IsTrue result ↔ (map string_bytes words.now ≡ codes "run" ∷ []) }
+// Whether the words are this one alone.
+fn is_alone(words: &[String], command: &str) -> bool
+    ensures { IsTrue result ↔ (map string_bytes words.now ≡ command.now ∷ []) }
 {
     match words {
-        [word] => word.as_str() == "run",
+        [word] => word.as_str() == command,
         _ => false,
     }
 }

@@ -132,7 +132,7 @@ const ROWS: [(&str, &str, (u64, u64), u8, &str); 33] = [
     ("make --size 5 --seed 2147483648", UNKNOT, (0, 0), 1, ""),
     ("run now", UNKNOT, (0, 0), 1, ""),
     ("", UNKNOT, (0, 0), 1, ""),
-    ("cert", UNKNOT, (0, 0), 1, ""),
+    ("cert now", UNKNOT, (0, 0), 1, ""),
 ];
 
 /// The lines of a grid of two columns, and of one of five.

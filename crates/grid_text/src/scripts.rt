@@ -79,8 +79,8 @@ impl Script {
         &self.commands
     }
 
-    // The grid in force after the commands.
-    pub(crate) fn in_force(&self) -> &Grid
+    /// The grid in force after the commands.
+    pub fn in_force(&self) -> &Grid
         ensures grid { result.now ≡ grid_in_force self.now }
         ensures script { IsScript self.now }
     {

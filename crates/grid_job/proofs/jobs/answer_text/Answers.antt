@@ -11,7 +11,8 @@ returns-in-Ok g c =
 pub returns-in-Err-Refused : goal.returns-in-Err-Refused
 returns-in-Err-Refused g c =
     let first = rw c.in-Err-Refused.field-0-is at c.in-Err-Refused.ensures.refused in
-    HasWritten-fault c.args.text.now c.fault_word.result.now _ _ _ _ _ _ _ c.requires.within first c.fault_word.ensures c.refuse.ensures
+    HasWritten-fault (IsOutcome Run c.args.text.now) c.args.text.now c.fault_word.result.now _ _ _ _ _ _ _
+    (λ answer refusal. refusal) c.requires.within first c.fault_word.ensures c.refuse.ensures
 
 pub returns-in-Err-NoMemory : goal.returns-in-Err-NoMemory
 returns-in-Err-NoMemory g c =

@@ -1,5 +1,7 @@
 use Rattle.grid_text.proofs.Paths.JudgementLemmas.{one_script, no_document}
 use Rattle.grid_text.proofs.Paths.OutcomeLemmas.{one_fault}
+use Rattle.grid_job.proofs.CertificateLemmas.{certificates_pass}
+use Rattle.grid_job.proofs.CheckLemmas.{yes_tells_the_table}
 use Rattle.grid_job.proofs.OutcomeLemmas.{some_outcome, one_status}
 use Rattle.grid_job.proofs.jobs.gridhom.Goals as goal
 
@@ -17,3 +19,9 @@ returns-clause-no_document g c = no_document
 
 pub returns-clause-one_fault : goal.returns-clause-one_fault
 returns-clause-one_fault g c = one_fault
+
+pub returns-clause-certificates_pass : goal.returns-clause-certificates_pass
+returns-clause-certificates_pass g c = certificates_pass
+
+pub returns-clause-yes_tells_the_table : goal.returns-clause-yes_tells_the_table
+returns-clause-yes_tells_the_table g c = yes_tells_the_table

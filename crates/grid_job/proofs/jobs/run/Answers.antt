@@ -1,28 +1,34 @@
-use Rattle.std.proofs.Common.{◌≤◌, length, ap, Err, arith}
+use Rattle.std.proofs.Common.{◌≤◌, length, ap, Err, arith, inl}
 use Rattle.grid_text.specs.Limits.{max_text}
+use Rattle.grid_job.specs.Outcome.{IsOutcome}
+use Rattle.grid_job.specs.declared.modes.Mode.TheVariants.{Run}
+use Rattle.grid_job.proofs.OutcomeLemmas.{some_report}
 use Rattle.grid_job.proofs.WrittenLemmas.{read_to_the_end, read_past_the_limit, HasWritten-long, HasWritten-read, HasWritten-unread, not_others}
 use Rattle.grid_job.proofs.jobs.run.Goals as goal
 
 pub returns-in-Ok-clause-read : goal.returns-in-Ok-clause-read
 returns-in-Ok-clause-read g c _ =
     let within : length c.in-Ok.text.items ≤ max_text = omega (arith, c.in-Ok.ensures.within, c.deref.ensures.len) in
-    read_to_the_end _ _ c.in-Ok.text.items c.in-Ok.ensures.bytes c.in-Ok.ensures.to_the_end within
+    read_to_the_end max_text _ _ c.in-Ok.text.items c.in-Ok.ensures.bytes c.in-Ok.ensures.to_the_end within
 
 pub returns-in-Ok-clause-written : goal.returns-in-Ok-clause-written
 returns-in-Ok-clause-written g c _ =
-    HasWritten-read _ _ c.in-Ok.text.items c.deref.result.now _ _ _ _ _ c.in-Ok.ensures.bytes c.in-Ok.ensures.to_the_end
+    HasWritten-read (IsOutcome Run) _ _ c.in-Ok.text.items c.deref.result.now _ _ _ _ _ c.in-Ok.ensures.bytes
+    c.in-Ok.ensures.to_the_end
     c.deref.ensures.value c.answer_text.ensures
 
 pub returns-in-Ok-clause-not_others : goal.returns-in-Ok-clause-not_others
-returns-in-Ok-clause-not_others g c = not_others c.deref.result.now _ _ _ _ _ c.answer_text.ensures
+returns-in-Ok-clause-not_others g c = not_others (IsOutcome Run c.deref.result.now) _ _ _ _ _ (λ answer never. never)
+    c.answer_text.ensures
 
 pub returns-in-Err-TooLong-clause-read : goal.returns-in-Err-TooLong-clause-read
 returns-in-Err-TooLong-clause-read g c _ =
-    read_past_the_limit _ _ (c.in-Err-TooLong.ensures.too_long (ap Err c.in-Err-TooLong.field-0-is))
+    read_past_the_limit max_text _ _ (c.in-Err-TooLong.ensures.too_long (ap Err c.in-Err-TooLong.field-0-is))
 
 pub returns-in-Err-TooLong-clause-written : goal.returns-in-Err-TooLong-clause-written
 returns-in-Err-TooLong-clause-written g c _ =
-    HasWritten-long _ _ _ _ _ _ _ (c.in-Err-TooLong.ensures.too_long (ap Err c.in-Err-TooLong.field-0-is)) c.refuse.ensures
+    HasWritten-long (IsOutcome Run) max_text _ _ _ _ _ _ _ (λ text answer long. inl long)
+    (c.in-Err-TooLong.ensures.too_long (ap Err c.in-Err-TooLong.field-0-is)) c.refuse.ensures
 
 pub returns-in-Err-NoMemory-clause-written : goal.returns-in-Err-NoMemory-clause-written
-returns-in-Err-NoMemory-clause-written g c _ = HasWritten-unread _ _ _
+returns-in-Err-NoMemory-clause-written g c _ = HasWritten-unread (IsOutcome Run) _ _ _ some_report

@@ -1,4 +1,4 @@
--- The words are neither those of a run nor those of `make`.
+-- The words are those of no mode.
 use Rattle.std.proofs.Common.{map, string_bytes, Global, sym, ◌∙◌}
 use Rattle.std.proofs.lemmas.Bool.{false≢true}
 use Rattle.grid_job.proofs.ModeLemmas.{no_mode}
@@ -7,4 +7,6 @@ use Rattle.grid_job.proofs.modes.mode_of.Goals as goal
 pub returns-in_default-clause-none : goal.returns-in_default-clause-none
 returns-in_default-clause-none c =
     no_mode (map (string_bytes {Z = Global}) c.args.words.now)
-    (λ run. false≢true (sym c.if-is_run.false ∙ c.is_run.ensures.1 run)) c.in_default.ensures.none
+    (λ run. false≢true (sym c.if-is_alone.false ∙ c.is_alone.ensures.1 run))
+    (λ cert. false≢true (sym c.if-is_alone-2.false ∙ c.is_alone-2.ensures.1 cert))
+    (λ check. false≢true (sym c.if-is_alone-3.false ∙ c.is_alone-3.ensures.1 check)) c.in_default.ensures.none

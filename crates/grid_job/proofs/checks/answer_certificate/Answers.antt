@@ -1,0 +1,22 @@
+use Rattle.std.proofs.Common.{ap, Err}
+use Rattle.grid_job.specs.Outcome.{IsOutcome}
+use Rattle.grid_job.specs.declared.modes.Mode.TheVariants.{Check}
+use Rattle.grid_job.proofs.CheckLemmas.{HasWritten-verdict, HasWritten-bad_line}
+use Rattle.grid_job.proofs.OutcomeLemmas.{some_checked}
+use Rattle.grid_job.proofs.WrittenLemmas.{HasWritten-nothing}
+use Rattle.grid_job.proofs.checks.answer_certificate.Goals as goal
+
+pub returns-in-Ok : goal.returns-in-Ok
+returns-in-Ok g c =
+    HasWritten-verdict c.args.text.now c.in-Ok.certificate _ _ _ _ _ c.requires.within c.grid.ensures.certificate
+    c.in-Ok.ensures.read c.tell_verdict.ensures
+
+pub returns-in-Err-BadLine : goal.returns-in-Err-BadLine
+returns-in-Err-BadLine g c =
+    let first = c.in-Err-BadLine.ensures.refused c.in-Err-BadLine.line (ap Err c.in-Err-BadLine.field-0-is) in
+    HasWritten-bad_line c.args.text.now c.in-Err-BadLine.line _ _ _ _ _ c.requires.within first c.refuse.ensures
+
+pub returns-in-Err-NoMemory : goal.returns-in-Err-NoMemory
+returns-in-Err-NoMemory g c =
+    let outcome = some_checked c.args.text.now in
+    HasWritten-nothing (IsOutcome Check c.args.text.now) _ _ outcome.0 outcome.1 outcome.2

@@ -1,0 +1,7 @@
+-- Out of memory before anything was written.
+use Rattle.homology_cert.specs.CertificateTests.{verdict_of}
+use Rattle.grid_job.proofs.CheckLemmas.{HasWritten-no_verdict}
+use Rattle.grid_job.proofs.checks.tell_verdict.Goals as goal
+
+pub returns-in-Err : goal.returns-in-Err
+returns-in-Err g c = HasWritten-no_verdict (verdict_of c.args.certificate.now) _ _
