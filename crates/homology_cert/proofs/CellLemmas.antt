@@ -58,7 +58,8 @@ module _ (C : Complex ℤ) (cells : List Cell) (listed : ListsCells C cells) whe
 
   all_cells : (m : ℤ) → IsAllCells C m (of_codes (codes_at m cells))
   all_cells m s = (
-    λ h. is_cell m s (Contains-from_any (λ a b. eqb-true a b) s (codes_at m cells) (sym (holds-of_codes (codes_at m cells) s) ∙ h)),
+    λ h. is_cell m s (Contains-from_any (λ a b. eqb-true a b) s (codes_at m cells)
+        (sym (holds-of_codes (codes_at m cells) s) ∙ h)),
     λ e. holds-of_codes (codes_at m cells) s ∙ any-member (codes_at m cells) s (has_cell m s e),
   )
 
@@ -78,7 +79,8 @@ module _ (C : Complex ℤ) (cells : List Cell) (listed : ListsCells C cells) whe
       into : (i : ℕ) → i < length cells → (get_or cells i no_cell).code < n
       into i l = below _ (ap is_some ((listed.each (get_or cells i no_cell)).0 (Contains-get_or cells i no_cell l)))
 
-      one : (i j : ℕ) → i < length cells → j < length cells → (get_or cells i no_cell).code ≡ (get_or cells j no_cell).code → i ≡ j
+      one : (i j : ℕ) → i < length cells → j < length cells
+          → (get_or cells i no_cell).code ≡ (get_or cells j no_cell).code → i ≡ j
       one i j l k e = elim (cases_lt i j) [
         | inl less ↦ absurd (listed.once i j no_cell less k e)
         | inr more ↦ elim (cases_lt j i) [
@@ -88,9 +90,11 @@ module _ (C : Complex ℤ) (cells : List Cell) (listed : ListsCells C cells) whe
       ]
 
 -- the cells that a reduction leaves count the ranks
-pub ranks_of_cells : (g : Marks) → IsGrid g → (a : ℤ) (left : Complex ℤ) (log : List Entry) (cells : List Cell) → IsReduction g a left log → ListsCells left cells → HasRanks g a cells
+pub ranks_of_cells : (g : Marks) → IsGrid g → (a : ℤ) (left : Complex ℤ) (log : List Entry) (cells : List Cell)
+    → IsReduction g a left log → ListsCells left cells → HasRanks g a cells
 ranks_of_cells g grid a left log cells reduced listed = record {
-  ranks = λ m. subst (IsHomologyRank g m a) (length-all_cells left cells listed m) (rank_of_reduction g grid a left log reduced m (of_codes (codes_at m cells)) (all_cells left cells listed m));
+  ranks = λ m. subst (IsHomologyRank g m a) (length-all_cells left cells listed m)
+      (rank_of_reduction g grid a left log reduced m (of_codes (codes_at m cells)) (all_cells left cells listed m));
   few =
       let most = few_cells left cells listed (factorial (size g)) (left-below g grid a left log reduced) in
       let states = factorial_fits (size g) grid.is_size.greatest in

@@ -1,8 +1,11 @@
 -- A certificate with the verdict yes tells the table of ranks of its grid.
 --
--- The facts of each cell (PassingLemmas) are those that `f2_algebra` asks of a cell of a certificate of the grid complex:
--- chains whose states have the bidegree are chains of this degree, borders are those of the complex, and as many states as
--- are counted are its cells of this degree. So the number of cycle pairs of a cell is the rank in its bidegree, and the rank
+-- The facts of each cell (PassingLemmas) are those that `f2_algebra` asks of a cell of a certificate of the grid
+-- complex:
+-- chains whose states have the bidegree are chains of this degree, borders are those of the complex, and as many states
+-- as
+-- are counted are its cells of this degree. So the number of cycle pairs of a cell is the rank in its bidegree, and the
+-- rank
 -- is 0 where there is no cell. The rows are in order because the cells are.
 use Rattle.std.proofs.Common.{◌≡◌, ◌≢◌, ℕ, zero, suc, ◌+◌, ◌<◌, Bool, true, false, not, ◌&&◌, ◌||◌, eqb, List, [], ◌∷◌, length, get_or, ℤ, pos, ◌+ℤ◌, ◌-ℤ◌, ◌<ℤ◌, int_lt, Any, All, AllPairs, Contains, IsTrue, ◌↔◌, if◌then◌else◌, inl, inr, refl, sym, ap, ap₂, subst, ◌∙◌, is_some, nat_lt, arith}
 use Rattle.std.specs.List.{filter, list_any, list_all}
@@ -51,7 +54,8 @@ same_degree-is d e = (
       let m = (Decides-int_eq d.0 e.0).0 first in
       let a = (Decides-int_eq d.1 e.1).0 second in
       λ i. (m i, a i),
-  λ e_is. ap₂ (λ s t. s && t) ((Decides-int_eq d.0 e.0).1 (ap (λ (t : ℤ × ℤ). t.0) e_is)) ((Decides-int_eq d.1 e.1).1 (ap (λ (t : ℤ × ℤ). t.1) e_is)),
+  λ e_is. ap₂ (λ s t. s && t) ((Decides-int_eq d.0 e.0).1 (ap (λ (t : ℤ × ℤ). t.0) e_is))
+      ((Decides-int_eq d.1 e.1).1 (ap (λ (t : ℤ × ℤ). t.1) e_is)),
 )
 
 -- a code that a chain holds has what each of its codes has
@@ -61,10 +65,12 @@ at_code P z all s held =
     subst P is (all k s within)
 
 pub tested_code : (p : ℕ → Bool) (z : Chain) → list_all p (codes z) ≡ true → (s : ℕ) → holds z s ≡ true → p s ≡ true
-tested_code p z all s held = member_of_all p (codes z) all s (Contains-from_any (λ a b. eqb-true a b) s (codes z) (sym (holds-codes z s) ∙ held))
+tested_code p z all s held =
+    member_of_all p (codes z) all s (Contains-from_any (λ a b. eqb-true a b) s (codes z) (sym (holds-codes z s) ∙ held))
 
 pub nothing_of_empty : (z : Chain) → is_empty z ≡ true → z ≡ nothing
-nothing_of_empty z h = same_chain z nothing (λ s. holds-codes z s ∙ ap (any s) (no_codes (codes z) h) ∙ sym (holds-nothing s))
+nothing_of_empty z h =
+    same_chain z nothing (λ s. holds-codes z s ∙ ap (any s) (no_codes (codes z) h) ∙ sym (holds-nothing s))
   where
     no_codes : (xs : List ℕ) → eqb (length xs) 0 ≡ true → xs ≡ []
     no_codes [] h = refl
@@ -75,7 +81,8 @@ module _ (g : Marks) (grid : IsGrid g) where
   G = grid_complex g
 
   pub degree_of_state : (s : ℕ) → s < factorial (size g) → G.degree s ≡ Some (bidegree g (unrank (size g) s))
-  degree_of_state s within = ap (λ b. if b then Some (bidegree g (unrank (size g) s)) else None) (lt-ltb s (factorial (size g)) within)
+  degree_of_state s within =
+      ap (λ b. if b then Some (bidegree g (unrank (size g) s)) else None) (lt-ltb s (factorial (size g)) within)
 
   pub state_of_degree : (s : ℕ) (d : ℤ × ℤ) → G.degree s ≡ Some d → s < factorial (size g)
   state_of_degree s d is = by_test (nat_lt s (factorial (size g))) refl
@@ -86,11 +93,13 @@ module _ (g : Marks) (grid : IsGrid g) where
 
   -- a state with the bidegree has this degree in the complex
   pub degree_of_test : (d : ℤ × ℤ) (s : ℕ) → s < factorial (size g) → has_degree g d s ≡ true → G.degree s ≡ Some d
-  degree_of_test d s within h = degree_of_state s within ∙ ap Some ((same_degree-is (bidegree g (unrank (size g) s)) d).0 h)
+  degree_of_test d s within h =
+      degree_of_state s within ∙ ap Some ((same_degree-is (bidegree g (unrank (size g) s)) d).0 h)
 
   pub all_of_degree : (d : ℤ × ℤ) (z : Chain) → AreStates g z → all_have g d z ≡ true → AllOfDegree G d z
   all_of_degree d z states h s held =
-      degree_of_test d s (at_code (λ code. code < factorial (size g)) z states s held) (tested_code (has_degree g d) z h s held)
+      degree_of_test d s (at_code (λ code. code < factorial (size g)) z states s held)
+      (tested_code (has_degree g d) z h s held)
 
   -- ---- pairs
   no_border : (z : Chain) → is_empty (border g z) ≡ true → border_in G z ≡ nothing
@@ -102,22 +111,30 @@ module _ (g : Marks) (grid : IsGrid g) where
       by_test : (b : Bool) → nat_lt s (factorial (size g)) ≡ b → pairs_oddly (G.targets s) f ≡ false
       by_test true e =
           ap (λ b. pairs_oddly (if b then border_of_state g (unrank (size g) s) else nothing) f) e
-          ∙ not-true _ (at_all_below (factorial (size g)) (λ t. not (pairs_oddly (border_of_state g (unrank (size g) t)) f)) h s (ltb-true s (factorial (size g)) e))
+          ∙ not-true _ (at_all_below (factorial (size g)) (λ t. not
+          (pairs_oddly (border_of_state g (unrank (size g) t)) f)) h s (ltb-true s (factorial (size g)) e))
       by_test false e =
-          ap (λ b. pairs_oddly (if b then border_of_state g (unrank (size g) s) else nothing) f) e ∙ pairs_oddly-weight nothing f ∙ weight-nothing (holds f)
+          ap (λ b. pairs_oddly (if b then border_of_state g (unrank (size g) s) else nothing) f) e
+          ∙ pairs_oddly-weight nothing f ∙ weight-nothing (holds f)
 
-  with_states : {X : Type 0} (P Q R : X → Type 0) (xs : List X) → ((x : X) → P x → Q x → R x) → All P xs → Every Q xs → All R xs
+  with_states : {X : Type 0} (P Q R : X → Type 0) (xs : List X) → ((x : X) → P x → Q x → R x) → All P xs → Every Q xs
+      → All R xs
   with_states P Q R xs f p q k d l = f (get_or xs k d) (p k d l) (all_from Q xs q k d l)
 
-  pub are_cycle_pairs : (d : ℤ × ℤ) (cell : Cell) → HasPairStates g cell → Every (PassesCycle g d) cell.cycles → AllPairs ArePairedApart cell.cycles → AreCyclePairs G d cell.cycles
+  pub are_cycle_pairs : (d : ℤ × ℤ) (cell : Cell) → HasPairStates g cell → Every (PassesCycle g d) cell.cycles
+      → AllPairs ArePairedApart cell.cycles → AreCyclePairs G d cell.cycles
   are_cycle_pairs d cell states passes apart = record {
     cycles = with_states (HasCycleStates g) (PassesCycle g d) (λ (p : CyclePair). IsCycle G d p.cycle) cell.cycles
         (λ p s t. (all_of_degree d p.cycle s.cycle t.cycle_degree, no_border p.cycle t.cycle)) states.cycles passes;
-    cocycle_degrees = with_states (HasCycleStates g) (PassesCycle g d) (λ (p : CyclePair). AllOfDegree G d p.cocycle) cell.cycles
+    cocycle_degrees =
+        with_states (HasCycleStates g) (PassesCycle g d) (λ (p : CyclePair). AllOfDegree G d p.cocycle) cell.cycles
         (λ p s t. all_of_degree d p.cocycle s.cocycle t.cocycle_degree) states.cycles passes;
-    cocycles = with_states (HasCycleStates g) (PassesCycle g d) (λ (p : CyclePair). (s : ℕ) → pairs_oddly (G.targets s) p.cocycle ≡ false) cell.cycles
+    cocycles =
+        with_states (HasCycleStates g) (PassesCycle g d)
+        (λ (p : CyclePair). (s : ℕ) → pairs_oddly (G.targets s) p.cocycle ≡ false) cell.cycles
         (λ p s t. even_with_borders p.cocycle t.cocycle) states.cycles passes;
-    own = with_states (HasCycleStates g) (PassesCycle g d) (λ (p : CyclePair). pairs_oddly p.cycle p.cocycle ≡ true) cell.cycles (λ p s t. t.own) states.cycles passes;
+    own = with_states (HasCycleStates g) (PassesCycle g d)
+        (λ (p : CyclePair). pairs_oddly p.cycle p.cocycle ≡ true) cell.cycles (λ p s t. t.own) states.cycles passes;
     others = apart;
   }
 
@@ -128,20 +145,30 @@ module _ (g : Marks) (grid : IsGrid g) where
       back m = omega (arith, ints)
 
   pub are_step_pairs : (d : ℤ × ℤ) (cell : Cell) → HasPairStates g cell → Every (PassesStep g d) cell.steps
-      → AllPairs (λ (p q : StepPair). pairs_oddly (border g q.step) p.probe ≡ false) cell.steps → AreStepPairs G d cell.steps
+      → AllPairs (λ (p q : StepPair). pairs_oddly (border g q.step) p.probe ≡ false) cell.steps
+      → AreStepPairs G d cell.steps
   are_step_pairs d cell states passes apart = record {
     steps = with_states (HasStepStates g) (PassesStep g d) (λ (p : StepPair). AllOfDegree G d p.step) cell.steps
         (λ p s t. all_of_degree d p.step s.step t.step_degree) states.steps passes;
-    probe_degrees = with_states (HasStepStates g) (PassesStep g d) (λ (p : StepPair). (s : ℕ) → holds p.probe s ≡ true → (n : ℤ × ℤ) × (G.degree s ≡ Some n) × (G.up n ≡ d)) cell.steps
+    probe_degrees =
+        with_states (HasStepStates g) (PassesStep g d)
+        (λ (p : StepPair). (s : ℕ) → holds p.probe s ≡ true → (n : ℤ × ℤ) × (G.degree s ≡ Some n) × (G.up n ≡ d))
+        cell.steps
         (λ p s t. probe_below p s t) states.steps passes;
-    own = with_states (HasStepStates g) (PassesStep g d) (λ (p : StepPair). pairs_oddly (border_in G p.step) p.probe ≡ true) cell.steps
+    own = with_states (HasStepStates g) (PassesStep g d)
+        (λ (p : StepPair). pairs_oddly (border_in G p.step) p.probe ≡ true) cell.steps
         (λ p s t. ap (λ z. pairs_oddly z p.probe) (border-grid_complex g p.step) ∙ t.own) states.steps passes;
-    later = λ i j e l m. ap (λ z. pairs_oddly z (get_or cell.steps i e).probe) (border-grid_complex g (get_or cell.steps j e).step) ∙ apart i j e l m;
+    later = λ i j e l m. ap (λ z. pairs_oddly z (get_or cell.steps i e).probe)
+        (border-grid_complex g (get_or cell.steps j e).step) ∙ apart i j e l m;
   }
     where
-      probe_below : (p : StepPair) → HasStepStates g p → PassesStep g d p → (s : ℕ) → holds p.probe s ≡ true → (n : ℤ × ℤ) × (G.degree s ≡ Some n) × (G.up n ≡ d)
-      probe_below p states passes s held =
-          (one_below d, all_of_degree (one_below d) p.probe states.probe passes.probe_degree s held, below_up d (one_below d) refl)
+      probe_below : (p : StepPair) → HasStepStates g p → PassesStep g d p → (s : ℕ) → holds p.probe s ≡ true
+          → (n : ℤ × ℤ) × (G.degree s ≡ Some n) × (G.up n ≡ d)
+      probe_below p states passes s held = (
+        one_below d,
+        all_of_degree (one_below d) p.probe states.probe passes.probe_degree s held,
+        below_up d (one_below d) refl,
+      )
 
   -- ---- the states of a bidegree
   any-ascending : (n s : ℕ) → s < n → any s (ascending n) ≡ true
@@ -152,7 +179,9 @@ module _ (g : Marks) (grid : IsGrid g) where
     where
       below : (b : Bool) → nat_lt s (factorial (size g)) ≡ b → s < factorial (size g)
       below true e = ltb-true s (factorial (size g)) e
-      below false e = absurd (false≢true (sym (ap (λ b. is_some (if b then Some (bidegree g (unrank (size g) s)) else None)) e) ∙ live))
+      below false e =
+          absurd (false≢true (sym (ap (λ b. is_some (if b then Some (bidegree g (unrank (size g) s)) else None)) e)
+          ∙ live))
 
   -- the cells of a bidegree are as many as the states that are counted
   pub cells_at : (d : ℤ × ℤ) → (cells : Chain) × IsAllCells G d cells × (length (codes cells) ≡ state_count_at g d)
@@ -161,14 +190,17 @@ module _ (g : Marks) (grid : IsGrid g) where
     cells_of-all same_degree same_degree-is G xs in_states d,
     sym (cardinality-length _) ∙ cardinality-of_codes (filter (λ s. has_degree_in same_degree d (G.degree s)) xs) apart
         ∙ count-same (λ s. has_degree_in same_degree d (G.degree s)) (has_degree g d) xs
-        (λ s inside. ap (has_degree_in same_degree d) (degree_of_state s (member_of_ascending (factorial (size g)) s inside))),
+        (λ s inside. ap (has_degree_in same_degree d)
+        (degree_of_state s (member_of_ascending (factorial (size g)) s inside))),
   )
     where
       xs : List ℕ
       xs = ascending (factorial (size g))
 
       apart : IsApart (filter (λ s. has_degree_in same_degree d (G.degree s)) xs)
-      apart = IsApart-pairs _ (pairs_filter (λ a b. a ≢ b) _ xs (pairs_weaker (λ a b. a < b) (λ a b. a ≢ b) xs (λ a b l e. omega (arith, l, e)) (ascending_rises (factorial (size g)))))
+      apart = IsApart-pairs _ (pairs_filter (λ a b. a ≢ b) _ xs
+          (pairs_weaker (λ a b. a < b) (λ a b. a ≢ b) xs (λ a b l e. omega (arith, l, e))
+          (ascending_rises (factorial (size g)))))
 
 -- ---- the table
 module _ (c : Certificate) (is : IsCertificate c) (told : verdict_of c ≡ Yes) where
@@ -182,39 +214,60 @@ module _ (c : Certificate) (is : IsCertificate c) (told : verdict_of c ≡ Yes) 
   rules = grid_complex_rules c.grid is.grid
 
   cell_count : (cell : Cell) → PassesCell c cell
-      → (cells : Chain) × IsAllCells C cell.at cells × (length (codes cells) ≢ 0) × (length (codes cells) ≡ length cell.cycles + length cell.steps + length (steps_at same_degree c.cells (C.up cell.at)))
+      → (cells : Chain) × IsAllCells C cell.at cells × (length (codes cells) ≢ 0)
+      × (length (codes cells)
+      ≡ length cell.cycles + length cell.steps + length (steps_at same_degree c.cells (C.up cell.at)))
   cell_count cell passes =
       let (cells, all, counted) = cells_at c.grid is.grid cell.at in
-      let (some, right) = and_parts (not (eqb (state_count_at c.grid cell.at) 0)) _ passes.count in
-      (cells, all, (λ none. true≢false (sym some ∙ ap not (eq-eqb (state_count_at c.grid cell.at) 0 (sym counted ∙ none)))), counted ∙ eqb-true _ _ right)
+      let (some, right) = and_parts (not (eqb (state_count_at c.grid cell.at) 0)) _ passes.count in (
+        cells,
+        all,
+        (λ none. true≢false (sym some ∙ ap not (eq-eqb (state_count_at c.grid cell.at) 0 (sym counted ∙ none)))),
+        counted ∙ eqb-true _ _ right,
+      )
 
   cert_cell : (cell : Cell) → HasPairStates c.grid cell → PassesCell c cell → IsCertCell same_degree C c.cells cell
   cert_cell cell states passes = record {
     count = cell_count cell passes;
-    cycle_pairs = are_cycle_pairs c.grid is.grid cell.at cell states passes.cycles (pairs_from ArePairedApart cell.cycles passes.cycles_apart);
-    step_pairs = are_step_pairs c.grid is.grid cell.at cell states passes.steps (pairs_from (λ (p q : StepPair). pairs_oddly (border c.grid q.step) p.probe ≡ false) cell.steps passes.steps_apart);
+    cycle_pairs =
+        are_cycle_pairs c.grid is.grid cell.at cell states passes.cycles
+        (pairs_from ArePairedApart cell.cycles passes.cycles_apart);
+    step_pairs =
+        are_step_pairs c.grid is.grid cell.at cell states passes.steps
+        (pairs_from (λ (p q : StepPair). pairs_oddly (border c.grid q.step) p.probe
+        ≡ false) cell.steps passes.steps_apart);
   }
 
   -- a cell of the bidegree of a state, found by the test
-  at_bidegree : (d : ℤ × ℤ) (cells : List Cell) → list_any (λ (cell : Cell). same_degree d cell.at) cells ≡ true → Any (λ (cell : Cell). cell.at ≡ d) cells
+  at_bidegree : (d : ℤ × ℤ) (cells : List Cell) → list_any (λ (cell : Cell). same_degree d cell.at) cells ≡ true
+      → Any (λ (cell : Cell). cell.at ≡ d) cells
   at_bidegree d [] h = absurd (false≢true h)
-  at_bidegree d (cell ∷ cells) h = by_test (same_degree d cell.at) refl (λ (k : list_any (λ (e : Cell). same_degree d e.at) cells ≡ true). at_bidegree d cells k)
+  at_bidegree d (cell ∷ cells) h =
+      by_test (same_degree d cell.at) refl
+      (λ (k : list_any (λ (e : Cell). same_degree d e.at) cells ≡ true). at_bidegree d cells k)
     where
-      by_test : (b : Bool) → same_degree d cell.at ≡ b → (list_any (λ (e : Cell). same_degree d e.at) cells ≡ true → Any (λ (e : Cell). e.at ≡ d) cells) → Any (λ (e : Cell). e.at ≡ d) (cell ∷ cells)
+      by_test : (b : Bool) → same_degree d cell.at ≡ b
+          → (list_any (λ (e : Cell). same_degree d e.at) cells ≡ true → Any (λ (e : Cell). e.at ≡ d) cells)
+          → Any (λ (e : Cell). e.at ≡ d) (cell ∷ cells)
       by_test true e later = (0, cell, omega arith, refl, sym ((same_degree-is d cell.at).0 e))
       by_test false e later =
-          let (k, found, within, at, same) = later (sym (ap (λ b. b || list_any (λ (e : Cell). same_degree d e.at) cells) e) ∙ h) in
+          let (k, found, within, at, same) =
+          later (sym (ap (λ b. b || list_any (λ (e : Cell). same_degree d e.at) cells) e) ∙ h) in
           (suc k, found, omega arith, at, same)
 
   passes : Passes same_degree C c.cells
   passes =
       let shown = passes_of_yes c told in (
-        with_states c.grid is.grid (HasPairStates c.grid) (PassesCell c) (IsCertCell same_degree C c.cells) c.cells cert_cell is.states shown.0,
+        with_states c.grid is.grid (HasPairStates c.grid) (PassesCell c)
+            (IsCertCell same_degree C c.cells) c.cells cert_cell is.states shown.0,
         λ s d at.
             let within = state_of_degree c.grid is.grid s d at in
-            let here = at_all_below (factorial (size c.grid)) (λ t. list_any (λ (cell : Cell). has_degree c.grid cell.at t) c.cells) shown.1 s within in
+            let here =
+            at_all_below (factorial (size c.grid))
+            (λ t. list_any (λ (cell : Cell). has_degree c.grid cell.at t) c.cells) shown.1 s within in
             let bidegree_is = degree_of_state c.grid is.grid s within in
-            at_bidegree d c.cells (ap (λ e. list_any (λ (cell : Cell). same_degree e cell.at) c.cells) (same_some d _ (sym at ∙ bidegree_is)) ∙ here),
+            at_bidegree d c.cells (ap (λ e. list_any (λ (cell : Cell). same_degree e cell.at) c.cells)
+            (same_some d _ (sym at ∙ bidegree_is)) ∙ here),
       )
 
   abbrev row_of : Cell → Row
@@ -225,7 +278,9 @@ module _ (c : Certificate) (is : IsCertificate c) (told : verdict_of c ≡ Yes) 
 
   -- the number of cycle pairs of a cell is the rank in its bidegree
   rank_at_cell : (cell : Cell) → Contains c.cells cell → IsRank C cell.at (length cell.cycles)
-  rank_at_cell cell (k, within, at) = rank_of_cell same_degree same_degree-is C rules c.cells passes cell (subst (IsCertCell same_degree C c.cells) at (passes.0 k cell within))
+  rank_at_cell cell (k, within, at) =
+      rank_of_cell same_degree same_degree-is C rules c.cells passes cell
+      (subst (IsCertCell same_degree C c.cells) at (passes.0 k cell within))
 
   some_cycles : (cell : Cell) → has_cycles cell ≡ true → 0 < length cell.cycles
   some_cycles cell h = by_length (length cell.cycles) h
@@ -234,7 +289,8 @@ module _ (c : Certificate) (is : IsCertificate c) (told : verdict_of c ≡ Yes) 
       by_length zero h = absurd (false≢true h)
       by_length (suc n) h = omega arith
 
-  found : (p : Cell → Bool) (cells : List Cell) (cell : Cell) → Contains cells cell → p cell ≡ true → list_any p cells ≡ true
+  found : (p : Cell → Bool) (cells : List Cell) (cell : Cell) → Contains cells cell → p cell ≡ true
+      → list_any p cells ≡ true
   found p [] cell inside h = absurd (no_member cell inside)
   found p (first ∷ cells) cell inside h = elim (member_cases first cells cell inside) [
     | inl e ↦ ap (λ b. b || list_any p cells) (ap p e ∙ h)
@@ -245,8 +301,11 @@ module _ (c : Certificate) (is : IsCertificate c) (told : verdict_of c ≡ Yes) 
       either true = refl
       either false = refl
 
-  no_cell_at : (d : ℤ × ℤ) (cells : List Cell) → list_any (λ (cell : Cell). same_degree d cell.at) cells ≡ false → Any (λ (cell : Cell). cell.at ≡ d) cells → ⊥
-  no_cell_at d cells h (k, cell, within, at, same) = true≢false (sym (found (λ (e : Cell). same_degree d e.at) cells cell (k, within, at) ((same_degree-is d cell.at).1 (sym same))) ∙ h)
+  no_cell_at : (d : ℤ × ℤ) (cells : List Cell) → list_any (λ (cell : Cell). same_degree d cell.at) cells ≡ false
+      → Any (λ (cell : Cell). cell.at ≡ d) cells → ⊥
+  no_cell_at d cells h (k, cell, within, at, same) =
+      true≢false (sym (found (λ (e : Cell). same_degree d e.at) cells cell (k, within, at)
+      ((same_degree-is d cell.at).1 (sym same))) ∙ h)
 
   told_row : (m a : ℤ) (d : ℕ) → Contains (certified_rows c.cells) (m, a, d) → (0 < d) × IsHomologyRank c.grid m a d
   told_row m a d inside =
@@ -263,16 +322,23 @@ module _ (c : Certificate) (is : IsCertificate c) (told : verdict_of c ≡ Yes) 
       some : (n : ℕ) → 0 < n → not (eqb n 0) ≡ true
       some n h = ap not (ne_eqb n 0 (λ e. omega (arith, h, e)))
 
-      by_test : (b : Bool) → list_any (λ (cell : Cell). same_degree (m, a) cell.at) c.cells ≡ b → Contains (certified_rows c.cells) (m, a, d)
+      by_test : (b : Bool) → list_any (λ (cell : Cell). same_degree (m, a) cell.at) c.cells ≡ b
+          → Contains (certified_rows c.cells) (m, a, d)
       by_test true h =
           let (k, cell, within, inside, same) = at_bidegree at c.cells h in
           let member : Contains c.cells cell = (k, within, inside) in
-          let length_is = one_rank C at d (length cell.cycles) rank (subst (λ (e : ℤ × ℤ). IsRank C e (length cell.cycles)) same (rank_at_cell cell member)) in
-          let kept = Contains-filter has_cycles c.cells cell member (some (length cell.cycles) (subst (λ n. 0 < n) length_is positive)) in
+          let length_is =
+          one_rank C at d (length cell.cycles) rank
+          (subst (λ (e : ℤ × ℤ). IsRank C e (length cell.cycles)) same (rank_at_cell cell member)) in
+          let kept =
+          Contains-filter has_cycles c.cells cell member
+          (some (length cell.cycles) (subst (λ n. 0 < n) length_is positive)) in
           let row : row_of cell ≡ (m, a, d) = λ i. ((same i).0, (same i).1, sym length_is i) in
           subst (Contains (certified_rows c.cells)) row (Contains-map row_of (filter has_cycles c.cells) cell kept)
       by_test false h =
-          let none = one_rank C at d 0 rank (rank_elsewhere same_degree same_degree-is C rules c.cells passes at (no_cell_at at c.cells h)) in
+          let none =
+          one_rank C at d 0 rank (rank_elsewhere same_degree same_degree-is C rules c.cells passes at
+          (no_cell_at at c.cells h)) in
           absurd (omega arith)
 
   before : (p q : Cell) → IsTrue (comes_first p q) → StandsBefore (row_of p) (row_of q)
@@ -289,6 +355,8 @@ module _ (c : Certificate) (is : IsCertificate c) (told : verdict_of c ≡ Yes) 
   -- the rows are the table of the ranks of the grid
   pub table_of_certificate : IsHomologyTable c.grid (certified_rows c.cells)
   table_of_certificate = record {
-    ordered = pairs_map (λ p q. IsTrue (comes_first p q)) StandsBefore row_of (filter has_cycles c.cells) before (pairs_filter (λ p q. IsTrue (comes_first p q)) has_cycles c.cells is.ordered);
+    ordered =
+        pairs_map (λ p q. IsTrue (comes_first p q)) StandsBefore row_of (filter has_cycles c.cells) before
+        (pairs_filter (λ p q. IsTrue (comes_first p q)) has_cycles c.cells is.ordered);
     complete = λ m a d. (told_row m a d, λ h. row_of_rank m a d h.0 h.1);
   }

@@ -19,7 +19,8 @@ use Rattle.homology_cert.specs.Inner.Ranks.{degree_cmp, Ranks, rank_in, degree_c
 
 -- ---- the order of the keys
 pub degree_cmp_total : IsTotalOrder degree_cmp
-degree_cmp_total = then_total (on_total (λ (p : ℤ × ℤ). p.0) int_cmp_total) (on_total (λ (p : ℤ × ℤ). p.1) int_cmp_total)
+degree_cmp_total =
+    then_total (on_total (λ (p : ℤ × ℤ). p.0) int_cmp_total) (on_total (λ (p : ℤ × ℤ). p.1) int_cmp_total)
 
 both_equal : (x y : Ordering) → ordering_then x y ≡ Equal → (x ≡ Equal) × (y ≡ Equal)
 both_equal Less y e = absurd (false≢true (ap is_eq e))
@@ -51,7 +52,8 @@ key_other p q other = none_where (is_eq (degree_cmp p q)) (λ h. other (exact_de
 count-none : (m : ℤ) → degree_count m [] ≡ 0
 count-none m = refl
 
-filter-push : (p : Cell → Bool) (xs : List Cell) (c : Cell) → filter p (xs ++ c ∷ []) ≡ filter p xs ++ cond (p c) (c ∷ []) []
+filter-push : (p : Cell → Bool) (xs : List Cell) (c : Cell)
+    → filter p (xs ++ c ∷ []) ≡ filter p xs ++ cond (p c) (c ∷ []) []
 filter-push p [] c = by (p c)
   where
     by : (b : Bool) → cond b (c ∷ []) [] ≡ cond b (c ∷ []) []
@@ -59,11 +61,13 @@ filter-push p [] c = by (p c)
 filter-push p (x ∷ xs) c = by (p x) (filter-push p xs c)
   where
     by : (b : Bool) → filter p (xs ++ c ∷ []) ≡ filter p xs ++ cond (p c) (c ∷ []) []
-        → cond b (x ∷ filter p (xs ++ c ∷ [])) (filter p (xs ++ c ∷ [])) ≡ cond b (x ∷ filter p xs) (filter p xs) ++ cond (p c) (c ∷ []) []
+        → cond b (x ∷ filter p (xs ++ c ∷ [])) (filter p (xs ++ c ∷ []))
+        ≡ cond b (x ∷ filter p xs) (filter p xs) ++ cond (p c) (c ∷ []) []
     by true e = ap (λ ys. x ∷ ys) e
     by false e = e
 
-count-push : (m : ℤ) (xs : List Cell) (c : Cell) → degree_count m (xs ++ c ∷ []) ≡ degree_count m xs + cond (int_eq c.maslov m) 1 0
+count-push : (m : ℤ) (xs : List Cell) (c : Cell)
+    → degree_count m (xs ++ c ∷ []) ≡ degree_count m xs + cond (int_eq c.maslov m) 1 0
 count-push m xs c =
     ap length (filter-push (λ x. int_eq x.maslov m) xs c)
     ∙ length-append (filter (λ x. int_eq x.maslov m) xs) (cond (int_eq c.maslov m) (c ∷ []) [])
@@ -78,29 +82,38 @@ pub count_at_most : (m : ℤ) (xs : List Cell) → degree_count m xs ≤ length 
 count_at_most m [] = omega arith
 count_at_most m (x ∷ xs) = by (int_eq x.maslov m) (count_at_most m xs)
   where
-    by : (b : Bool) → degree_count m xs ≤ length xs → length (cond b (x ∷ filter (λ c. int_eq c.maslov m) xs) (filter (λ c. int_eq c.maslov m) xs)) ≤ length (x ∷ xs)
+    by : (b : Bool) → degree_count m xs ≤ length xs
+        → length (cond b (x ∷ filter (λ c. int_eq c.maslov m) xs) (filter (λ c. int_eq c.maslov m) xs))
+        ≤ length (x ∷ xs)
     by true l = omega arith
     by false l = omega arith
 
 -- ---- the cells of a degree, one by one
 -- none is counted where the degree is new
-pub counted-none : (a : ℤ) (ranks : Ranks) → ((m : ℤ) → tree.get degree_cmp ranks (a, m) ≡ None) → ((b m : ℤ) → IfSome (tree.get degree_cmp ranks (b, m)) (λ d. 0 < d)) → AreCounted a [] ranks ranks
+pub counted-none : (a : ℤ) (ranks : Ranks) → ((m : ℤ) → tree.get degree_cmp ranks (a, m) ≡ None)
+    → ((b m : ℤ) → IfSome (tree.get degree_cmp ranks (b, m)) (λ d. 0 < d)) → AreCounted a [] ranks ranks
 counted-none a ranks fresh positive = record {
   counts = λ m. ap (λ o. unwrap_or o 0) (fresh m);
   others = λ b m other. refl;
   positive = positive;
 }
 
-pub counted-next : (a : ℤ) (xs : List Cell) (c : Cell) (first old new : Ranks) (count : ℕ) → count ≡ rank_in old a c.maslov
-    → ((q : ℤ × ℤ) → tree.get degree_cmp new q ≡ cond (is_eq (degree_cmp (a, c.maslov) q)) (Some (count + 1)) (tree.get degree_cmp old q))
+pub counted-next : (a : ℤ) (xs : List Cell) (c : Cell) (first old new : Ranks) (count : ℕ)
+    → count ≡ rank_in old a c.maslov
+    → ((q : ℤ × ℤ)
+    → tree.get degree_cmp new q
+    ≡ cond (is_eq (degree_cmp (a, c.maslov) q)) (Some (count + 1)) (tree.get degree_cmp old q))
     → AreCounted a xs first old → AreCounted a (xs ++ c ∷ []) first new
 counted-next a xs c first old new count read adds before = record {
   counts = λ m. ap (λ o. unwrap_or o 0) (adds (a, m)) ∙ at m (int_eq c.maslov m) refl ∙ sym (count-push m xs c);
   others = λ b m other.
       adds (b, m)
-      ∙ ap (λ t. cond t (Some (count + 1)) (tree.get degree_cmp old (b, m))) (key_other (a, c.maslov) (b, m) (λ e. other (sym (ap (λ (p : ℤ × ℤ). p.0) e))))
+      ∙ ap (λ t. cond t (Some (count + 1)) (tree.get degree_cmp old (b, m)))
+      (key_other (a, c.maslov) (b, m) (λ e. other (sym (ap (λ (p : ℤ × ℤ). p.0) e))))
       ∙ before.others b m other;
-  positive = λ b m. subst (λ o. IfSome o (λ d. 0 < d)) (sym (adds (b, m))) (above (is_eq (degree_cmp (a, c.maslov) (b, m))) (tree.get degree_cmp old (b, m)) (before.positive b m));
+  positive =
+      λ b m. subst (λ o. IfSome o (λ d. 0 < d)) (sym (adds (b, m)))
+      (above (is_eq (degree_cmp (a, c.maslov) (b, m))) (tree.get degree_cmp old (b, m)) (before.positive b m));
 }
   where
     above : (t : Bool) (o : Option ℕ) → IfSome o (λ d. 0 < d) → IfSome (cond t (Some (count + 1)) o) (λ d. 0 < d)
@@ -111,19 +124,24 @@ counted-next a xs c first old new count read adds before = record {
     no_more k = omega arith
 
     at : (m : ℤ) (t : Bool) → int_eq c.maslov m ≡ t
-        → unwrap_or (cond (is_eq (degree_cmp (a, c.maslov) (a, m))) (Some (count + 1)) (tree.get degree_cmp old (a, m))) 0 ≡ degree_count m xs + cond (int_eq c.maslov m) 1 0
+        → unwrap_or (cond (is_eq (degree_cmp (a, c.maslov) (a, m))) (Some (count + 1))
+        (tree.get degree_cmp old (a, m))) 0 ≡ degree_count m xs + cond (int_eq c.maslov m) 1 0
     at m true e =
         let same : c.maslov ≡ m = (Decides-int_eq c.maslov m).0 e in
-        ap (λ t. unwrap_or (cond t (Some (count + 1)) (tree.get degree_cmp old (a, m))) 0) (ap (λ n. is_eq (degree_cmp (a, c.maslov) (a, n))) (sym same) ∙ key_itself (a, c.maslov))
+        ap (λ t. unwrap_or (cond t (Some (count + 1)) (tree.get degree_cmp old (a, m))) 0)
+        (ap (λ n. is_eq (degree_cmp (a, c.maslov) (a, n))) (sym same) ∙ key_itself (a, c.maslov))
         ∙ ap (λ k. k + 1) (read ∙ ap (rank_in old a) same ∙ before.counts m)
         ∙ ap (λ b. degree_count m xs + cond b 1 0) (sym e)
     at m false e =
-        ap (λ t. unwrap_or (cond t (Some (count + 1)) (tree.get degree_cmp old (a, m))) 0) (key_other (a, c.maslov) (a, m) (λ s. true≢false (sym ((Decides-int_eq c.maslov m).1 (ap (λ (p : ℤ × ℤ). p.1) s)) ∙ e)))
+        ap (λ t. unwrap_or (cond t (Some (count + 1)) (tree.get degree_cmp old (a, m))) 0)
+        (key_other (a, c.maslov) (a, m)
+        (λ s. true≢false (sym ((Decides-int_eq c.maslov m).1 (ap (λ (p : ℤ × ℤ). p.1) s)) ∙ e)))
         ∙ before.counts m ∙ no_more (degree_count m xs)
         ∙ ap (λ b. degree_count m xs + cond b 1 0) (sym e)
 
 -- a count is no greater than the number of cells
-pub count_fits : (a m : ℤ) (xs : List Cell) (first old : Ranks) (count : ℕ) → count ≡ rank_in old a m → AreCounted a xs first old → count ≤ length xs
+pub count_fits : (a m : ℤ) (xs : List Cell) (first old : Ranks) (count : ℕ) → count ≡ rank_in old a m
+    → AreCounted a xs first old → count ≤ length xs
 count_fits a m xs first old count read before =
     let counted : count ≡ degree_count m xs = read ∙ before.counts m in
     let most = count_at_most m xs in
@@ -131,7 +149,8 @@ count_fits a m xs first old count read before =
 
 -- ---- the degrees, one by one
 -- what is told of one degree, after its cells were counted
-pub told-counted : (g : Marks) (a : ℤ) (cells : List Cell) (old new : Ranks) → HasRanks g a cells → AreCounted a cells old new → IsTold g new a
+pub told-counted : (g : Marks) (a : ℤ) (cells : List Cell) (old new : Ranks) → HasRanks g a cells
+    → AreCounted a cells old new → IsTold g new a
 told-counted g a cells old new has counted = record {
   told = λ m. subst (IsHomologyRank g m a) (sym (counted.counts m)) (has.ranks m);
   small = λ m.
@@ -142,7 +161,8 @@ told-counted g a cells old new has counted = record {
 }
 
 -- other degrees keep what is told of them
-pub told-other : (g : Marks) (a b : ℤ) (cells : List Cell) (old new : Ranks) → (b ≡ a → ⊥) → AreCounted a cells old new → IsTold g old b → IsTold g new b
+pub told-other : (g : Marks) (a b : ℤ) (cells : List Cell) (old new : Ranks) → (b ≡ a → ⊥) → AreCounted a cells old new
+    → IsTold g old b → IsTold g new b
 told-other g a b cells old new other counted told = record {
   told = λ m. subst (IsHomologyRank g m b) (ap (λ o. unwrap_or o 0) (sym (counted.others b m other))) (told.told m);
   small = λ m. subst (λ k. k < 4294967296) (ap (λ o. unwrap_or o 0) (sym (counted.others b m other))) (told.small m);

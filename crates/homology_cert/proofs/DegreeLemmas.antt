@@ -22,15 +22,23 @@ degrees-none g degrees = record {
     none s l = omega arith
 
 -- a state adds its Alexander degree
-pub degrees-next : (g : Marks) (n : ℕ) (m a : ℤ) (old new : BTreeSet ℤ) → m ≡ maslov_o g (unrank (size g) n) → a ≡ alexander g (unrank (size g) n) → IsSmallDegree m → IsSmallDegree a
+pub degrees-next : (g : Marks) (n : ℕ) (m a : ℤ) (old new : BTreeSet ℤ) → m ≡ maslov_o g (unrank (size g) n)
+    → a ≡ alexander g (unrank (size g) n) → IsSmallDegree m → IsSmallDegree a
     → ((q : ℤ) → sorted.contains int_cmp new q ≡ cond (is_eq (int_cmp a q)) true (sorted.contains int_cmp old q))
     → HasDegrees g n old → HasDegrees g (n + 1) new
 degrees-next g n m a old new m_is a_is small_m small_a adds before = record {
-  small_maslov = below_more (λ s. IsSmallDegree (maslov_o g (unrank (size g) s))) n before.small_maslov (subst IsSmallDegree m_is small_m);
-  small_alexander = below_more (λ s. IsSmallDegree (alexander g (unrank (size g) s))) n before.small_alexander (subst IsSmallDegree a_is small_a);
+  small_maslov =
+      below_more (λ s. IsSmallDegree (maslov_o g (unrank (size g) s))) n before.small_maslov
+      (subst IsSmallDegree m_is small_m);
+  small_alexander =
+      below_more (λ s. IsSmallDegree (alexander g (unrank (size g) s))) n before.small_alexander
+      (subst IsSmallDegree a_is small_a);
   found = below_more (λ s. sorted.contains int_cmp new (alexander g (unrank (size g) s)) ≡ true) n
-      (λ s l. adds (alexander g (unrank (size g) s)) ∙ kept (is_eq (int_cmp a (alexander g (unrank (size g) s)))) (sorted.contains int_cmp old (alexander g (unrank (size g) s))) (before.found s l))
-      (subst (λ b. sorted.contains int_cmp new b ≡ true) a_is (adds a ∙ ap (λ o. cond (is_eq o) true (sorted.contains int_cmp old a)) (tied_itself int_cmp_total a)));
+      (λ s l. adds (alexander g (unrank (size g) s))
+      ∙ kept (is_eq (int_cmp a (alexander g (unrank (size g) s))))
+      (sorted.contains int_cmp old (alexander g (unrank (size g) s))) (before.found s l))
+      (subst (λ b. sorted.contains int_cmp new b ≡ true) a_is
+      (adds a ∙ ap (λ o. cond (is_eq o) true (sorted.contains int_cmp old a)) (tied_itself int_cmp_total a)));
 }
   where
     kept : (b c : Bool) → c ≡ true → cond b true c ≡ true

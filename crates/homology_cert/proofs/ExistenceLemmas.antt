@@ -35,8 +35,11 @@ bound_below (suc n) f =
     let last = own_bound (f n) in (
       before.0 + last.0,
       λ s below. elim (cases_Bool (eqb s n)) [
-        | inl is ↦ subst (λ k. IsBetween (before.0 + last.0) (f k)) (sym (eqb-true s n is)) (between-wider last.0 (before.0 + last.0) (f n) (omega arith) last.1)
-        | inr is_not ↦ between-wider before.0 (before.0 + last.0) (f s) (omega arith) (before.1 s (below-other s n below is_not))
+        | inl is ↦
+            subst (λ k. IsBetween (before.0 + last.0) (f k)) (sym (eqb-true s n is))
+            (between-wider last.0 (before.0 + last.0) (f n) (omega arith) last.1)
+        | inr is_not ↦
+            between-wider before.0 (before.0 + last.0) (f s) (omega arith) (before.1 s (below-other s n below is_not))
       ],
     )
   where
@@ -71,7 +74,8 @@ window b = map (λ k. pos b -ℤ pos k) (ascending (b + b + 1))
 pub window-falls : (b : ℕ) → AllPairs (λ x y. y <ℤ x) (window b)
 unfolding window
 window-falls b =
-    pairs_map (λ (i j : ℕ). i < j) (λ x y. y <ℤ x) (λ k. pos b -ℤ pos k) (ascending (b + b + 1)) (λ i j less. omega (arith, ints, less)) (ascending_rises (b + b + 1))
+    pairs_map (λ (i j : ℕ). i < j) (λ x y. y <ℤ x) (λ k. pos b -ℤ pos k) (ascending (b + b + 1))
+    (λ i j less. omega (arith, ints, less)) (ascending_rises (b + b + 1))
 
 place_in : (b : ℕ) (z : ℤ) → IsBetween b z → (k : ℕ) × (k < b + b + 1) × (pos b -ℤ pos k ≡ z)
 place_in b (pos k) within = let high = within.1 in (b - k, omega (arith, ints, high), omega (arith, ints, high))
@@ -82,7 +86,8 @@ unfolding window
 Contains-window b z within =
     let place = place_in b z within in
     subst (Contains (map (λ k. pos b -ℤ pos k) (ascending (b + b + 1)))) place.2
-    (Contains-map (λ k. pos b -ℤ pos k) (ascending (b + b + 1)) place.0 (Contains-ascending (b + b + 1) place.0 place.1))
+    (Contains-map (λ k. pos b -ℤ pos k) (ascending (b + b + 1)) place.0
+    (Contains-ascending (b + b + 1) place.0 place.1))
 
 -- ---- the rows
 -- the row of a bidegree with this rank, if that is above 0
@@ -118,7 +123,8 @@ module _ (g : Marks) (grid : IsGrid g) (b : ℕ) where
   all_rows : List Row
   all_rows = flat_map rows_at (window b)
 
-  member_of_rows_at : (a : ℤ) (row : Row) → Contains (rows_at a) row → (m : ℤ) × (0 < rank_of m a) × ((m, a, rank_of m a) ≡ row)
+  member_of_rows_at : (a : ℤ) (row : Row) → Contains (rows_at a) row
+      → (m : ℤ) × (0 < rank_of m a) × ((m, a, rank_of m a) ≡ row)
   unfolding rows_at
   member_of_rows_at a row inside =
       let found = member_of_flat_map (λ m. row_of m a (rank_of m a)) (window b) row inside in
@@ -133,7 +139,10 @@ module _ (g : Marks) (grid : IsGrid g) (b : ℕ) where
       (λ m n less p q in_m in_n.
       let at_m = (member_of_row m a (rank_of m a) p in_m).1 in
       let at_n = (member_of_row n a (rank_of n a) q in_n).1 in
-      inr (ap (λ r. r.1) (sym at_n) ∙ ap (λ r. r.1) at_m, subst (λ x. q.0 <ℤ x) (ap (λ r. r.0) at_m) (subst (λ x. x <ℤ m) (ap (λ r. r.0) at_n) less)))
+      inr (
+        ap (λ r. r.1) (sym at_n) ∙ ap (λ r. r.1) at_m,
+        subst (λ x. q.0 <ℤ x) (ap (λ r. r.0) at_m) (subst (λ x. x <ℤ m) (ap (λ r. r.0) at_n) less),
+      ))
 
   all_rows-ordered : AllPairs StandsBefore all_rows
   unfolding all_rows
@@ -157,12 +166,15 @@ module _ (g : Marks) (grid : IsGrid g) (b : ℕ) where
       )
 
   -- where the degrees of all states lie between the bounds, each bidegree with a rank above 0 has its row
-  row-found : (m a : ℤ) (d : ℕ) → IsBetween b m → IsBetween b a → 0 < d → IsHomologyRank g m a d → Contains all_rows (m, a, d)
+  row-found : (m a : ℤ) (d : ℕ) → IsBetween b m → IsBetween b a → 0 < d → IsHomologyRank g m a d
+      → Contains all_rows (m, a, d)
   unfolding all_rows rows_at rank_of
   row-found m a d in_m in_a positive held =
       let rank = some_homology_rank g grid m a in
       let same = one_homology_rank g m a rank.0 d rank.1 held in
-      let row = subst (λ e. Contains (row_of m a rank.0) (m, a, e)) same (Contains-row_of m a rank.0 (subst (λ e. 0 < e) (sym same) positive)) in
+      let row =
+      subst (λ e. Contains (row_of m a rank.0) (m, a, e)) same
+      (Contains-row_of m a rank.0 (subst (λ e. 0 < e) (sym same) positive)) in
       Contains-flat_map rows_at (window b) a (m, a, d) (Contains-window b a in_a)
       (Contains-flat_map (λ n. row_of n a (rank_of n a)) (window b) m (m, a, d) (Contains-window b m in_m) row)
 
@@ -172,20 +184,31 @@ exists_homology_table g grid =
     let maslov = bound_below n (λ s. maslov_o g (unrank (size g) s)) in
     let alexander = bound_below n (λ s. alexander g (unrank (size g) s)) in
     let b = maslov.0 + alexander.0 in
-    let in_maslov : (m a : ℤ) (d : ℕ) → 0 < d → IsHomologyRank g m a d → IsBetween b m = λ m a d positive held. elim (between_or_not b m) [
+    let in_maslov : (m a : ℤ) (d : ℕ) → 0 < d → IsHomologyRank g m a d → IsBetween b m =
+    λ m a d positive held. elim (between_or_not b m) [
       | inl is ↦ is
-      | inr is_not ↦ absurd (no_homology g (record { m = m; a = a; rank = d }) (λ s below e. is_not (subst (IsBetween b) (ap (λ p. p.0) e) (between-wider maslov.0 b _ (omega arith) (maslov.1 s below)))) (record { positive = positive; rank = held }))
+      | inr is_not ↦
+          absurd (no_homology g (record { m = m; a = a; rank = d })
+          (λ s below e. is_not (subst (IsBetween b) (ap (λ p. p.0) e)
+          (between-wider maslov.0 b _ (omega arith) (maslov.1 s below))))
+          (record { positive = positive; rank = held }))
     ] in
-    let in_alexander : (m a : ℤ) (d : ℕ) → 0 < d → IsHomologyRank g m a d → IsBetween b a = λ m a d positive held. elim (between_or_not b a) [
+    let in_alexander : (m a : ℤ) (d : ℕ) → 0 < d → IsHomologyRank g m a d → IsBetween b a =
+    λ m a d positive held. elim (between_or_not b a) [
       | inl is ↦ is
-      | inr is_not ↦ absurd (no_homology g (record { m = m; a = a; rank = d }) (λ s below e. is_not (subst (IsBetween b) (ap (λ p. p.1) e) (between-wider alexander.0 b _ (omega arith) (alexander.1 s below)))) (record { positive = positive; rank = held }))
+      | inr is_not ↦
+          absurd (no_homology g (record { m = m; a = a; rank = d })
+          (λ s below e. is_not (subst (IsBetween b) (ap (λ p. p.1) e)
+          (between-wider alexander.0 b _ (omega arith) (alexander.1 s below))))
+          (record { positive = positive; rank = held }))
     ] in (
       all_rows g grid b,
       record {
         ordered = all_rows-ordered g grid b;
         complete = λ m a d. (
           row-holds g grid b m a d,
-          λ told. row-found g grid b m a d (in_maslov m a d told.0 told.1) (in_alexander m a d told.0 told.1) told.0 told.1,
+          λ told. row-found g grid b m a d (in_maslov m a d told.0 told.1)
+              (in_alexander m a d told.0 told.1) told.0 told.1,
         );
       },
     )

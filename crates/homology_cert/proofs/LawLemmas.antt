@@ -26,7 +26,8 @@ same_bidegree-is p q = (
       let e = (Decides-int_eq p.0 q.0).0 first in
       let f = (Decides-int_eq p.1 q.1).0 second in
       λ i. (e i, f i),
-  λ e. and_from (int_eq p.0 q.0) (int_eq p.1 q.1) ((Decides-int_eq p.0 q.0).1 (ap (λ (t : ℤ × ℤ). t.0) e)) ((Decides-int_eq p.1 q.1).1 (ap (λ (t : ℤ × ℤ). t.1) e)),
+  λ e. and_from (int_eq p.0 q.0) (int_eq p.1 q.1) ((Decides-int_eq p.0 q.0).1 (ap (λ (t : ℤ × ℤ). t.0) e))
+      ((Decides-int_eq p.1 q.1).1 (ap (λ (t : ℤ × ℤ). t.1) e)),
 )
 
 -- the codes below n
@@ -51,10 +52,12 @@ any-codes_below (suc n) s l = elim (cases_eq s n) [
 
 pub some_homology_rank : (g : Marks) → IsGrid g → (m a : ℤ) → (d : ℕ) × IsHomologyRank g m a d
 some_homology_rank g grid m a =
-    exists_rank same_bidegree same_bidegree-is (grid_complex g) (grid_complex_rules g grid) (codes_below (factorial (size g)))
+    exists_rank same_bidegree same_bidegree-is (grid_complex g) (grid_complex_rules g grid)
+    (codes_below (factorial (size g)))
     (λ s live. any-codes_below (factorial (size g)) s (below s live)) (m, a)
   where
-    of_state : (s : ℕ) (b : Bool) → is_some (if b then Some (bidegree g (unrank (size g) s)) else None) ≡ true → b ≡ true
+    of_state : (s : ℕ) (b : Bool) → is_some (if b then Some (bidegree g (unrank (size g) s)) else None) ≡ true
+        → b ≡ true
     of_state s true h = refl
     of_state s false h = h
 
@@ -64,7 +67,8 @@ some_homology_rank g grid m a =
 -- ---- lists in order with the same elements
 module _ {A : Type 0} (R : A → A → Type 0) (one_way : (x y : A) → R x y → R y x → ⊥) where
   -- the first elements are the same
-  same_head : (x y : A) (xs ys : List A) → AllPairs R (x ∷ xs) → AllPairs R (y ∷ ys) → ((z : A) → Contains (x ∷ xs) z ↔ Contains (y ∷ ys) z) → x ≡ y
+  same_head : (x y : A) (xs ys : List A) → AllPairs R (x ∷ xs) → AllPairs R (y ∷ ys)
+      → ((z : A) → Contains (x ∷ xs) z ↔ Contains (y ∷ ys) z) → x ≡ y
   same_head x y xs ys p q same = elim (member_cases y ys x ((same x).0 (member_head x xs))) [
     | inl is ↦ sym is
     | inr later ↦ elim (member_cases x xs y ((same y).1 (member_head y ys))) [
@@ -74,7 +78,8 @@ module _ {A : Type 0} (R : A → A → Type 0) (one_way : (x y : A) → R x y �
   ]
 
   -- what stands after the first element of one list stands after that of the other
-  in_tail : (x y z : A) (xs ys : List A) → AllPairs R (x ∷ xs) → x ≡ y → (Contains (x ∷ xs) z → Contains (y ∷ ys) z) → Contains xs z → Contains ys z
+  in_tail : (x y z : A) (xs ys : List A) → AllPairs R (x ∷ xs) → x ≡ y → (Contains (x ∷ xs) z → Contains (y ∷ ys) z)
+      → Contains xs z → Contains ys z
   in_tail x y z xs ys p e goes inside = elim (member_cases y ys z (goes (member_tail x xs z inside))) [
     | inl is ↦ let loop = subst (R x) (sym is ∙ sym e) (pairs_head R x xs p z inside) in absurd (one_way x x loop loop)
     | inr later ↦ later

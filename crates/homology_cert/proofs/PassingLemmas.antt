@@ -1,6 +1,7 @@
 -- What a certificate that passes shows, question by question: of each cell, of its cycle pairs and of its step pairs.
 --
--- Where no question fails, each is passed. So each cell has the facts of its tests, with what is asked of a pair and the
+-- Where no question fails, each is passed. So each cell has the facts of its tests, with what is asked of a pair and
+-- the
 -- pairs before and after it as a fact of each two pairs.
 use Rattle.std.proofs.Common.{◌≡◌, ℕ, ◌+◌, Bool, true, false, not, cond, List, [], ◌∷◌, ◌++◌, length, ℤ, refl, sym, ap, ◌∙◌, inl, inr}
 use Rattle.std.specs.List.{list_all, Contains}
@@ -34,11 +35,15 @@ every_of_all p [] h = tt
 every_of_all p (x ∷ xs) h = let parts = and_parts (p x) (list_all p xs) h in (parts.0, every_of_all p xs parts.1)
 
 -- and by each member
-pub member_of_all : {X : Type 0} (p : X → Bool) (xs : List X) → list_all p xs ≡ true → (x : X) → Contains xs x → p x ≡ true
+pub member_of_all : {X : Type 0} (p : X → Bool) (xs : List X) → list_all p xs ≡ true → (x : X) → Contains xs x
+    → p x ≡ true
 member_of_all p [] h x inside = absurd (no_member x inside)
 member_of_all p (y ∷ xs) h x inside =
     let parts = and_parts (p y) (list_all p xs) h in
-    elim (member_cases y xs x inside) [ inl e ↦ sym (ap p e) ∙ parts.0 | inr later ↦ member_of_all p xs parts.1 x later ]
+    elim (member_cases y xs x inside) [
+      | inl e ↦ sym (ap p e) ∙ parts.0
+      | inr later ↦ member_of_all p xs parts.1 x later
+    ]
 
 pub not-true : (b : Bool) → not b ≡ true → b ≡ false
 not-true true h = absurd (true≢false (sym h))
@@ -79,36 +84,63 @@ module _ (g : Marks) (d : ℤ × ℤ) where
       → PassesCycle g d p × (list_all (λ (q : CyclePair). not (pairs_oddly q.cycle p.cocycle)) others ≡ true)
   cycle_passes k p others (degree, (cycle, (cocycle, (pairing, _)))) =
       let degrees = and_parts (all_have g d p.cycle) (all_have g d p.cocycle) degree in
-      let pairings = and_parts (pairs_oddly p.cycle p.cocycle) (list_all (λ (q : CyclePair). not (pairs_oddly q.cycle p.cocycle)) others) pairing in (
-        record { cycle_degree = degrees.0; cocycle_degree = degrees.1; cycle = cycle; cocycle = cocycle; own = pairings.0 },
+      let pairings =
+      and_parts (pairs_oddly p.cycle p.cocycle)
+      (list_all (λ (q : CyclePair). not (pairs_oddly q.cycle p.cocycle)) others) pairing in (
+        record {
+          cycle_degree = degrees.0;
+          cocycle_degree = degrees.1;
+          cycle = cycle;
+          cocycle = cocycle;
+          own = pairings.0;
+        },
         pairings.1,
       )
 
-  pub cycles_pass : (k : ℕ) (earlier pairs : List CyclePair) → Passed (cycle_questions g d k earlier pairs) → Every (PassesCycle g d) pairs
+  pub cycles_pass : (k : ℕ) (earlier pairs : List CyclePair) → Passed (cycle_questions g d k earlier pairs)
+      → Every (PassesCycle g d) pairs
   cycles_pass k earlier [] h = tt
   cycles_pass k earlier (p ∷ later) h =
-      let parts = every_parts _ (cycle_pair_questions g d k p (earlier ++ later)) (cycle_questions g d (k + 1) (earlier ++ p ∷ []) later) h in
+      let parts =
+      every_parts _ (cycle_pair_questions g d k p (earlier ++ later))
+      (cycle_questions g d (k + 1) (earlier ++ p ∷ []) later) h in
       ((cycle_passes k p (earlier ++ later) parts.0).0, cycles_pass (k + 1) (earlier ++ p ∷ []) later parts.1)
 
   -- a cocycle pairs evenly with each cycle before it
-  even_before : (k : ℕ) (earlier pairs : List CyclePair) → Passed (cycle_questions g d k earlier pairs) → (x : CyclePair) → Contains earlier x
+  even_before : (k : ℕ) (earlier pairs : List CyclePair) → Passed (cycle_questions g d k earlier pairs)
+      → (x : CyclePair) → Contains earlier x
       → Every (λ (q : CyclePair). pairs_oddly x.cycle q.cocycle ≡ false) pairs
   even_before k earlier [] h x inside = tt
   even_before k earlier (p ∷ later) h x inside =
-      let parts = every_parts _ (cycle_pair_questions g d k p (earlier ++ later)) (cycle_questions g d (k + 1) (earlier ++ p ∷ []) later) h in
-      let here = member_of_all (λ (q : CyclePair). not (pairs_oddly q.cycle p.cocycle)) (earlier ++ later) (cycle_passes k p (earlier ++ later) parts.0).1 x (Contains-append_left earlier later x inside) in
-      (not-true (pairs_oddly x.cycle p.cocycle) here, even_before (k + 1) (earlier ++ p ∷ []) later parts.1 x (Contains-append_left earlier (p ∷ []) x inside))
+      let parts =
+      every_parts _ (cycle_pair_questions g d k p (earlier ++ later))
+      (cycle_questions g d (k + 1) (earlier ++ p ∷ []) later) h in
+      let here =
+      member_of_all (λ (q : CyclePair). not (pairs_oddly q.cycle p.cocycle)) (earlier ++ later)
+      (cycle_passes k p (earlier ++ later) parts.0).1 x (Contains-append_left earlier later x inside) in (
+        not-true (pairs_oddly x.cycle p.cocycle) here,
+        even_before (k + 1) (earlier ++ p ∷ []) later parts.1 x (Contains-append_left earlier (p ∷ []) x inside),
+      )
 
-  pub cycles_apart : (k : ℕ) (earlier pairs : List CyclePair) → Passed (cycle_questions g d k earlier pairs) → Pairwise ArePairedApart pairs
+  pub cycles_apart : (k : ℕ) (earlier pairs : List CyclePair) → Passed (cycle_questions g d k earlier pairs)
+      → Pairwise ArePairedApart pairs
   cycles_apart k earlier [] h = tt
   cycles_apart k earlier (p ∷ later) h =
-      let parts = every_parts _ (cycle_pair_questions g d k p (earlier ++ later)) (cycle_questions g d (k + 1) (earlier ++ p ∷ []) later) h in
+      let parts =
+      every_parts _ (cycle_pair_questions g d k p (earlier ++ later))
+      (cycle_questions g d (k + 1) (earlier ++ p ∷ []) later) h in
       let evenly = (cycle_passes k p (earlier ++ later) parts.0).1 in
-      let after = (and_parts (list_all (λ (q : CyclePair). not (pairs_oddly q.cycle p.cocycle)) earlier) (list_all (λ (q : CyclePair). not (pairs_oddly q.cycle p.cocycle)) later)
+      let after =
+      (and_parts (list_all (λ (q : CyclePair). not (pairs_oddly q.cycle p.cocycle)) earlier)
+      (list_all (λ (q : CyclePair). not (pairs_oddly q.cycle p.cocycle)) later)
       (sym (list_all-append (λ (q : CyclePair). not (pairs_oddly q.cycle p.cocycle)) earlier later) ∙ evenly)).1 in
-      let first = even_before (k + 1) (earlier ++ p ∷ []) later parts.1 p (Contains-append_right earlier (p ∷ []) p (member_head p [])) in (
-        every_both (λ (q : CyclePair). pairs_oddly p.cycle q.cocycle ≡ false) (λ (q : CyclePair). not (pairs_oddly q.cycle p.cocycle) ≡ true) (ArePairedApart p) later
-            (λ q a b. (a, not-true (pairs_oddly q.cycle p.cocycle) b)) first (every_of_all (λ (q : CyclePair). not (pairs_oddly q.cycle p.cocycle)) later after),
+      let first =
+      even_before (k + 1) (earlier ++ p ∷ []) later parts.1 p
+      (Contains-append_right earlier (p ∷ []) p (member_head p [])) in (
+        every_both (λ (q : CyclePair). pairs_oddly p.cycle q.cocycle ≡ false)
+            (λ (q : CyclePair). not (pairs_oddly q.cycle p.cocycle) ≡ true) (ArePairedApart p) later
+            (λ q a b. (a, not-true (pairs_oddly q.cycle p.cocycle) b)) first
+            (every_of_all (λ (q : CyclePair). not (pairs_oddly q.cycle p.cocycle)) later after),
         cycles_apart (k + 1) (earlier ++ p ∷ []) later parts.1,
       )
 
@@ -123,7 +155,9 @@ module _ (g : Marks) (d : ℤ × ℤ) where
       → PassesStep g d p × (list_all (λ (q : StepPair). not (pairs_oddly (border g q.step) p.probe)) later ≡ true)
   step_passes k p later (degree, (probe, _)) =
       let degrees = and_parts (all_have g d p.step) (all_have g (one_below d) p.probe) degree in
-      let pairings = and_parts (pairs_oddly (border g p.step) p.probe) (list_all (λ (q : StepPair). not (pairs_oddly (border g q.step) p.probe)) later) probe in
+      let pairings =
+      and_parts (pairs_oddly (border g p.step) p.probe)
+      (list_all (λ (q : StepPair). not (pairs_oddly (border g q.step) p.probe)) later) probe in
       (record { step_degree = degrees.0; probe_degree = degrees.1; own = pairings.0 }, pairings.1)
 
   pub steps_pass : (k : ℕ) (pairs : List StepPair) → Passed (step_questions g d k pairs) → Every (PassesStep g d) pairs
@@ -132,13 +166,16 @@ module _ (g : Marks) (d : ℤ × ℤ) where
       let parts = every_parts _ (step_pair_questions g d k p later) (step_questions g d (k + 1) later) h in
       ((step_passes k p later parts.0).0, steps_pass (k + 1) later parts.1)
 
-  pub steps_apart : (k : ℕ) (pairs : List StepPair) → Passed (step_questions g d k pairs) → Pairwise (λ (p q : StepPair). pairs_oddly (border g q.step) p.probe ≡ false) pairs
+  pub steps_apart : (k : ℕ) (pairs : List StepPair) → Passed (step_questions g d k pairs)
+      → Pairwise (λ (p q : StepPair). pairs_oddly (border g q.step) p.probe ≡ false) pairs
   steps_apart k [] h = tt
   steps_apart k (p ∷ later) h =
       let parts = every_parts _ (step_pair_questions g d k p later) (step_questions g d (k + 1) later) h in (
-        every_weaker (λ (q : StepPair). not (pairs_oddly (border g q.step) p.probe) ≡ true) (λ (q : StepPair). pairs_oddly (border g q.step) p.probe ≡ false) later
+        every_weaker (λ (q : StepPair). not (pairs_oddly (border g q.step) p.probe) ≡ true)
+            (λ (q : StepPair). pairs_oddly (border g q.step) p.probe ≡ false) later
             (λ q even. not-true (pairs_oddly (border g q.step) p.probe) even)
-            (every_of_all (λ (q : StepPair). not (pairs_oddly (border g q.step) p.probe)) later (step_passes k p later parts.0).1),
+            (every_of_all (λ (q : StepPair). not (pairs_oddly (border g q.step) p.probe)) later
+            (step_passes k p later parts.0).1),
         steps_apart (k + 1) later parts.1,
       )
 
@@ -154,7 +191,9 @@ module _ (c : Certificate) where
   cell_passes : (k : ℕ) (cell : Cell) → Passed (cell_questions c k cell) → PassesCell c cell
   cell_passes k cell (count, rest) =
       let n = k + 1 + length cell.cycles in
-      let parts = every_parts _ (cycle_questions c.grid cell.at (k + 1) [] cell.cycles) (step_questions c.grid cell.at n cell.steps) rest in
+      let parts =
+      every_parts _ (cycle_questions c.grid cell.at (k + 1) [] cell.cycles)
+      (step_questions c.grid cell.at n cell.steps) rest in
       record {
         count = count;
         cycles = cycles_pass c.grid cell.at (k + 1) [] cell.cycles parts.0;

@@ -27,7 +27,8 @@ pub record IsReduction (g : Marks) (a : ℤ) (left : Complex ℤ) (log : List En
   pub is_after : left ≡ after (slice_of g a) log
   pub no_arrow : (s : ℕ) → left.targets s ≡ nothing
 
-below_bound : (g : Marks) (a : ℤ) (s : ℕ) (b : Bool) → is_some (first_at a (if b then Some (bidegree g (unrank (size g) s)) else None)) ≡ true → b ≡ true
+below_bound : (g : Marks) (a : ℤ) (s : ℕ) (b : Bool)
+    → is_some (first_at a (if b then Some (bidegree g (unrank (size g) s)) else None)) ≡ true → b ≡ true
 below_bound g a s true h = refl
 below_bound g a s false h = absurd (false≢true h)
 
@@ -40,23 +41,28 @@ module _ (g : Marks) (grid : IsGrid g) (a : ℤ) where
   rules = at_second_IsComplex a (grid_complex g) refl (grid_complex_rules g grid)
 
   -- what is left was there before, with its degree
-  pub left-slice : (left : Complex ℤ) (log : List Entry) → IsReduction g a left log → (s : ℕ) → is_some (left.degree s) ≡ true → left.degree s ≡ (slice_of g a).degree s
+  pub left-slice : (left : Complex ℤ) (log : List Entry) → IsReduction g a left log → (s : ℕ)
+      → is_some (left.degree s) ≡ true → left.degree s ≡ (slice_of g a).degree s
   left-slice left log r s h =
       let same = ap (λ C. C.degree s) r.is_after in
       same ∙ live_at_first (slice_of g a) rules log r.stands s (sym (ap is_some same) ∙ h)
 
-  pub left-below : (left : Complex ℤ) (log : List Entry) → IsReduction g a left log → (s : ℕ) → is_some (left.degree s) ≡ true → s < factorial (size g)
+  pub left-below : (left : Complex ℤ) (log : List Entry) → IsReduction g a left log → (s : ℕ)
+      → is_some (left.degree s) ≡ true → s < factorial (size g)
   left-below left log r s h = slice-below g a s (sym (ap is_some (left-slice left log r s h)) ∙ h)
 
   -- the rank in degree (m, a) is the number of cells of degree m that are left of the slice
-  pub rank_of_reduction : (left : Complex ℤ) (log : List Entry) → IsReduction g a left log → (m : ℤ) (cells : Chain) → IsAllCells left m cells → IsHomologyRank g m a (length (codes cells))
+  pub rank_of_reduction : (left : Complex ℤ) (log : List Entry) → IsReduction g a left log → (m : ℤ) (cells : Chain)
+      → IsAllCells left m cells → IsHomologyRank g m a (length (codes cells))
   rank_of_reduction left log r m cells all =
       let all_after = subst (λ C. IsAllCells C m cells) r.is_after all in
       let bare = λ (s : ℕ). sym (ap (λ C. C.targets s) r.is_after) ∙ r.no_arrow s in
-      (rank_at_second a (grid_complex g) refl m (length (codes cells))).0 (rank_of_log (slice_of g a) rules log r.stands bare m cells all_after)
+      (rank_at_second a (grid_complex g) refl m (length (codes cells))).0
+      (rank_of_log (slice_of g a) rules log r.stands bare m cells all_after)
 
 -- a slice that was built and reduced
-pub reduction_of : (g : Marks) (a : ℤ) (old new : Slice) (log : List Entry) → slice_complex old ≡ slice_of g a → IsReduced old new log → IsReduction g a (slice_complex new) log
+pub reduction_of : (g : Marks) (a : ℤ) (old new : Slice) (log : List Entry) → slice_complex old ≡ slice_of g a
+    → IsReduced old new log → IsReduction g a (slice_complex new) log
 reduction_of g a old new log built reduced = record {
   stands = subst (λ C. IsLog C log) built reduced.stands;
   is_after = reduced.is_after ∙ ap (λ C. after C log) built;

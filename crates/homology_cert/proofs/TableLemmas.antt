@@ -57,19 +57,32 @@ module _ {G : Type 0} (C : Complex G) (m : G) (none : (s : ℕ) → C.degree s �
     record {
       cycles = All-nil _;
       one_subset = λ z c.
-          let empty = no_chain z c.0 in
-          ([], (refl, (nothing, degree-nothing C (C.up m), border-nothing C ∙ sym (ap (λ y. y ⊕ nothing) empty ∙ add_self nothing))), λ ps f. no_marks ps f.0);
+          let empty = no_chain z c.0 in (
+            [],
+            (
+              refl,
+              (
+                nothing,
+                degree-nothing C (C.up m),
+                border-nothing C ∙ sym (ap (λ y. y ⊕ nothing) empty ∙ add_self nothing),
+              ),
+            ),
+            λ ps f. no_marks ps f.0,
+          );
     },
     refl,
   )
 
 -- the degree of a state, and of no other code
-pub state_degree : (g : Marks) (s : ℕ) (b : Bool) (d : ℤ × ℤ) → (if b then Some (bidegree g (unrank (size g) s)) else None) ≡ Some d → (b ≡ true) × (bidegree g (unrank (size g) s) ≡ d)
+pub state_degree : (g : Marks) (s : ℕ) (b : Bool) (d : ℤ × ℤ)
+    → (if b then Some (bidegree g (unrank (size g) s)) else None) ≡ Some d
+    → (b ≡ true) × (bidegree g (unrank (size g) s) ≡ d)
 state_degree g s true d e = (refl, same_some _ _ e)
 state_degree g s false d e = absurd (false≢true (ap is_some e))
 
 -- a row of the table is at the degree of some state: it is at no degree that no state has
-pub no_homology : (g : Marks) (row : TableRow) → ((s : ℕ) → s < factorial (size g) → bidegree g (unrank (size g) s) ≡ (row.m, row.a) → ⊥) → HasHomology g row → ⊥
+pub no_homology : (g : Marks) (row : TableRow)
+    → ((s : ℕ) → s < factorial (size g) → bidegree g (unrank (size g) s) ≡ (row.m, row.a) → ⊥) → HasHomology g row → ⊥
 no_homology g row none held =
     let empty : IsHomologyRank g row.m row.a 0 = rank-no_cell (grid_complex g) (row.m, row.a) (λ s e.
     let told = state_degree g s _ (row.m, row.a) e in
@@ -105,17 +118,21 @@ pub small_degrees : (g : Marks) → AreSmall g → (row : TableRow) → HasHomol
 small_degrees g small row held = record {
   maslov = elim (small_or_not row.m) [
     | inl is ↦ is
-    | inr is_not ↦ absurd (no_homology g row (λ s l e. is_not (subst IsSmallDegree (ap (λ d. d.0) e) (small.maslov s l))) held)
+    | inr is_not ↦
+        absurd (no_homology g row (λ s l e. is_not (subst IsSmallDegree (ap (λ d. d.0) e) (small.maslov s l))) held)
   ];
   alexander = elim (small_or_not row.a) [
     | inl is ↦ is
-    | inr is_not ↦ absurd (no_homology g row (λ s l e. is_not (subst IsSmallDegree (ap (λ d. d.1) e) (small.alexander s l))) held)
+    | inr is_not ↦
+        absurd (no_homology g row (λ s l e. is_not (subst IsSmallDegree (ap (λ d. d.1) e)
+        (small.alexander s l))) held)
   ];
 }
 
 -- ---- the Alexander degrees, one by one
 -- before the first, the map has nothing, and the ranks at degrees that no state has are 0
-pub done-none : (g : Marks) (degrees : BTreeSet ℤ) (ranks : Ranks) → tree.IsEmpty ranks → HasDegrees g (factorial (size g)) degrees → IsDone g degrees.keys ranks
+pub done-none : (g : Marks) (degrees : BTreeSet ℤ) (ranks : Ranks) → tree.IsEmpty ranks
+    → HasDegrees g (factorial (size g)) degrees → IsDone g degrees.keys ranks
 done-none g degrees ranks empty has = record {
   done = λ a unseen. record {
     told = λ m. subst (IsHomologyRank g m a) (sym (nothing_at a m)) (rank-no_cell (grid_complex g) (m, a) (λ s e.
@@ -134,12 +151,17 @@ done-none g degrees ranks empty has = record {
     nothing_at a m = ap (λ o. unwrap_or o 0) (no_value a m)
 
     seen : (a : ℤ) (s : ℕ) → s < factorial (size g) → alexander g (unrank (size g) s) ≡ a → Contains degrees.keys a
-    seen a s l e = subst (λ b. Contains degrees.keys b) e ((btree_set_contains_iff int_cmp_total exact_signed degrees (alexander g (unrank (size g) s))).0 (has.found s l))
+    seen a s l e =
+        subst (λ b. Contains degrees.keys b) e
+        ((btree_set_contains_iff int_cmp_total exact_signed degrees (alexander g (unrank (size g) s))).0
+        (has.found s l))
 
 not_later : (a : ℤ) (left : List ℤ) → AllByRecursion (λ b. int_cmp a b ≡ Less) left → Contains left a → ⊥
 not_later a [] h inside = no_member a inside
 not_later a (b ∷ left) h inside = elim (member_cases b left a inside) [
-  | inl is ↦ false≢true (sym (ap is_lt (tied_itself int_cmp_total a)) ∙ ap (λ c. is_lt (int_cmp a c)) (sym is) ∙ ap is_lt h.0)
+  | inl is ↦
+      false≢true (sym (ap is_lt (tied_itself int_cmp_total a)) ∙ ap (λ c. is_lt (int_cmp a c)) (sym is)
+      ∙ ap is_lt h.0)
   | inr later ↦ not_later a left h.1 later
 ]
 
@@ -148,14 +170,20 @@ abbrev pub AreLeft : Marks → List ℤ → Ranks → Type 0
 AreLeft g left ranks = IsStrictlySortedBy int_cmp left × IsDone g left ranks
 
 -- the next degree is done
-pub done-next : (g : Marks) (a : ℤ) (left : List ℤ) (cells : List Cell) (old new : Ranks) → HasRanks g a cells → AreCounted a cells old new → AreLeft g (a ∷ left) old → AreLeft g left new
+pub done-next : (g : Marks) (a : ℤ) (left : List ℤ) (cells : List Cell) (old new : Ranks) → HasRanks g a cells
+    → AreCounted a cells old new → AreLeft g (a ∷ left) old → AreLeft g left new
 unfolding IsStrictlySortedBy
 done-next g a left cells old new has counted so_far = (
   so_far.0.1,
   record {
     done = λ b gone. elim (same_or_not b) [
       | inl is ↦ subst (IsTold g new) (sym is) (told-counted g a cells old new has counted)
-      | inr other ↦ told-other g a b cells old new other counted (so_far.1.done b (λ inside. elim (member_cases a left b inside) [ inl is ↦ other (sym is) | inr later ↦ gone later ]))
+      | inr other ↦
+          told-other g a b cells old new other counted
+          (so_far.1.done b (λ inside. elim (member_cases a left b inside) [
+            | inl is ↦ other (sym is)
+            | inr later ↦ gone later
+          ]))
     ];
     fresh = λ b m waiting.
         counted.others b m (λ is. not_later a left so_far.0.0 (subst (λ c. Contains left c) is waiting))
@@ -185,13 +213,16 @@ before-level p q e h = grind (arith, ints)
 later_row : (e f : (ℤ × ℤ) × ℕ) → degree_cmp e.0 f.0 ≡ Less → comes_before (row_of f) (row_of e) ≡ true
 later_row e f less = by (int_cmp e.0.0 f.0.0) refl less
   where
-    by : (o : Ordering) → o ≡ int_cmp e.0.0 f.0.0 → ordering_then o (int_cmp e.0.1 f.0.1) ≡ Less → comes_before (row_of f) (row_of e) ≡ true
+    by : (o : Ordering) → o ≡ int_cmp e.0.0 f.0.0 → ordering_then o (int_cmp e.0.1 f.0.1) ≡ Less
+        → comes_before (row_of f) (row_of e) ≡ true
     by Less is h = before-higher (row_of f) (row_of e) (int_ranked e.0.0 f.0.0 Less is)
-    by Equal is h = before-level (row_of f) (row_of e) (int_ranked e.0.0 f.0.0 Equal is) (int_ranked e.0.1 f.0.1 Less (sym h))
+    by Equal is h =
+        before-level (row_of f) (row_of e) (int_ranked e.0.0 f.0.0 Equal is) (int_ranked e.0.1 f.0.1 Less (sym h))
     by Greater is h = absurd (false≢true (ap is_lt h))
 
 -- all keys after one are above it
-all_later : (e : (ℤ × ℤ) × ℕ) (es : List ((ℤ × ℤ) × ℕ)) → AllByRecursion (λ q. degree_cmp e.0 q ≡ Less) (keys_of es) → (row : TableRow) → Contains (map row_of es) row → IsTrue (comes_before row (row_of e))
+all_later : (e : (ℤ × ℤ) × ℕ) (es : List ((ℤ × ℤ) × ℕ)) → AllByRecursion (λ q. degree_cmp e.0 q ≡ Less) (keys_of es)
+    → (row : TableRow) → Contains (map row_of es) row → IsTrue (comes_before row (row_of e))
 all_later e [] h row inside = absurd (no_member row inside)
 all_later e (f ∷ es) h row inside = elim (member_cases (row_of f) (map row_of es) row inside) [
   | inl is ↦ subst (λ r. IsTrue (comes_before r (row_of e))) is (later_row e f h.0)
@@ -199,10 +230,12 @@ all_later e (f ∷ es) h row inside = elim (member_cases (row_of f) (map row_of 
 ]
 
 -- the rows of a map stand in the other order
-rows-ascend : (es : List ((ℤ × ℤ) × ℕ)) → IsStrictlySortedBy degree_cmp (keys_of es) → AllPairs (λ p q. IsTrue (comes_before q p)) (map row_of es)
+rows-ascend : (es : List ((ℤ × ℤ) × ℕ)) → IsStrictlySortedBy degree_cmp (keys_of es)
+    → AllPairs (λ p q. IsTrue (comes_before q p)) (map row_of es)
 unfolding IsStrictlySortedBy
 rows-ascend [] s = λ i j d l m. absurd (omega arith)
-rows-ascend (e ∷ es) s = pairs_cons (λ p q. IsTrue (comes_before q p)) (row_of e) (map row_of es) (all_later e es s.0) (rows-ascend es s.1)
+rows-ascend (e ∷ es) s =
+    pairs_cons (λ p q. IsTrue (comes_before q p)) (row_of e) (map row_of es) (all_later e es s.0) (rows-ascend es s.1)
 
 -- a list that was reversed
 pub AreReversed-reverse : (xs ys : List TableRow) → ys ≡ reverse xs → AreReversed xs ys
@@ -218,7 +251,8 @@ module _ (xs ys : List TableRow) (r : AreReversed xs ys) where
       let long = r.long in
       let in_j : j < length xs = omega arith in
       let in_i : i < length xs = omega arith in
-      subst (λ (t : TableRow × TableRow). IsTrue (comes_before t.0 t.1)) (λ k. (sym (r.places i d in_i) k, sym (r.places j d in_j) k))
+      subst (λ (t : TableRow × TableRow). IsTrue (comes_before t.0 t.1))
+      (λ k. (sym (r.places i d in_i) k, sym (r.places j d in_j) k))
       (pairs (length xs - 1 - j) (length xs - 1 - i) d (omega arith) (omega arith))
 
   member_turned : (row : TableRow) → Contains ys row → Contains xs row
@@ -237,14 +271,20 @@ module _ (xs ys : List TableRow) (r : AreReversed xs ys) where
       (length xs - 1 - k, omega arith, r.places (length xs - 1 - k) row at ∙ ap (λ n. get_or xs n row) same ∙ is)
 
 -- the rows of a map that has all ranks are those of the table
-pub rows-of_ranks : (g : Marks) (ranks : Ranks) (rows : List TableRow) → tree.IsOrdered degree_cmp ranks → IsDone g [] ranks → AreReversed (map row_of ranks.entries) rows → AreRows g rows
+pub rows-of_ranks : (g : Marks) (ranks : Ranks) (rows : List TableRow) → tree.IsOrdered degree_cmp ranks
+    → IsDone g [] ranks → AreReversed (map row_of ranks.entries) rows → AreRows g rows
 rows-of_ranks g ranks rows ordered all r = record {
   ordered = turned (map row_of ranks.entries) rows r (rows-ascend ranks.entries ordered);
-  complete = λ row. (λ inside. holds row (member_turned (map row_of ranks.entries) rows r row inside), λ held. member_back (map row_of ranks.entries) rows r row (stands row held));
+  complete =
+      λ row. (
+        λ inside. holds row (member_turned (map row_of ranks.entries) rows r row inside),
+        λ held. member_back (map row_of ranks.entries) rows r row (stands row held),
+      );
   ranks = λ k d l.
       let row = get_or rows k d in
       let told = holds row (member_turned (map row_of ranks.entries) rows r row (Contains-get_or rows k d l)) in
-      subst (λ n. n < 2 ^ 32) (one_homology_rank g row.m row.a _ _ ((everywhere row.a).told row.m) told.rank) ((everywhere row.a).small row.m);
+      subst (λ n. n < 2 ^ 32) (one_homology_rank g row.m row.a _ _ ((everywhere row.a).told row.m) told.rank)
+      ((everywhere row.a).small row.m);
 }
   where
     everywhere : (a : ℤ) → IsTold g ranks a
@@ -253,7 +293,8 @@ rows-of_ranks g ranks rows ordered all r = record {
     holds : (row : TableRow) → Contains (map row_of ranks.entries) row → HasHomology g row
     holds row inside =
         let (e, stood, is) = member_of_map row_of ranks.entries row inside in
-        let found : tree.get degree_cmp ranks e.0 ≡ Some e.1 = (btree_map_get_iff degree_cmp_total exact_degrees ranks ordered e.0 e.1).1 stood in
+        let found : tree.get degree_cmp ranks e.0 ≡ Some e.1 =
+        (btree_map_get_iff degree_cmp_total exact_degrees ranks ordered e.0 e.1).1 stood in
         subst (HasHomology g) is (record {
           positive = IfSome-value (λ d. 0 < d) (tree.get degree_cmp ranks e.0) e.1 found (all.positive e.0.0 e.0.1);
           rank = subst (IsHomologyRank g e.0.1 e.0.0) (ap (λ o. unwrap_or o 0) found) ((everywhere e.0.0).told e.0.1);
@@ -261,9 +302,12 @@ rows-of_ranks g ranks rows ordered all r = record {
 
     stands : (row : TableRow) → HasHomology g row → Contains (map row_of ranks.entries) row
     stands row held =
-        let same : rank_in ranks row.a row.m ≡ row.rank = one_homology_rank g row.m row.a _ _ ((everywhere row.a).told row.m) held.rank in
-        let found : tree.get degree_cmp ranks (row.a, row.m) ≡ Some row.rank = value (tree.get degree_cmp ranks (row.a, row.m)) row.rank same held.positive in
-        Contains-map row_of ranks.entries ((row.a, row.m), row.rank) ((btree_map_get_iff degree_cmp_total exact_degrees ranks ordered (row.a, row.m) row.rank).0 found)
+        let same : rank_in ranks row.a row.m ≡ row.rank =
+        one_homology_rank g row.m row.a _ _ ((everywhere row.a).told row.m) held.rank in
+        let found : tree.get degree_cmp ranks (row.a, row.m) ≡ Some row.rank =
+        value (tree.get degree_cmp ranks (row.a, row.m)) row.rank same held.positive in
+        Contains-map row_of ranks.entries ((row.a, row.m), row.rank)
+        ((btree_map_get_iff degree_cmp_total exact_degrees ranks ordered (row.a, row.m) row.rank).0 found)
       where
         value : (o : Option ℕ) (d : ℕ) → unwrap_or o 0 ≡ d → 0 < d → o ≡ Some d
         value None d e l = absurd (omega arith)
@@ -324,7 +368,8 @@ module _ (g : Marks) (small : AreSmall g) (rows : List TableRow) (all : AreRows 
   pub rows-small : All HasSmallDegrees rows
   rows-small k d l = small_degrees g small (get_or rows k d) (holds_homology k d l)
 
-  at_map : (k : ℕ) (r : Row) → k < length rows → get_or (map homology_row rows) k r ≡ homology_row (get_or rows k (table_row r))
+  at_map : (k : ℕ) (r : Row) → k < length rows
+      → get_or (map homology_row rows) k r ≡ homology_row (get_or rows k (table_row r))
   at_map k r l = get_or-map homology_row rows k (table_row r) r l
 
   shorter : (k : ℕ) → k < length (map homology_row rows) → k < length rows
@@ -340,13 +385,16 @@ module _ (g : Marks) (small : AreSmall g) (rows : List TableRow) (all : AreRows 
     ordered = λ i j d l within.
         let j_in = shorter j within in
         let i_in : i < length rows = omega (arith, l, j_in) in
-        let before = stands_before (get_or rows i (table_row d)) (get_or rows j (table_row d)) (all.ordered i j (table_row d) l j_in) in
+        let before =
+        stands_before (get_or rows i (table_row d)) (get_or rows j (table_row d))
+        (all.ordered i j (table_row d) l j_in) in
         subst (λ p. StandsBefore p (get_or (map homology_row rows) j d)) (sym (at_map i d i_in))
         (subst (λ q. StandsBefore (homology_row (get_or rows i (table_row d))) q) (sym (at_map j d j_in)) before);
     complete = λ m a d. (
       λ inside.
           let k_in = shorter inside.0 inside.1 in
-          let same : homology_row (get_or rows inside.0 (table_row (m, a, d))) ≡ (m, a, d) = sym (at_map inside.0 (m, a, d) k_in) ∙ inside.2 in
+          let same : homology_row (get_or rows inside.0 (table_row (m, a, d))) ≡ (m, a, d) =
+          sym (at_map inside.0 (m, a, d) k_in) ∙ inside.2 in
           let held = holds_homology inside.0 (table_row (m, a, d)) k_in in (
             subst (λ e. 0 < e) (ap (λ r. r.2) same) held.positive,
             subst (λ r. IsHomologyRank g r.0 r.1 r.2) same held.rank,

@@ -6,15 +6,18 @@
 --     has_degree g d s           the state of rank s has the bidegree d
 --     all_have g d z             so has each state of z
 --     state_count_at g d         the number of states of this bidegree
---     count_passes c cell        there are states of the bidegree of the cell, as many as its cycle pairs, its step pairs
+--     count_passes c cell        there are states of the bidegree of the cell, as many as its cycle pairs, its step
+--                                pairs
 --                                and the step pairs of the cell one Maslov degree above together
 --     is_cocycle g f             f pairs evenly with the border of every state
 --     Question                   the number of an entry, a test, and whether the entry passes it
 --     cycle_pair_questions g d k p others
---                                the tests of the cycle pair p, with the number k, of a cell of bidegree d with these other
+--                                the tests of the cycle pair p, with the number k, of a cell of bidegree d with these
+--                                other
 --                                cycle pairs
 --     cycle_questions g d k earlier pairs
---                                the tests of these cycle pairs of a cell of bidegree d, where `earlier` are the pairs of the
+--                                the tests of these cycle pairs of a cell of bidegree d, where `earlier` are the pairs
+--                                of the
 --                                cell before them; the first has the number k
 --     step_pair_questions g d k p later
 --                                the tests of the step pair p of a cell with these later step pairs
@@ -66,7 +69,8 @@ state_count_at g d = length (filter (has_degree g d) (ascending (factorial (size
 abbrev pub count_passes : Certificate → Cell → Bool
 count_passes c cell =
     not (state_count_at c.grid cell.at == 0)
-    && (state_count_at c.grid cell.at == length cell.cycles + length cell.steps + length (steps_at same_degree c.cells (up_m cell.at)))
+    && (state_count_at c.grid cell.at == length cell.cycles + length cell.steps
+    + length (steps_at same_degree c.cells (up_m cell.at)))
 
 abbrev pub is_cocycle : Marks → Chain → Bool
 is_cocycle g f = all_below (factorial (size g)) (λ s. not (pairs_oddly (border_of_state g (unrank (size g) s)) f))
@@ -88,7 +92,8 @@ cycle_pair_questions g d k p others =
     ask k Degree (all_have g d p.cycle && all_have g d p.cocycle)
     ∷ ask k Cycle (is_empty (border g p.cycle))
     ∷ ask k Cocycle (is_cocycle g p.cocycle)
-    ∷ ask k Pairing (pairs_oddly p.cycle p.cocycle && list_all (λ (q : CyclePair). not (pairs_oddly q.cycle p.cocycle)) others)
+    ∷ ask k Pairing (pairs_oddly p.cycle p.cocycle && list_all
+    (λ (q : CyclePair). not (pairs_oddly q.cycle p.cocycle)) others)
     ∷ []
 
 abbrev pub cycle_questions : Marks → ℤ × ℤ → ℕ → List CyclePair → List CyclePair → List Question
@@ -96,12 +101,14 @@ cycle_questions g d k earlier [] = []
 cycle_questions g d k earlier (p ∷ later) =
     cycle_pair_questions g d k p (earlier ++ later) ++ cycle_questions g d (k + 1) (earlier ++ p ∷ []) later
 
--- a step is of the bidegree of the cell, and its probe one Maslov degree below; a probe pairs oddly with the border of its
+-- a step is of the bidegree of the cell, and its probe one Maslov degree below; a probe pairs oddly with the border of
+-- its
 -- own step, and evenly with that of each later step of the cell
 abbrev pub step_pair_questions : Marks → ℤ × ℤ → ℕ → StepPair → List StepPair → List Question
 step_pair_questions g d k p later =
     ask k Degree (all_have g d p.step && all_have g (one_below d) p.probe)
-    ∷ ask k Probe (pairs_oddly (border g p.step) p.probe && list_all (λ (q : StepPair). not (pairs_oddly (border g q.step) p.probe)) later)
+    ∷ ask k Probe (pairs_oddly (border g p.step) p.probe
+    && list_all (λ (q : StepPair). not (pairs_oddly (border g q.step) p.probe)) later)
     ∷ []
 
 abbrev pub step_questions : Marks → ℤ × ℤ → ℕ → List StepPair → List Question
@@ -121,7 +128,8 @@ all_questions c k (cell ∷ cells) =
 
 -- each degree of a state has a cell
 abbrev pub none_missing : Certificate → Bool
-none_missing c = all_below (factorial (size c.grid)) (λ s. list_any (λ (cell : Cell). has_degree c.grid cell.at s) c.cells)
+none_missing c =
+    all_below (factorial (size c.grid)) (λ s. list_any (λ (cell : Cell). has_degree c.grid cell.at s) c.cells)
 
 unfoldable pub questions : Certificate → List Question
 questions c = all_questions c 1 c.cells ++ ask (entry_count c.cells + 1) Missing (none_missing c) ∷ []
@@ -138,4 +146,6 @@ abbrev pub verdict_of : Certificate → CertVerdict
 verdict_of c = verdict_of_first (first_failing (questions c))
 
 abbrev pub certified_rows : List Cell → List Row
-certified_rows cells = map (λ (cell : Cell). (cell.at.0, cell.at.1, length cell.cycles)) (filter (λ (cell : Cell). not (length cell.cycles == 0)) cells)
+certified_rows cells =
+    map (λ (cell : Cell). (cell.at.0, cell.at.1, length cell.cycles))
+    (filter (λ (cell : Cell). not (length cell.cycles == 0)) cells)

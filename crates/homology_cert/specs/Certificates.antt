@@ -13,7 +13,8 @@
 --     HasCycleStates g p, HasStepStates g p, HasPairStates g c
 --                           so are those of both sets of a cycle pair, of a step pair, and of all pairs of a cell
 --     entry_count cells     the number of entries: the cells, the cycle pairs and the step pairs
---     IsCertificate c       the grid is one of size at most six; the cells stand in order, no bidegree twice, with small
+--     IsCertificate c       the grid is one of size at most six; the cells stand in order, no bidegree twice, with
+--                           small
 --                           degrees and with sets of states; there are fewer than 2^32 - 1 entries
 use Rattle.std.specs.Prelude.{ℕ, ◌+◌, ◌-◌, ◌^◌, ◌<◌, ◌≤◌, ℤ, Bool, List, length, IsTrue, refl}
 use Rattle.std.specs.List.{All, AllPairs, sum_by}
@@ -52,8 +53,10 @@ cell_code =
 
 abbrev pub certificate_code : Coded Certificate
 certificate_code =
-    code_by (List ℕ × (List ℕ × List Cell)) (coded× (coded_list coded_ℕ) (coded× (coded_list coded_ℕ) (coded_list cell_code)))
-    (λ c. (c.grid.o, (c.grid.x, c.cells))) (λ t. record { grid = record { o = t.0; x = t.1.0 }; cells = t.1.1 }) (λ _. refl)
+    code_by (List ℕ × (List ℕ × List Cell))
+    (coded× (coded_list coded_ℕ) (coded× (coded_list coded_ℕ) (coded_list cell_code)))
+    (λ c. (c.grid.o, (c.grid.x, c.cells))) (λ t. record { grid = record { o = t.0; x = t.1.0 }; cells = t.1.1 })
+    (λ _. refl)
 
 -- ---- certificates
 abbrev pub comes_first : Cell → Cell → Bool

@@ -9,4 +9,12 @@ pub loop-code-preserved : goal.loop-code-preserved
 loop-code-preserved c =
     let g = c.args.g.now in
     let more = map-ascending (λ s. border_of_state g (unrank (size g) s)) c.loop-code.code in
-    grind (arith, c.loop-code.invariant, c.in_ok-push.ensures.items, c.in_ok-border_of_state.ensures.border, c.unrank.ensures.state, c.size-n.ensures.size, more)
+    grind (
+      arith,
+      c.loop-code.invariant,
+      c.in_ok-push.ensures.items,
+      c.in_ok-border_of_state.ensures.border,
+      c.unrank.ensures.state,
+      c.size-n.ensures.size,
+      more,
+    )

@@ -24,10 +24,13 @@ returns-in-Some c =
     let cell = c.args.cell.now in
     let n = c.args.entry in
     let count : ℕ × CertTest = (n, Count) in
-    let same = same_cycles _ k.grid _ cell.at (n + 1) _ cell.cycles c.grid.ensures.grid c.degree.ensures c.cycles-2.ensures in
+    let same =
+    same_cycles _ k.grid _ cell.at (n + 1) _ cell.cycles c.grid.ensures.grid c.degree.ensures c.cycles-2.ensures in
     let told = sym c.in-Some.is ∙ c.in_ok-failure.ensures ∙ same in
-    cell_fails (Some count) (count_passes k cell) c.in-Some.failure (cycle_questions k.grid cell.at (n + 1) [] cell.cycles)
-    (step_questions k.grid cell.at (n + 1 + length cell.cycles) cell.steps) (sym c.count_passes.ensures ∙ c.if-not-count_passes.false) told
+    cell_fails (Some count) (count_passes k cell) c.in-Some.failure
+    (cycle_questions k.grid cell.at (n + 1) [] cell.cycles)
+    (step_questions k.grid cell.at (n + 1 + length cell.cycles) cell.steps)
+    (sym c.count_passes.ensures ∙ c.if-not-count_passes.false) told
 
 pub returns-in-None : goal.returns-in-None
 returns-in-None c =
@@ -35,9 +38,14 @@ returns-in-None c =
     let cell = c.args.cell.now in
     let n = c.args.entry in
     let count : ℕ × CertTest = (n, Count) in
-    let cycles = same_cycles _ k.grid _ cell.at (n + 1) _ cell.cycles c.grid.ensures.grid c.degree.ensures c.cycles-2.ensures in
-    let steps = same_steps _ k.grid _ cell.at _ (n + 1 + length cell.cycles) _ cell.steps c.grid-in-None.ensures.grid c.degree-in-None.ensures (ap (λ (ps : List CyclePair). n + 1 + length ps) c.cycles.ensures) c.steps.ensures in
+    let cycles =
+    same_cycles _ k.grid _ cell.at (n + 1) _ cell.cycles c.grid.ensures.grid c.degree.ensures c.cycles-2.ensures in
+    let steps =
+    same_steps _ k.grid _ cell.at _
+    (n + 1 + length cell.cycles) _ cell.steps c.grid-in-None.ensures.grid c.degree-in-None.ensures
+    (ap (λ (ps : List CyclePair). n + 1 + length ps) c.cycles.ensures) c.steps.ensures in
     let passed = sym c.in-None.is ∙ c.in_ok-failure.ensures ∙ cycles in
     let same = cell_goes_on (Some count) (count_passes k cell) _ (cycle_questions k.grid cell.at (n + 1) [] cell.cycles)
-    (step_questions k.grid cell.at (n + 1 + length cell.cycles) cell.steps) (sym c.count_passes.ensures ∙ c.if-not-count_passes.false) passed steps in
+    (step_questions k.grid cell.at (n + 1 + length cell.cycles) cell.steps)
+    (sym c.count_passes.ensures ∙ c.if-not-count_passes.false) passed steps in
     subst (λ (f : Option (ℕ × CertTest)). IfOk c.steps_failure.result (λ g. g ≡ f)) same c.steps_failure.ensures

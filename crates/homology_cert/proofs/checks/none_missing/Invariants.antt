@@ -7,4 +7,5 @@ use Rattle.homology_cert.specs.CertificateTests.{has_degree}
 use Rattle.homology_cert.proofs.checks.none_missing.Given as goal
 
 abbrev pub invariant-loop-code : goal.invariant-loop-code
-invariant-loop-code l = all_below l.code (λ s. list_any (λ (cell : Cell). has_degree l.c.grid cell.at s) l.c.cells) ≡ true
+invariant-loop-code l =
+    all_below l.code (λ s. list_any (λ (cell : Cell). has_degree l.c.grid cell.at s) l.c.cells) ≡ true

@@ -13,8 +13,11 @@ returns-then-not-is_probe c entry pairs told =
     let probe_is = ap (λ (q : StepPair). q.probe) c.pair.view_is in
     let f : ℕ × CertTest = (entry, Probe) in
     let d : ℕ × CertTest = (entry, Degree) in
-    let test = is_probe-steps g c.pair.inside.probe p.probe c.args.own.now (border g p.step) c.args.later.now pairs probe_is c.requires.own told in
-    second_fails _ _ (Some f) (Some d) (sym c.has_step_degrees.ensures ∙ c.if-not-has_step_degrees.false) (sym test ∙ sym c.is_probe.ensures ∙ c.if-not-is_probe.true)
+    let test =
+    is_probe-steps g c.pair.inside.probe p.probe c.args.own.now
+    (border g p.step) c.args.later.now pairs probe_is c.requires.own told in
+    second_fails _ _ (Some f) (Some d) (sym c.has_step_degrees.ensures ∙ c.if-not-has_step_degrees.false)
+    (sym test ∙ sym c.is_probe.ensures ∙ c.if-not-is_probe.true)
 
 pub returns : goal.returns
 returns c entry pairs told =
@@ -23,5 +26,8 @@ returns c entry pairs told =
     let probe_is = ap (λ (q : StepPair). q.probe) c.pair.view_is in
     let f : ℕ × CertTest = (entry, Probe) in
     let d : ℕ × CertTest = (entry, Degree) in
-    let test = is_probe-steps g c.pair.inside.probe p.probe c.args.own.now (border g p.step) c.args.later.now pairs probe_is c.requires.own told in
-    both_pass _ _ (Some f) (Some d) (sym c.has_step_degrees.ensures ∙ c.if-not-has_step_degrees.false) (sym test ∙ sym c.is_probe.ensures ∙ c.if-not-is_probe.false)
+    let test =
+    is_probe-steps g c.pair.inside.probe p.probe c.args.own.now
+    (border g p.step) c.args.later.now pairs probe_is c.requires.own told in
+    both_pass _ _ (Some f) (Some d) (sym c.has_step_degrees.ensures ∙ c.if-not-has_step_degrees.false)
+    (sym test ∙ sym c.is_probe.ensures ∙ c.if-not-is_probe.false)

@@ -6,4 +6,5 @@ use Rattle.homology_cert.specs.CertificateTests.{same_degree}
 use Rattle.homology_cert.proofs.checks.steps_above.Given as goal
 
 abbrev pub invariant-loop-cell : goal.invariant-loop-cell
-invariant-loop-cell l = steps_at same_degree l.cells (up_m (l.d.m, l.d.a)) ≡ steps_at same_degree (drop l.cell-index l.cells) (up_m (l.d.m, l.d.a))
+invariant-loop-cell l = steps_at same_degree l.cells (up_m (l.d.m, l.d.a))
+    ≡ steps_at same_degree (drop l.cell-index l.cells) (up_m (l.d.m, l.d.a))

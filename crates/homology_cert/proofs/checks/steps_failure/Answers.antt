@@ -9,7 +9,8 @@ use Rattle.homology_cert.proofs.checks.steps_failure.Goals as goal
 
 pub step_pair_failure-requires-clause-states : goal.step_pair_failure-requires-clause-states
 step_pair_failure-requires-clause-states c =
-    subst (HasStepStates c.args.g.now) (sym c.index-pairs-k.is) (c.requires.states c.loop-k.k c.index-pairs-k.result c.loop-k-test.true)
+    subst (HasStepStates c.args.g.now) (sym c.index-pairs-k.is)
+    (c.requires.states c.loop-k.k c.index-pairs-k.result c.loop-k-test.true)
 
 pub returns-in-Some : goal.returns-in-Some
 returns-in-Some c =
@@ -19,8 +20,11 @@ returns-in-Some c =
     let k = c.loop-k.k in
     let n = c.args.entry + k in
     let p = c.index-pairs-k.result in
-    let later = slice_from (k + 1) c.deref.result.now ∙ ap (drop (k + 1)) (c.deref.ensures.value ∙ c.in_ok-borders.ensures) ∙ drop-map (λ (q : StepPair). border g q.step) (k + 1) pairs in
-    let told = c.step_pair_failure.ensures n (drop (k + 1) pairs) later ∙ ap (λ q. first_failing (step_pair_questions g d n q (drop (k + 1) pairs))) c.index-pairs-k.is in
+    let later = slice_from (k + 1) c.deref.result.now
+    ∙ ap (drop (k + 1)) (c.deref.ensures.value ∙ c.in_ok-borders.ensures)
+    ∙ drop-map (λ (q : StepPair). border g q.step) (k + 1) pairs in
+    let told = c.step_pair_failure.ensures n (drop (k + 1) pairs) later
+    ∙ ap (λ q. first_failing (step_pair_questions g d n q (drop (k + 1) pairs))) c.index-pairs-k.is in
     let next = step_questions-next g d n k pairs p c.loop-k-test.true in
     first_failing-here n c.step_pair_failure.result c.in-Some.test _ _ _ c.in-Some.is told (c.loop-k.invariant ∙ next)
 
@@ -32,8 +36,11 @@ loop-k-preserved c =
     let k = c.loop-k.k in
     let n = c.args.entry + k in
     let p = c.index-pairs-k.result in
-    let later = slice_from (k + 1) c.deref.result.now ∙ ap (drop (k + 1)) (c.deref.ensures.value ∙ c.in_ok-borders.ensures) ∙ drop-map (λ (q : StepPair). border g q.step) (k + 1) pairs in
-    let told = c.step_pair_failure.ensures n (drop (k + 1) pairs) later ∙ ap (λ q. first_failing (step_pair_questions g d n q (drop (k + 1) pairs))) c.index-pairs-k.is in
+    let later = slice_from (k + 1) c.deref.result.now
+    ∙ ap (drop (k + 1)) (c.deref.ensures.value ∙ c.in_ok-borders.ensures)
+    ∙ drop-map (λ (q : StepPair). border g q.step) (k + 1) pairs in
+    let told = c.step_pair_failure.ensures n (drop (k + 1) pairs) later
+    ∙ ap (λ q. first_failing (step_pair_questions g d n q (drop (k + 1) pairs))) c.index-pairs-k.is in
     let next = step_questions-next g d n k pairs p c.loop-k-test.true in
     let more : n + 1 ≡ c.args.entry + (k + 1) = omega arith in
     first_failing-later n c.step_pair_failure.result _ _ _ c.in_default.is told (c.loop-k.invariant ∙ next)

@@ -18,25 +18,38 @@ pub unrank-x-requires-clause-rank : goal.unrank-x-requires-clause-rank
 unrank-x-requires-clause-rank c = factorial_positive c.size.result
 
 pub loop-code-init : goal.loop-code-init
-loop-code-init c = record { degrees = degrees-none c.args.g.now _; visited = λ l. c.unrank-x.ensures.state ∙ ap (λ n. unrank n 0) c.size.ensures.size }
+loop-code-init c =
+    record {
+      degrees = degrees-none c.args.g.now _;
+      visited = λ l. c.unrank-x.ensures.state ∙ ap (λ n. unrank n 0) c.size.ensures.size;
+    }
 
 pub degree-degree-requires : goal.degree-degree-requires
 degree-degree-requires c =
-    let count : c.state_count-code-end.result ≡ factorial (size c.args.g.now) = c.state_count-code-end.ensures ∙ ap factorial c.size-2.ensures.size in
+    let count : c.state_count-code-end.result ≡ factorial (size c.args.g.now) =
+    c.state_count-code-end.ensures ∙ ap factorial c.size-2.ensures.size in
     let below : c.loop-code._code < factorial (size c.args.g.now) = omega arith in
-    record { one_size = ap length (c.loop-code.invariant.visited below) ∙ length-unrank (size c.args.g.now) c.loop-code._code below ∙ ap size (sym c.of-tables.ensures) }
+    record {
+      one_size = ap length (c.loop-code.invariant.visited below)
+          ∙ length-unrank (size c.args.g.now) c.loop-code._code below ∙ ap size (sym c.of-tables.ensures);
+    }
 
 pub loop-code-preserved : goal.loop-code-preserved
 loop-code-preserved c =
     let g = c.args.g.now in
     let n = c.loop-code._code in
-    let count : c.state_count-code-end.result ≡ factorial (size c.args.g.now) = c.state_count-code-end.ensures ∙ ap factorial c.size-2.ensures.size in
+    let count : c.state_count-code-end.result ≡ factorial (size c.args.g.now) =
+    c.state_count-code-end.ensures ∙ ap factorial c.size-2.ensures.size in
     let below : c.loop-code._code < factorial (size c.args.g.now) = omega arith in
     let x_is = c.loop-code.invariant.visited below in
     let degree = c.degree-degree.result in
     let fits : SFits w32 c.degree-degree.result.a = search rules in
-    let adds : (q : ℤ) → sorted.contains int_cmp c.insert.new.self q ≡ cond (is_eq (int_cmp degree.a q)) true (sorted.contains int_cmp c.loop-code.degrees q) =
-    subst (λ (a : ℤ). (q : ℤ) → sorted.contains int_cmp c.insert.new.self q ≡ cond (is_eq (int_cmp a q)) true (sorted.contains int_cmp c.loop-code.degrees q))
+    let adds : (q : ℤ)
+    → sorted.contains int_cmp c.insert.new.self q
+    ≡ cond (is_eq (int_cmp degree.a q)) true (sorted.contains int_cmp c.loop-code.degrees q) =
+    subst (λ (a : ℤ). (q : ℤ)
+    → sorted.contains int_cmp c.insert.new.self q
+    ≡ cond (is_eq (int_cmp a q)) true (sorted.contains int_cmp c.loop-code.degrees q))
     (to_z-of_z w32 c.degree-degree.result.a fits) c.in_ok-insert.ensures.updates.0 in
     record {
       degrees = degrees-next g n degree.m degree.a c.loop-code.degrees c.insert.new.self
@@ -45,11 +58,15 @@ loop-code-preserved c =
           (record { low = c.degree-degree.ensures.low.0; high = c.degree-degree.ensures.high.0 })
           (record { low = c.degree-degree.ensures.low.1; high = c.degree-degree.ensures.high.1 })
           adds c.loop-code.invariant.degrees;
-      visited = visited-next (size g) n c.loop-code.x c.advance.new.self c.advance.result below c.loop-code.invariant.visited c.advance.ensures.state c.advance.ensures.last;
+      visited =
+          visited-next
+          (size g) n c.loop-code.x c.advance.new.self c.advance.result below c.loop-code.invariant.visited
+          c.advance.ensures.state c.advance.ensures.last;
     }
 
 pub returns : goal.returns
 returns c =
-    let count : c.state_count-code-end.result ≡ factorial (size c.args.g.now) = c.state_count-code-end.ensures ∙ ap factorial c.size-2.ensures.size in
+    let count : c.state_count-code-end.result ≡ factorial (size c.args.g.now) =
+    c.state_count-code-end.ensures ∙ ap factorial c.size-2.ensures.size in
     let all : c.loop-code._code ≡ factorial (size c.args.g.now) = omega arith in
     subst (λ n. HasDegrees c.args.g.now n c.loop-code.degrees) all c.loop-code.invariant.degrees

@@ -14,6 +14,14 @@ push_cells-requires c =
 pub returns : goal.returns
 returns c =
     let cert = c.args.c.now in
-    let head = c.in_ok-push_head.ensures ∙ ap (λ (g : Marks). c.new-text.result.items ++ text_of_lines (head_lines g)) c.grid-g.ensures.grid in
-    let cells = c.in_ok-push_cells.ensures ∙ ap₂ (λ (g : Marks) (cells : List Cell). c.push_head.new.text.items ++ text_of_lines (flat_map (cell_lines (size g)) cells)) c.grid-g.ensures.grid c.cells.ensures.cells in
-    record { text = certificate_pieces cert c.new-text.result.items c.push_head.new.text.items c.push_cells.new.text.items c.extend_from_slice.new.self.items c.new-text.ensures.items head cells c.in_ok-extend_from_slice.ensures.items }
+    let head = c.in_ok-push_head.ensures
+    ∙ ap (λ (g : Marks). c.new-text.result.items ++ text_of_lines (head_lines g)) c.grid-g.ensures.grid in
+    let cells = c.in_ok-push_cells.ensures
+    ∙ ap₂ (λ (g : Marks) (cells : List Cell). c.push_head.new.text.items
+    ++ text_of_lines (flat_map (cell_lines (size g)) cells)) c.grid-g.ensures.grid c.cells.ensures.cells in
+    record {
+      text =
+          certificate_pieces cert c.new-text.result.items c.push_head.new.text.items c.push_cells.new.text.items
+          c.extend_from_slice.new.self.items c.new-text.ensures.items head cells
+          c.in_ok-extend_from_slice.ensures.items;
+    }

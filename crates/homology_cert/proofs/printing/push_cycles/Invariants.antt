@@ -6,4 +6,5 @@ use Rattle.homology_cert.specs.CertificateText.{text_of_lines, cycle_lines}
 use Rattle.homology_cert.proofs.printing.push_cycles.Given as goal
 
 abbrev pub invariant-loop-pair : goal.invariant-loop-pair
-invariant-loop-pair l = l.text.items ≡ l.fn.text.items ++ text_of_lines (flat_map (cycle_lines (size l.g)) (take l.pair-index l.pairs))
+invariant-loop-pair l =
+    l.text.items ≡ l.fn.text.items ++ text_of_lines (flat_map (cycle_lines (size l.g)) (take l.pair-index l.pairs))

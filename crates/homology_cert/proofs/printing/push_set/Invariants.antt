@@ -6,4 +6,6 @@ use Rattle.homology_cert.proofs.printing.push_set.Given as goal
 
 abbrev pub invariant-loop-code : goal.invariant-loop-code
 invariant-loop-code l =
-    l.text.items ≡ l.fn.text.items ++ (l.fn.word ++ flat_map (λ s. 32 ∷ state_word (unrank l.n s)) (take l.code-index l.code-items))
+    l.text.items
+    ≡ l.fn.text.items
+    ++ (l.fn.word ++ flat_map (λ s. 32 ∷ state_word (unrank l.n s)) (take l.code-index l.code-items))

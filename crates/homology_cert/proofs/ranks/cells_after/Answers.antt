@@ -11,4 +11,5 @@ returns c =
     let g = c.args.g.now in
     IfOk-weaker c.live_cells.result _ (λ cells. HasRanks g c.args.a cells.items) (λ cells listed.
     ranks_of_cells g c.size-size.ensures.grid c.args.a (slice_complex c.reduce.new.slice.slice) _ cells.items
-    (reduction_of g c.args.a c.args.slice.slice c.reduce.new.slice.slice _ c.requires.built c.in_ok-log.ensures.reduced) listed) c.live_cells.ensures
+    (reduction_of g c.args.a c.args.slice.slice c.reduce.new.slice.slice _ c.requires.built c.in_ok-log.ensures.reduced)
+    listed) c.live_cells.ensures

@@ -14,16 +14,21 @@ use Rattle.homology_cert.proofs.ranks.count_cells.Goals as goal
 pub loop-cell-init : goal.loop-cell-init
 loop-cell-init c =
     let fits : SFits w32 c.args.a = search rules in
-    subst (λ (a : ℤ). AreCounted a (take 0 c.args.cells.now) c.args.ranks.now c.args.ranks.now) (sym (to_z-of_z w32 c.args.a fits))
+    subst (λ (a : ℤ). AreCounted a (take 0 c.args.cells.now) c.args.ranks.now c.args.ranks.now)
+    (sym (to_z-of_z w32 c.args.a fits))
     (counted-none c.args.a c.args.ranks.now c.requires.fresh c.requires.positive)
 
 pub overflow_add-count : goal.overflow_add-count
 overflow_add-count c =
     let cell = get_or c.args.cells.now c.loop-cell.cell-index no_cell in
     let few = c.requires.few in
-    let read : c.unwrap_or-count.result ≡ rank_in c.loop-cell.ranks (to_z w32 (of_z w32 c.args.a)) (to_z w32 (of_z w32 cell.maslov)) =
+    let read : c.unwrap_or-count.result
+    ≡ rank_in c.loop-cell.ranks (to_z w32 (of_z w32 c.args.a)) (to_z w32 (of_z w32 cell.maslov)) =
     c.unwrap_or-count.ensures ∙ ap (λ o. unwrap_or o 0) (c.copied.ensures ∙ c.get.ensures.value) in
-    let most = count_fits (to_z w32 (of_z w32 c.args.a)) (to_z w32 (of_z w32 cell.maslov)) (take c.loop-cell.cell-index c.args.cells.now) c.args.ranks.now c.loop-cell.ranks c.unwrap_or-count.result read c.loop-cell.invariant in
+    let most =
+    count_fits (to_z w32 (of_z w32 c.args.a)) (to_z w32 (of_z w32 cell.maslov))
+    (take c.loop-cell.cell-index c.args.cells.now) c.args.ranks.now c.loop-cell.ranks c.unwrap_or-count.result read
+    c.loop-cell.invariant in
     let end = c.loop-cell-test.true in
     let long = length-take-le c.loop-cell.cell-index c.args.cells.now (omega arith) in
     let sum : c.unwrap_or-count.result + 1 < 2 ^ 64 = omega arith in
@@ -38,9 +43,16 @@ loop-cell-preserved c =
     let fits : SFits w32 cell.maslov = search rules in
     let read : c.unwrap_or-count.result ≡ rank_in c.loop-cell.ranks a (to_z w32 (of_z w32 cell.maslov)) =
     c.unwrap_or-count.ensures ∙ ap (λ o. unwrap_or o 0) (c.copied.ensures ∙ c.get.ensures.value) in
-    let adds : (q : ℤ × ℤ) → tree.get degree_cmp c.insert.new.self q ≡ cond (is_eq (degree_cmp (a, cell.maslov) q)) (Some (c.unwrap_or-count.result + 1)) (tree.get degree_cmp c.loop-cell.ranks q) =
-    subst (λ (m : ℤ). (q : ℤ × ℤ) → tree.get degree_cmp c.insert.new.self q ≡ cond (is_eq (degree_cmp (a, m) q)) (Some (c.unwrap_or-count.result + 1)) (tree.get degree_cmp c.loop-cell.ranks q))
+    let adds : (q : ℤ × ℤ)
+    → tree.get degree_cmp c.insert.new.self q
+    ≡ cond (is_eq (degree_cmp (a, cell.maslov) q)) (Some (c.unwrap_or-count.result + 1))
+    (tree.get degree_cmp c.loop-cell.ranks q) =
+    subst (λ (m : ℤ). (q : ℤ × ℤ)
+    → tree.get degree_cmp c.insert.new.self q
+    ≡ cond (is_eq (degree_cmp (a, m) q)) (Some (c.unwrap_or-count.result + 1))
+    (tree.get degree_cmp c.loop-cell.ranks q))
     (to_z-of_z w32 cell.maslov fits) c.in_ok-insert.ensures.updates.0 in
-    subst (λ xs. AreCounted a xs c.args.ranks.now c.insert.new.self) (sym (take_more cells i no_cell c.loop-cell-test.true))
+    subst (λ xs. AreCounted a xs c.args.ranks.now c.insert.new.self)
+    (sym (take_more cells i no_cell c.loop-cell-test.true))
     (counted-next a (take i cells) cell c.args.ranks.now c.loop-cell.ranks c.insert.new.self c.unwrap_or-count.result
     (read ∙ ap (λ (m : ℤ). rank_in c.loop-cell.ranks a m) (to_z-of_z w32 cell.maslov fits)) adds c.loop-cell.invariant)

@@ -7,7 +7,9 @@ use Rattle.homology_cert.proofs.TableLemmas.{AreReversed-reverse}
 use Rattle.homology_cert.proofs.ranks.rows_of.Goals as goal
 
 pub loop-bidegree-init : goal.loop-bidegree-init
-loop-bidegree-init c = λ i. c.new-rows.ensures.items i ++ map row_of ((c.into_iter-bidegree-iterator.ensures.into_iter_gives ∙ c.iter-bidegree-items.ensures.rest) i)
+loop-bidegree-init c =
+    λ i. c.new-rows.ensures.items i
+    ++ map row_of ((c.into_iter-bidegree-iterator.ensures.into_iter_gives ∙ c.iter-bidegree-items.ensures.rest) i)
 
 pub loop-bidegree-preserved : goal.loop-bidegree-preserved
 loop-bidegree-preserved c =
@@ -17,7 +19,13 @@ loop-bidegree-preserved c =
     let fits_m : SFits w32 c.in-Some.bidegree.now.1 = search rules in
     let fits_a : SFits w32 c.in-Some.bidegree.now.0 = search rules in
     let pushed : c.push.new.self.items ≡ rows ++ row_of entry ∷ [] =
-    c.in_ok-push.ensures.items ∙ (λ i. rows ++ record { m = to_z-of_z w32 c.in-Some.bidegree.now.1 fits_m i; a = to_z-of_z w32 c.in-Some.bidegree.now.0 fits_a i; rank = c.in-Some.rank.now } ∷ []) in
+    c.in_ok-push.ensures.items
+    ∙ (λ i. rows
+    ++ record {
+      m = to_z-of_z w32 c.in-Some.bidegree.now.1 fits_m i;
+      a = to_z-of_z w32 c.in-Some.bidegree.now.0 fits_a i;
+      rank = c.in-Some.rank.now;
+    } ∷ []) in
     ap (λ xs. xs ++ rest) pushed
     ∙ append_assoc rows (row_of entry ∷ []) rest
     ∙ ap (λ es. rows ++ map row_of es) (sym c.in-Some.ensures.steps)
@@ -26,5 +34,8 @@ loop-bidegree-preserved c =
 pub returns-clause-rows : goal.returns-clause-rows
 returns-clause-rows c =
     let all : c.loop-bidegree.rows.items ≡ map row_of c.args.ranks.now.entries =
-    sym (append-nil c.loop-bidegree.rows.items) ∙ ap (λ es. c.loop-bidegree.rows.items ++ map row_of es) (sym c.in-None.ensures.steps.0) ∙ c.loop-bidegree.invariant in
-    AreReversed-reverse (map row_of c.args.ranks.now.entries) c.reverse.new.self.items (c.reverse.ensures.items ∙ ap reverse all)
+    sym (append-nil c.loop-bidegree.rows.items)
+    ∙ ap (λ es. c.loop-bidegree.rows.items ++ map row_of es) (sym c.in-None.ensures.steps.0)
+    ∙ c.loop-bidegree.invariant in
+    AreReversed-reverse (map row_of c.args.ranks.now.entries) c.reverse.new.self.items
+    (c.reverse.ensures.items ∙ ap reverse all)
