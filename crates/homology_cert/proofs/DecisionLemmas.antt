@@ -224,9 +224,9 @@ leads-no_cell g ds line = elim (same_list line (codes "end")) [
     neither not_last no_degree q es (inl (l, e, f)) = not_last l
     neither not_last no_degree q es (inr (d, small, l, e, f)) = no_degree d small l
 
-no_cycles : (steps : List StepPair) → Decided (steps ≡ [])
-no_cycles [] = inl refl
-no_cycles (p ∷ ps) = inr (λ e. let l = ap length e in omega (arith, l))
+are_none : (steps : List StepPair) → Decided (steps ≡ [])
+are_none [] = inl refl
+are_none (p ∷ ps) = inr (λ e. let l = ap length e in omega (arith, l))
 
 is_true : (b : Bool) → Decided (IsTrue b)
 is_true true = inl (search rules)
@@ -247,7 +247,7 @@ leads-in_cell g c ds line = elim (same_list line (codes "end")) [
     | inr no_degree ↦ elim (some_set (size g) (codes "step") line) [
       | inl found ↦ inl (InStep g c found.0, ds, inr (inr (inr (found.0, found.1, found.2, refl, refl))))
       | inr no_step ↦ elim (some_set (size g) (codes "cycle") line) [
-        | inl found ↦ elim (no_cycles c.steps) [
+        | inl found ↦ elim (are_none c.steps) [
           | inl none ↦ inl (InCycle g c found.0, ds, inr (inr (inl (found.0, found.1, none, found.2, refl, refl))))
           | inr some ↦ inr (none_leads not_last no_degree no_step (λ z is none e. some none))
         ]

@@ -1,5 +1,5 @@
 //! Reading certificates, line by line.
-ghost use Rattle.std.specs.Prelude.{◌≡◌, ◌≢◌, ◌≤◌, ◌^◌, ℕ, ℤ, List, [], ◌∷◌, ◌++◌, ◌+◌, ◌*◌, ◌<◌, ◌⊎◌, length, drop, codes as codes_of_text, take, slice_index, ◌↔◌, IsTrue, Some, Err, IfOk, IfSome, IfNone, IsNone, MatchOption};
+ghost use Rattle.std.specs.Prelude.{◌≡◌, ◌≢◌, ◌≤◌, ◌^◌, ℕ, ℤ, List, [], ◌∷◌, ◌++◌, ◌+◌, ◌*◌, ◌<◌, ◌⊎◌, length, codes as codes_of_text, take, slice_index, ◌↔◌, IsTrue, Some, Err, IfOk, IfSome, IfNone, MatchOption};
 ghost use Rattle.f2_algebra.specs.Chain.{Chain as Codes};
 ghost use Rattle.std.specs.Fmt.{signed_decimal};
 ghost use Rattle.state_rank.specs.Bijection.{IsSize, IsBijection};
@@ -7,9 +7,8 @@ ghost use Rattle.state_rank.specs.States.{factorial, unrank, state_word};
 ghost use Rattle.gradings.specs.Degrees.{IsSmallDegree};
 ghost use Rattle.torus_geom.specs.Marks.{Marks, size, IsGrid};
 ghost use Rattle.homology_cert.specs.Certificates.{Cell, Certificate, IsCertificate, HasSmallDegrees, AreStates, comes_first as comes_first_of};
-ghost use Rattle.homology_cert.specs.CertificateText.{set_line, marks_line, degree_line, certificate_text, certificate_lines, IsFirstBadLine};
-ghost use Rattle.homology_cert.specs.declared.reading.Place.TheVariants.{Start, End};
-ghost use Rattle.homology_cert.specs.Inner.Reading.{size_line, IsSmallSize, LeadsTo, IsAt, Path, lines_in, spaced, new_cell, with_cycle, with_step, IsFree};
+ghost use Rattle.homology_cert.specs.CertificateText.{set_line, marks_line, degree_line, certificate_text, IsFirstBadLine};
+ghost use Rattle.homology_cert.specs.Inner.Reading.{size_line, IsSmallSize, LeadsTo, IsAt, spaced, new_cell, with_cycle, with_step, IsFree};
 
 use crate::certificates::{Cert, CertCell};
 use f2_chain::{Builder, Chain};
@@ -74,7 +73,8 @@ impl From<AllocError> for CertEnd {
 
 /// The certificate with this text, as docs/FORMATS.md says, or the first bad line.
 ///
-/// The text is gone through once, and nothing is copied but what the certificate keeps.
+/// The text, of at most 16,777,216 bytes, is gone through once, and nothing is copied but what the
+/// certificate keeps.
 ///
 /// # Errors
 ///
