@@ -17,7 +17,7 @@ use Rattle.grid_job.specs.Inner.Written.{HasWritten, IsAnswerOfGrid}
 use Rattle.grid_job.specs.declared.modes.Mode.TheVariants.{Cert, Check}
 use Rattle.grid_job.specs.declared.statuses.Status.{Status}
 use Rattle.grid_job.specs.declared.statuses.Status.TheVariants.{Done, Refused, NoMemory}
-use Rattle.grid_job.proofs.CertificateFacts.{some_certificate}
+use Rattle.homology_cert.proofs.MakingLaws.{exists_certificate}
 use Rattle.grid_job.proofs.WrittenLemmas.{HasWritten-weaker, HasWritten-nothing}
 
 -- the text of a certificate, whose grid and text are told otherwise
@@ -37,7 +37,7 @@ IsCertificateText-of g c text is_one same_grid passes short lines = record {
 pub HasWritten-no_certificate : (g : Marks) (f : ℕ) (a : Option (List ℕ)) → IsGrid g → size g ≤ 6
     → HasWritten (λ status answer. (status ≡ Done) × IsCertificateText g answer) NoMemory f f a a
 HasWritten-no_certificate g f a grid small =
-    let c = some_certificate g grid small in
+    let c = exists_certificate g grid small in
     HasWritten-nothing (λ status answer. (status ≡ Done) × IsCertificateText g answer) f a Done (certificate_text c.0)
     (refl, IsCertificateText-of g c.0 (certificate_text c.0) c.1 c.2 c.3 c.4 refl)
 

@@ -27,12 +27,14 @@ not_above : (c x : ℕ) → x < c → eqb c x ≡ false
 not_above c x below = grind arith
 
 -- each code is after those before it
-absent : (cs : List ℕ) (k c : ℕ) → AllPairs (λ i j. i < j) cs → k < length cs → c ≡ get_or cs k c → any c (take k cs) ≡ false
+absent : (cs : List ℕ) (k c : ℕ) → AllPairs (λ i j. i < j) cs → k < length cs → c ≡ get_or cs k c
+    → any c (take k cs) ≡ false
 absent [] k c rising within is = absurd (omega (arith, within))
 absent (x ∷ cs) zero c rising within is = refl
 absent (x ∷ cs) (suc k) c rising within is =
     let below : x < c = subst (λ y. x < y) (sym is) (rising 0 (suc k) c (omega arith) within) in
-    ap₂ (λ a b. a || b) (not_above c x below) (absent cs k c (pairs_tail (λ i j. i < j) x cs rising) (omega (arith, within)) is)
+    ap₂ (λ a b. a || b) (not_above c x below)
+    (absent cs k c (pairs_tail (λ i j. i < j) x cs rising) (omega (arith, within)) is)
 
 toggled_or : (a b : Bool) → (b ≡ true → a ≡ false) → (a ⊻ b) ≡ (a || (b || false))
 toggled_or true true apart = absurd (true≢false (apart refl))
@@ -41,10 +43,13 @@ toggled_or false true apart = refl
 toggled_or false false apart = refl
 
 -- the next code is toggled in
-toggled-next : (cs : List ℕ) (k c : ℕ) → AllPairs (λ i j. i < j) cs → k < length cs → c ≡ get_or cs k c → of_codes (take k cs) ⊕ single c ≡ of_codes (take (k + 1) cs)
+toggled-next : (cs : List ℕ) (k c : ℕ) → AllPairs (λ i j. i < j) cs → k < length cs → c ≡ get_or cs k c
+    → of_codes (take k cs) ⊕ single c ≡ of_codes (take (k + 1) cs)
 toggled-next cs k c rising within is = same_chain _ _ (λ q.
-    let apart : eqb q c ≡ true → any q (take k cs) ≡ false = λ e. subst (λ r. any r (take k cs) ≡ false) (sym (eqb-true q c e)) (absent cs k c rising within is) in
-    let more : take (k + 1) cs ≡ take k cs ++ c ∷ [] = take_more cs k c within ∙ ap (λ d. take k cs ++ d ∷ []) (sym is) in
+    let apart : eqb q c ≡ true → any q (take k cs) ≡ false =
+    λ e. subst (λ r. any r (take k cs) ≡ false) (sym (eqb-true q c e)) (absent cs k c rising within is) in
+    let more : take (k + 1) cs ≡ take k cs ++ c ∷ [] =
+    take_more cs k c within ∙ ap (λ d. take k cs ++ d ∷ []) (sym is) in
     holds-add (of_codes (take k cs)) (single c) q
     ∙ ap₂ (λ a b. a ⊻ b) (holds-of_codes (take k cs) q) (holds-single c q)
     ∙ toggled_or (any q (take k cs)) (eqb q c) apart
@@ -75,7 +80,8 @@ states-next xs k x states within is =
     toggled-next (map rank xs) k (rank x) (ranks-rising xs states) (omega (arith, length-map xs rank, within))
     (ap rank is ∙ sym (get_or-map rank xs k x (rank x) within))
 
-pub states-all : (xs : List (List ℕ)) (k : ℕ) → length xs < k + 1 → of_codes (take k (map rank xs)) ≡ of_codes (map rank xs)
+pub states-all : (xs : List (List ℕ)) (k : ℕ) → length xs < k + 1
+    → of_codes (take k (map rank xs)) ≡ of_codes (map rank xs)
 states-all xs k past = ap of_codes (take_all k (map rank xs) (omega (arith, length-map xs rank, past)))
 
 -- ---- their ranks are those of states of the grid
@@ -93,14 +99,19 @@ pub ranks-below : (g : Marks) (xs : List (List ℕ)) → All (IsStateOf g) xs �
 ranks-below g xs states =
     let n = factorial (size g) in
     let ranks = All-map (λ c. c < n) rank xs (λ i d l. rank-below_state g (get_or xs i d) (states i d l)) in
-    All-codes (λ c. c < n) (of_codes (map rank xs)) (λ q held. any-below n (map rank xs) q ranks (sym (holds-of_codes (map rank xs) q) ∙ held))
+    All-codes (λ c. c < n) (of_codes (map rank xs))
+    (λ q held. any-below n (map rank xs) q ranks (sym (holds-of_codes (map rank xs) q) ∙ held))
 
 pub HasStates-nothing : (g : Marks) → HasStates g nothing
-HasStates-nothing g = All-codes (λ c. c < factorial (size g)) nothing (λ q held. absurd (true≢false (sym held ∙ holds-nothing q)))
+HasStates-nothing g =
+    All-codes (λ c. c < factorial (size g)) nothing (λ q held. absurd (true≢false (sym held ∙ holds-nothing q)))
 
 -- what is in force stays a grid with a chain of its states
-pub HasStates-after : (p : InForce) (c : Command) → IsGrid p.grid → HasStates p.grid p.chain → IsAllowed p.grid c → HasStates (after p c).grid (after p c).chain
+pub HasStates-after : (p : InForce) (c : Command) → IsGrid p.grid → HasStates p.grid p.chain → IsAllowed p.grid c
+    → HasStates (after p c).grid (after p c).chain
 HasStates-after p (command.Chain xs) grid states allowed = ranks-below p.grid xs allowed.0
-HasStates-after p (command.Turn side) grid states allowed = HasStates-after_turn side p.grid _ (size p.grid) p.chain _ states refl refl refl
-HasStates-after p (command.Commute axis c corner) grid states allowed = HasStates-exchanged axis p.grid _ c corner p.chain _ grid refl refl
+HasStates-after p (command.Turn side) grid states allowed =
+    HasStates-after_turn side p.grid _ (size p.grid) p.chain _ states refl refl refl
+HasStates-after p (command.Commute axis c corner) grid states allowed =
+    HasStates-exchanged axis p.grid _ c corner p.chain _ grid refl refl
 HasStates-after p other grid states allowed = states

@@ -50,10 +50,12 @@ HasStates-single g code below =
 
 pub HasStates-class_chain : (g : Marks) → IsGrid g → (sign : Sign) → HasStates g (class_chain g sign)
 HasStates-class_chain g grid sign =
-    HasStates-single g (rank (class_state g sign)) (rank-below (size g) (class_state g sign) (class_state-state g grid sign))
+    HasStates-single g (rank (class_state g sign))
+    (rank-below (size g) (class_state g sign) (class_state-state g grid sign))
 
 -- ---- texts of verdicts
-exists_told : (g : Marks) → IsGrid g → (sign : Sign) (v : ClassVerdict) → IsVerdict g (class_chain g sign) v → (text : List ℕ) × IsClassText g sign text
+exists_told : (g : Marks) → IsGrid g → (sign : Sign) (v : ClassVerdict) → IsVerdict g (class_chain g sign) v
+    → (text : List ℕ) × IsClassText g sign text
 exists_told g grid sign (NotCycle s) stands = absurd (class_is_cycle g grid sign s stands)
 exists_told g grid sign (Null b) stands = (_, record { verdict = Null b; is_verdict = stands; told = refl })
 exists_told g grid sign (Alive f) stands = (_, record { verdict = Alive f; is_verdict = stands; told = refl })

@@ -58,7 +58,8 @@ take-ascending (suc (suc (suc (suc (suc (suc (suc (suc (suc zero))))))))) l = re
 take-ascending (suc (suc (suc (suc (suc (suc (suc (suc (suc (suc n)))))))))) l = absurd (omega (arith, l))
 
 -- ---- shuffles, step by step
-pub IsShuffling-start : (n first : ℕ) (state : List ℕ) → state ≡ ascending n → first < 2 ^ 31 → IsShuffling n first (n - 1) first state
+pub IsShuffling-start : (n first : ℕ) (state : List ℕ) → state ≡ ascending n → first < 2 ^ 31
+    → IsShuffling n first (n - 1) first state
 IsShuffling-start n first state is small = record {
   long = ap length is ∙ length-ascending n;
   left = ap (exchanged (n - 1) first) is;
@@ -67,11 +68,14 @@ IsShuffling-start n first state is small = record {
 }
 
 -- one exchange
-pub IsShuffling-more : (n first i j number next : ℕ) (state new : List ℕ) → i ≡ suc j → next ≡ next_number number → next < 2 ^ 31
-    → new ≡ swap state i (draw next (i + 1)) → length new ≡ length state → IsShuffling n first i number state → IsShuffling n first j next new
+pub IsShuffling-more : (n first i j number next : ℕ) (state new : List ℕ) → i ≡ suc j → next ≡ next_number number
+    → next < 2 ^ 31
+    → new ≡ swap state i (draw next (i + 1)) → length new ≡ length state → IsShuffling n first i number state
+    → IsShuffling n first j next new
 IsShuffling-more n first i j number next state new at follows small is same h =
     let room : suc (suc j) ≡ i + 1 = omega (arith, at) in
-    let step : new ≡ swap state (suc j) (draw (next_number number) (suc (suc j))) = is ∙ (λ t. swap state (at t) (draw (follows t) (sym room t))) in
+    let step : new ≡ swap state (suc j) (draw (next_number number) (suc (suc j))) =
+    is ∙ (λ t. swap state (at t) (draw (follows t) (sym room t))) in
     record {
       long = same ∙ h.long;
       left = (λ t. exchanged j (follows t) (step t)) ∙ ap (λ k. exchanged k number state) (sym at) ∙ h.left;
@@ -80,10 +84,12 @@ IsShuffling-more n first i j number next state new at follows small is same h =
     }
 
 -- no exchange is left
-pub IsShuffling-state : (n first i number : ℕ) (state : List ℕ) → i ≡ 0 → IsShuffling n first i number state → state ≡ shuffled n first
+pub IsShuffling-state : (n first i number : ℕ) (state : List ℕ) → i ≡ 0 → IsShuffling n first i number state
+    → state ≡ shuffled n first
 IsShuffling-state n first i number state none h = ap (λ k. exchanged k number state) (sym none) ∙ h.left
 
-pub IsShuffling-number : (n first i number : ℕ) (state : List ℕ) → i ≡ 0 → IsShuffling n first i number state → number ≡ number_after (n - 1) first
+pub IsShuffling-number : (n first i number : ℕ) (state : List ℕ) → i ≡ 0 → IsShuffling n first i number state
+    → number ≡ number_after (n - 1) first
 IsShuffling-number n first i number state none h = ap (λ k. number_after k number) (sym none) ∙ h.last
 
 -- ---- grids
@@ -99,15 +105,18 @@ one_down_apart : (n b c : ℕ) → b < n → c < n → b ≢ c → one_down n b 
 one_down_apart n b c lb lc p e = p (sym (one_up-one_down n b lb) ∙ ap (one_up n) e ∙ one_up-one_down n c lc)
 
 -- the first rows of a list that is filled by a function that takes each value once
-IsBijection-filled : (n : ℕ) (f : ℕ → ℕ) (xs : List ℕ) → n ≤ 9 → ((c : ℕ) → c < n → f c < n) → ((b c : ℕ) → b < n → c < n → b ≢ c → f b ≢ f c) → IsFilled 9 f n xs → IsBijection n (take n xs)
+IsBijection-filled : (n : ℕ) (f : ℕ → ℕ) (xs : List ℕ) → n ≤ 9 → ((c : ℕ) → c < n → f c < n)
+    → ((b c : ℕ) → b < n → c < n → b ≢ c → f b ≢ f c) → IsFilled 9 f n xs → IsBijection n (take n xs)
 IsBijection-filled n f xs few small apart filled = record {
   long = length-take-le n xs (let room = filled.room in omega arith);
   small = λ c l. let at = get_or-take n xs c 0 l ∙ filled.filled c l in let below = small c l in omega arith;
-  apart = λ b c lb lc p e. apart b c lb lc p (sym (get_or-take n xs b 0 lb ∙ filled.filled b lb) ∙ e ∙ get_or-take n xs c 0 lc ∙ filled.filled c lc);
+  apart = λ b c lb lc p e. apart b c lb lc p
+      (sym (get_or-take n xs b 0 lb ∙ filled.filled b lb) ∙ e ∙ get_or-take n xs c 0 lc ∙ filled.filled c lc);
 }
 
 -- the marks that are put column by column, by the place of the column
-module _ (cs rs places o x : List ℕ) (n : ℕ) (size : IsSize n) (in_cs : IsBijection n cs) (in_rs : IsBijection n rs) (in_places : IsBijection n places)
+module _ (cs rs places o x : List ℕ) (n : ℕ) (size : IsSize n) (in_cs : IsBijection n cs) (in_rs : IsBijection n rs)
+    (in_places : IsBijection n places)
     (inverse : (c : ℕ) → c < n → slice_index places (slice_index cs c) ≡ c)
     (in_o : IsFilled 9 (λ c. slice_index rs (one_down n (slice_index places c))) n o)
     (in_x : IsFilled 9 (λ c. slice_index rs (slice_index places c)) n x) where
@@ -123,14 +132,17 @@ module _ (cs rs places o x : List ℕ) (n : ℕ) (size : IsSize n) (in_cs : IsBi
   o_bijection : IsBijection n (take n o)
   o_bijection = IsBijection-filled n (λ c. slice_index rs (one_down n (slice_index places c))) o size.greatest
       (λ c l. in_rs.small (one_down n (slice_index places c)) (before_below c l))
-      (λ b c lb lc p. in_rs.apart (one_down n (slice_index places b)) (one_down n (slice_index places c)) (before_below b lb) (before_below c lc)
-      (one_down_apart n (slice_index places b) (slice_index places c) (place_below b lb) (place_below c lc) (in_places.apart b c lb lc p)))
+      (λ b c lb lc p. in_rs.apart (one_down n (slice_index places b)) (one_down n (slice_index places c))
+      (before_below b lb) (before_below c lc)
+      (one_down_apart n (slice_index places b) (slice_index places c) (place_below b lb) (place_below c lc)
+      (in_places.apart b c lb lc p)))
       in_o
 
   x_bijection : IsBijection n (take n x)
   x_bijection = IsBijection-filled n (λ c. slice_index rs (slice_index places c)) x size.greatest
       (λ c l. in_rs.small (slice_index places c) (place_below c l))
-      (λ b c lb lc p. in_rs.apart (slice_index places b) (slice_index places c) (place_below b lb) (place_below c lc) (in_places.apart b c lb lc p))
+      (λ b c lb lc p. in_rs.apart (slice_index places b) (slice_index places c) (place_below b lb) (place_below c lc)
+      (in_places.apart b c lb lc p))
       in_x
 
   o_at : (c : ℕ) → c < n → slice_index (take n o) c ≡ slice_index rs (one_down n (slice_index places c))
@@ -171,17 +183,21 @@ module _ (cs rs places o x : List ℕ) (n : ℕ) (size : IsSize n) (in_cs : IsBi
   }
 
 -- the inverse of a bijection is one
-pub IsBijection-inverse : (n : ℕ) (cs : List ℕ) → IsBijection n cs → IsBijection n (tabulate n (column_of n (slice_index cs)))
+pub IsBijection-inverse : (n : ℕ) (cs : List ℕ) → IsBijection n cs
+    → IsBijection n (tabulate n (column_of n (slice_index cs)))
 IsBijection-inverse n cs h =
     let one = column_of-one_to_one n (slice_index cs) (one_to_one n cs h) in
-    let at : (c : ℕ) → c < n → slice_index (tabulate n (column_of n (slice_index cs))) c ≡ column_of n (slice_index cs) c = λ c l. get_or-tabulate n (column_of n (slice_index cs)) c 0 l in
+    let at : (c : ℕ) → c < n
+    → slice_index (tabulate n (column_of n (slice_index cs))) c ≡ column_of n (slice_index cs) c =
+    λ c l. get_or-tabulate n (column_of n (slice_index cs)) c 0 l in
     record {
       long = length-tabulate n (column_of n (slice_index cs));
       small = λ c l. let below = one.small c l in omega (arith, at c l, below);
       apart = λ b c lb lc p e. one.apart b c lb lc p (sym (at b lb) ∙ e ∙ at c lc);
     }
 
-pub inverse-place : (n : ℕ) (cs : List ℕ) → IsBijection n cs → (c : ℕ) → c < n → slice_index (tabulate n (column_of n (slice_index cs))) (slice_index cs c) ≡ c
+pub inverse-place : (n : ℕ) (cs : List ℕ) → IsBijection n cs → (c : ℕ) → c < n
+    → slice_index (tabulate n (column_of n (slice_index cs))) (slice_index cs c) ≡ c
 inverse-place n cs h c l =
     get_or-tabulate n (column_of n (slice_index cs)) (slice_index cs c) 0 (h.small c l)
     ∙ column_of-is n (slice_index cs) (one_to_one n cs h) c (slice_index cs c) l refl
@@ -190,16 +206,21 @@ IsBijection-transpose : (cs : List ℕ) → IsBijection (length cs) cs → IsBij
 IsBijection-transpose cs h = IsBijection-inverse (length cs) cs h
 
 -- the marks of all columns
-pub put_marks : (cs rs places o x : List ℕ) (n k p q : ℕ) → IsState cs → IsState rs → n ≡ length cs → length rs ≡ length cs → places ≡ transpose cs
+pub put_marks : (cs rs places o x : List ℕ) (n k p q : ℕ) → IsState cs → IsState rs → n ≡ length cs
+    → length rs ≡ length cs → places ≡ transpose cs
     → ((c : ℕ) → c < length cs → slice_index places (slice_index cs c) ≡ c)
-    → IsFilled 9 (λ c. slice_index rs (one_down n (slice_index places c))) k o → IsFilled 9 (λ c. slice_index rs (slice_index places c)) k x → k ≡ n → p ≡ n → q ≡ n
+    → IsFilled 9 (λ c. slice_index rs (one_down n (slice_index places c))) k o
+    → IsFilled 9 (λ c. slice_index rs (slice_index places c)) k x → k ≡ n → p ≡ n → q ≡ n
     → IsGrid (record { o = take p o; x = take q x }) × IsGridThrough cs rs (record { o = take p o; x = take q x })
 put_marks cs rs places o x n k p q in_cs in_rs size same turned inverse in_o in_x all is_p is_q =
     let n_size : IsSize n = subst IsSize (sym size) in_cs.size in
     let n_cs : IsBijection n cs = subst (λ m. IsBijection m cs) (sym size) in_cs.bijection in
     let n_rs : IsBijection n rs = subst (λ m. IsBijection m rs) (same ∙ sym size) in_rs.bijection in
-    let n_places : IsBijection n places = subst (λ ys. IsBijection n ys) (sym turned) (subst (λ m. IsBijection m (transpose cs)) (sym size) (IsBijection-transpose cs in_cs.bijection)) in
-    let back : (c : ℕ) → c < n → slice_index places (slice_index cs c) ≡ c = λ c l. inverse c (omega (arith, l, size)) in
+    let n_places : IsBijection n places =
+    subst (λ ys. IsBijection n ys) (sym turned)
+    (subst (λ m. IsBijection m (transpose cs)) (sym size) (IsBijection-transpose cs in_cs.bijection)) in
+    let back : (c : ℕ) → c < n → slice_index places (slice_index cs c) ≡ c =
+    λ c l. inverse c (omega (arith, l, size)) in
     let n_o = subst (λ m. IsFilled 9 (λ c. slice_index rs (one_down n (slice_index places c))) m o) all in_o in
     let n_x = subst (λ m. IsFilled 9 (λ c. slice_index rs (slice_index places c)) m x) all in_x in
     let before : Marks = record { o = take n o; x = take n x } in
@@ -210,19 +231,25 @@ put_marks cs rs places o x n k p q in_cs in_rs size same turned inverse in_o in_
     )
 
 -- ---- scripts
-pub IsMadeScript-from : (n seed number : ℕ) (cs rs : List ℕ) (g : Marks) (s : GridScript) → cs ≡ shuffled n seed → number ≡ number_after (n - 1) seed → rs ≡ shuffled n number
+pub IsMadeScript-from : (n seed number : ℕ) (cs rs : List ℕ) (g : Marks) (s : GridScript) → cs ≡ shuffled n seed
+    → number ≡ number_after (n - 1) seed → rs ≡ shuffled n number
     → IsGridThrough cs rs g → s.grid ≡ g → s.commands ≡ made_commands → IsMadeScript n seed s
 IsMadeScript-from n seed number cs rs g s in_cs goes_on in_rs through grid commands = record {
   grid = subst (λ h. IsGridThrough (shuffled n seed) (shuffled n (number_after (n - 1) seed)) h) (sym grid)
-      (subst (λ ys. IsGridThrough (shuffled n seed) ys g) (in_rs ∙ ap (shuffled n) goes_on) (subst (λ xs. IsGridThrough xs rs g) in_cs through));
+      (subst (λ ys. IsGridThrough (shuffled n seed) ys g) (in_rs ∙ ap (shuffled n) goes_on)
+      (subst (λ xs. IsGridThrough xs rs g) in_cs through));
   commands = commands;
 }
 
 -- the four commands are appended to the script of the grid
-pub four_commands : (g : Marks) (s p q r t : GridScript) → s ≡ record { grid = g; commands = [] } → p ≡ with_command s Front → q ≡ with_command p Hat → r ≡ with_command q (Class Plus) → t ≡ with_command r (Class Minus)
+pub four_commands : (g : Marks) (s p q r t : GridScript) → s ≡ record { grid = g; commands = [] }
+    → p ≡ with_command s Front → q ≡ with_command p Hat → r ≡ with_command q (Class Plus)
+    → t ≡ with_command r (Class Minus)
     → t ≡ record { grid = g; commands = made_commands }
 four_commands g s p q r t none first second third fourth =
-    fourth ∙ ap (λ u. with_command u (Class Minus)) (third ∙ ap (λ u. with_command u (Class Plus)) (second ∙ ap (λ u. with_command u Hat) (first ∙ ap (λ u. with_command u Front) none)))
+    fourth ∙ ap (λ u. with_command u (Class Minus))
+    (third ∙ ap (λ u. with_command u (Class Plus))
+    (second ∙ ap (λ u. with_command u Hat) (first ∙ ap (λ u. with_command u Front) none)))
 
 -- ---- each size and seed has a script
 IsBijection-exchanged : (n i s : ℕ) (xs : List ℕ) → i < n → IsBijection n xs → IsBijection n (exchanged i s xs)
@@ -230,13 +257,16 @@ IsBijection-exchanged n zero s xs l h = h
 IsBijection-exchanged n (suc i) s xs l h =
     let other = draw (next_number s) (suc (suc i)) in
     let below : other < suc (suc i) = omega arith in
-    IsBijection-exchanged n i (next_number s) (swap xs (suc i) other) (omega (arith, l)) (IsBijection-swap n xs (suc i) other l (omega (arith, below, l)) h)
+    IsBijection-exchanged n i (next_number s) (swap xs (suc i) other) (omega (arith, l))
+    (IsBijection-swap n xs (suc i) other l (omega (arith, below, l)) h)
 
 IsBijection-shuffled : (n s : ℕ) → IsSize n → IsBijection n (shuffled n s)
-IsBijection-shuffled n s size = let least = size.least in IsBijection-exchanged n (n - 1) s (ascending n) (omega (arith, least)) (IsBijection-ascending n)
+IsBijection-shuffled n s size = let least = size.least in
+    IsBijection-exchanged n (n - 1) s (ascending n) (omega (arith, least)) (IsBijection-ascending n)
 
 IsFilled-tabulate : (f : ℕ → ℕ) (n : ℕ) → n ≤ 9 → IsFilled 9 f n (tabulate 9 f)
-IsFilled-tabulate f n few = record { room = length-tabulate 9 f; filled = λ k l. get_or-tabulate 9 f k 0 (omega (arith, few, l)) }
+IsFilled-tabulate f n few =
+    record { room = length-tabulate 9 f; filled = λ k l. get_or-tabulate 9 f k 0 (omega (arith, few, l)) }
 
 pub exists_script : (n seed : ℕ) → IsSize n → (s : GridScript) × IsMadeScript n seed s × IsGrid s.grid
 exists_script n seed size =
@@ -253,6 +283,10 @@ exists_script n seed size =
     let in_x = IsFilled-tabulate fx n size.greatest in
     let grid : Marks = record { o = take n (tabulate 9 fo); x = take n (tabulate 9 fx) } in (
       record { grid = grid; commands = made_commands },
-      record { grid = IsGridThrough-put cs rs places (tabulate 9 fo) (tabulate 9 fx) n size in_cs in_rs in_places back in_o in_x; commands = refl },
+      record {
+        grid =
+            IsGridThrough-put cs rs places (tabulate 9 fo) (tabulate 9 fx) n size in_cs in_rs in_places back in_o in_x;
+        commands = refl;
+      },
       IsGrid-put cs rs places (tabulate 9 fo) (tabulate 9 fx) n size in_cs in_rs in_places back in_o in_x,
     )

@@ -6,7 +6,6 @@ pub mod ModeLemmas
 pub mod OptionLemmas
 pub mod WrittenLemmas
 pub mod HeadLemmas
-pub mod CertificateFacts
 pub mod CheckLemmas
 pub mod CertificateLemmas
 pub mod ChainLemmas

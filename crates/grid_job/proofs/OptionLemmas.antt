@@ -19,14 +19,22 @@ same_words w x b is e = elim (cases_Bool (bytes_eq w x)) [
 ]
 
 -- an option in two words
-pub two_words_at : (ws : List (List ℕ)) (long k : ℕ) (flag : Flag) (w f x bytes : List ℕ) (v low high : ℕ) → long ≡ length ws → k + 1 < long
-    → w ≡ word_at ws k → w ≡ f → f ≡ flag_word flag → x ≡ word_at ws (k + 1) → bytes ≡ x → bytes ≡ decimal v → low ≡ least flag → low ≤ v → high ≡ greatest flag → v ≤ high
+pub two_words_at : (ws : List (List ℕ)) (long k : ℕ) (flag : Flag) (w f x bytes : List ℕ) (v low high : ℕ)
+    → long ≡ length ws → k + 1 < long
+    → w ≡ word_at ws k → w ≡ f → f ≡ flag_word flag → x ≡ word_at ws (k + 1) → bytes ≡ x → bytes ≡ decimal v
+    → low ≡ least flag → low ≤ v → high ≡ greatest flag → v ≤ high
     → IsOptionAt ws k flag v (k + 2)
-two_words_at ws long k flag w f x bytes v low high counted within first is flag_is second told number low_is low_le high_is le_high = record {
-  low = omega (arith, low_is, low_le);
-  high = omega (arith, high_is, le_high);
-  words = inr (record { within = omega (arith, counted, within); first = sym first ∙ is ∙ flag_is; second = sym second ∙ sym told ∙ number; after = refl });
-}
+two_words_at ws long k flag w f x bytes v low high counted within first is flag_is second told number low_is low_le
+    high_is le_high = record {
+      low = omega (arith, low_is, low_le);
+      high = omega (arith, high_is, le_high);
+      words = inr (record {
+        within = omega (arith, counted, within);
+        first = sym first ∙ is ∙ flag_is;
+        second = sym second ∙ sym told ∙ number;
+        after = refl;
+      });
+    }
 
 -- ---- one value and one end
 small : (flag : Flag) (v : ℕ) → v ≤ greatest flag → v < 2 ^ 64
@@ -40,9 +48,11 @@ longer f w d long short =
     omega (arith, e, s, length-append (f ++ codes "=") d, length-append f (codes "="))
 
 module _ (ws : List (List ℕ)) (k : ℕ) (flag : Flag) (v u next other : ℕ) where
-  one_option : (v ≤ greatest flag) → (u ≤ greatest flag) → IsOneWord ws k flag v next ⊎ IsTwoWords ws k flag v next → IsOneWord ws k flag u other ⊎ IsTwoWords ws k flag u other → (v ≡ u) × (next ≡ other)
+  one_option : (v ≤ greatest flag) → (u ≤ greatest flag) → IsOneWord ws k flag v next ⊎ IsTwoWords ws k flag v next
+      → IsOneWord ws k flag u other ⊎ IsTwoWords ws k flag u other → (v ≡ u) × (next ≡ other)
   one_option lv lu (inl p) (inl q) = (
-    decimal_injective v u (small flag v lv) (small flag u lu) (append_cancel_left (flag_word flag ++ codes "=") (decimal v) (decimal u) (sym p.word ∙ q.word)),
+    decimal_injective v u (small flag v lv) (small flag u lu)
+        (append_cancel_left (flag_word flag ++ codes "=") (decimal v) (decimal u) (sym p.word ∙ q.word)),
     p.after ∙ sym q.after,
   )
   one_option lv lu (inl p) (inr q) = absurd (longer (flag_word flag) (word_at ws k) (decimal v) p.word q.first)
@@ -56,12 +66,14 @@ module _ (ws : List (List ℕ)) (k : ℕ) (flag : Flag) (v u next other : ℕ) w
   IsOptionAt-one p q = one_option p.high q.high p.words q.words
 
 -- the second option stands where the first ends
-pub second_option : (ws : List (List ℕ)) (f g : Flag) (a b c between : ℕ) → IsOptionAt ws 1 f c between → AreOptions ws f a g b → IsOptionAt ws between g b (length ws)
+pub second_option : (ws : List (List ℕ)) (f g : Flag) (a b c between : ℕ) → IsOptionAt ws 1 f c between
+    → AreOptions ws f a g b → IsOptionAt ws between g b (length ws)
 second_option ws f g a b c between first h =
     let ends = (IsOptionAt-one ws 1 f a c h.between between h.first first).1 in
     subst (λ n. IsOptionAt ws n g b (length ws)) ends h.second
 
-pub AreOptions-one : (ws : List (List ℕ)) (f g : Flag) (a b c d : ℕ) → AreOptions ws f a g b → AreOptions ws f c g d → (a ≡ c) × (b ≡ d)
+pub AreOptions-one : (ws : List (List ℕ)) (f g : Flag) (a b c d : ℕ) → AreOptions ws f a g b → AreOptions ws f c g d
+    → (a ≡ c) × (b ≡ d)
 AreOptions-one ws f g a b c d p q =
     let first = IsOptionAt-one ws 1 f a c p.between q.between p.first q.first in
     let second = second_option ws f g c d a p.between p.first q in
@@ -93,7 +105,8 @@ not_both ws a b c d p q =
 pub IsMake-one : (ws : List (List ℕ)) (n m s t : ℕ) → IsMake ws n s → IsMake ws m t → (n ≡ m) × (s ≡ t)
 IsMake-one ws n m s t p q = one p.options q.options
   where
-    one : AreOptions ws Size n Seed s ⊎ AreOptions ws Seed s Size n → AreOptions ws Size m Seed t ⊎ AreOptions ws Seed t Size m → (n ≡ m) × (s ≡ t)
+    one : AreOptions ws Size n Seed s ⊎ AreOptions ws Seed s Size n
+        → AreOptions ws Size m Seed t ⊎ AreOptions ws Seed t Size m → (n ≡ m) × (s ≡ t)
     one (inl a) (inl b) = AreOptions-one ws Size Seed n s m t a b
     one (inl a) (inr b) = absurd (not_both ws n s t m a b)
     one (inr a) (inl b) = absurd (not_both ws m t s n b a)

@@ -24,7 +24,9 @@ use Rattle.grid_job.specs.declared.modes.Mode.{Mode}
 use Rattle.grid_job.specs.declared.modes.Mode.TheVariants.{Run, Cert, Check, Make}
 use Rattle.grid_job.specs.declared.statuses.Status.{Status}
 use Rattle.grid_job.specs.declared.statuses.Status.TheVariants.{Done, Usage, Refused, ReadFault, WriteFault, NoMemory, No}
-use Rattle.grid_job.proofs.CertificateFacts.{one_certificate, some_answer, some_certificate}
+use Rattle.homology_cert.proofs.DecisionLemmas.{some_answer}
+use Rattle.homology_cert.proofs.MakingLaws.{exists_certificate}
+use Rattle.homology_cert.proofs.ReadLemmas.{one_certificate}
 use Rattle.grid_job.proofs.ChainLemmas.{HasStates-nothing}
 use Rattle.grid_job.proofs.HeadLemmas.{some_head}
 use Rattle.grid_job.proofs.MadeLemmas.{exists_made}
@@ -195,7 +197,7 @@ some_certified text = some_refusal Cert text (λ answer refusal. inl refusal) ce
         → SomeOutcome Cert text
     of_small_grid within s document small =
         let grid = (IsGridOf-grid_in_force s (is_script text s document)).grid in
-        let c = some_certificate (grid_in_force s) grid small in
+        let c = exists_certificate (grid_in_force s) grid small in
         let certified : IsCertificateText (grid_in_force s) (certificate_text c.0) =
         record { certificate = c.0; is_certificate = c.1; same_grid = c.2; passes = c.3; lines = refl; short = c.4 } in (
           Done,

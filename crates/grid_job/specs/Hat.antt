@@ -1,7 +1,8 @@
 -- The hat of a grid: the quotient of its table by one factor 1 + q^-1 t^-1 for each column beyond one per component,
 -- where a row (m, a, d) is the term d q^m t^a. A grid has at most one.
 --     hat_exponent g     the number of these factors
---     IsHat g hat        the rows are of positive ranks, in the order of tables, and their product with the factors is the
+--     IsHat g hat        the rows are of positive ranks, in the order of tables, and their product with the factors is
+--                        the
 --                        table of the grid
 --     IsHatText g text   the exponent and the rows of the hat; or that there is none, exactly where there is none
 use Rattle.std.specs.Prelude.{◌≡◌, ℕ, ◌-◌, List, map, Option, MatchOption}

@@ -3,7 +3,8 @@
 --     HasClassVerdict g sign alive   the class of x+ or x- has such a verdict
 --     verdict_word alive         the word of it
 --     summary_line tb rot total plus minus
---                                the numbers of the front, the sum of the ranks of the table, and the verdicts of x+ and x-
+--                                the numbers of the front, the sum of the ranks of the table, and the verdicts of x+
+--                                and x-
 --     IsSummary g text           the line of the grid g
 --     IsMade n seed answer       the plain form of the script of this size and seed, and the summary of its grid
 use Rattle.std.specs.Prelude.{◌≡◌, ℕ, ℤ, Bool, true, false, List, map, ◌++◌, codes, if◌then◌else◌}
@@ -50,7 +51,8 @@ pub record IsSummary (g : Marks) (text : List ℕ) : Type 0 where
   pub plus : HasClassVerdict g Plus alive_plus
   pub alive_minus : Bool
   pub minus : HasClassVerdict g Minus alive_minus
-  pub told : text ≡ summary_line (thurston_bennequin g) (rotation g) (sum_by (λ row. row.rank) rows) alive_plus alive_minus
+  pub told : text
+      ≡ summary_line (thurston_bennequin g) (rotation g) (sum_by (λ row. row.rank) rows) alive_plus alive_minus
 
 pub record IsMade (n seed : ℕ) (answer : List ℕ) : Type 0 where
   pub script : GridScript

@@ -2,7 +2,8 @@
 --     word_at ws k          the word at place k, from 0 on; no bytes where there is none
 --     flag_word flag        the word of an option
 --     least flag, greatest flag     the least and the greatest value of an option
---     IsOptionAt ws k flag v next   the option and its value v stand at the place k, in one word `FLAG=V` or in two words
+--     IsOptionAt ws k flag v next   the option and its value v stand at the place k, in one word `FLAG=V` or in two
+--                                   words
 --                           `FLAG` `V`, the value in decimal; the words after them begin at `next`
 --     AreOptions ws f a g b    the words after the first are the option f with the value a, and then g with b
 --     IsMake ws size seed   the words are `make` and its two options, in either order

@@ -10,7 +10,11 @@ use Rattle.grid_job.proofs.classes.class_lines.Goals as goal
 pub verdict-requires : goal.verdict-requires
 verdict-requires c =
     let is_class = c.in_ok-z.ensures ∙ ap single (c.rank.ensures.rank ∙ ap rank c.class_state-x.ensures) in
-    record { states = subst (HasStates c.args.g.now) (sym is_class) (HasStates-class_chain c.args.g.now c.size-n.ensures.grid c.args.sign) }
+    record {
+      states =
+          subst (HasStates c.args.g.now) (sym is_class)
+          (HasStates-class_chain c.args.g.now c.size-n.ensures.grid c.args.sign);
+    }
 
 pub unreachable-requires : goal.unreachable-requires
 unreachable-requires c =

@@ -12,4 +12,5 @@ loop-state-preserved c =
     ∙ ap (λ z. z ⊕ single c.rank.result) c.loop-state.invariant
     ∙ ap (λ r. of_codes (take c.loop-state.state-index (map rank items)) ⊕ single r) c.rank.ensures.rank
     ∙ states-next items c.loop-state.state-index c.state-item.result
-    (subst AreStates (sym c.states-state-items.ensures.states) c.states-state-items.ensures.ascending) c.loop-state-test.true c.state-item.is
+    (subst AreStates (sym c.states-state-items.ensures.states) c.states-state-items.ensures.ascending)
+    c.loop-state-test.true c.state-item.is

@@ -8,4 +8,8 @@ use Rattle.grid_job.proofs.in_force.follow.Goals as goal
 pub set-requires : goal.set-requires
 set-requires c =
     let g = c.args.p.now.grid in
-    record { states = subst (HasStates g) (sym c.in_ok-chain_of-in-Chain.ensures) (ranks-below g _ (subst (IsAllowed g) c.in-Chain.is c.requires).0) }
+    record {
+      states =
+          subst (HasStates g) (sym c.in_ok-chain_of-in-Chain.ensures)
+          (ranks-below g _ (subst (IsAllowed g) c.in-Chain.is c.requires).0);
+    }

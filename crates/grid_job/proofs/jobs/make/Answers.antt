@@ -9,4 +9,5 @@ use Rattle.grid_job.proofs.jobs.make.Goals as goal
 pub returns-in_default-clause-written : goal.returns-in_default-clause-written
 returns-in_default-clause-written g c =
     let made = exists_made c.args.n c.args.seed c.requires.size in
-    HasWritten-nothing (λ status answer. (status ≡ Done) × IsMade c.args.n c.args.seed answer) _ _ Done made.0 (refl, made.1)
+    HasWritten-nothing (λ status answer. (status ≡ Done) × IsMade c.args.n c.args.seed answer) _ _ Done made.0
+    (refl, made.1)

@@ -12,7 +12,11 @@ use Rattle.grid_job.proofs.made.is_alive.Goals as goal
 pub verdict-requires : goal.verdict-requires
 verdict-requires c =
     let is_class = c.in_ok-z.ensures ∙ ap single (c.rank.ensures.rank ∙ ap rank c.class_state-x.ensures) in
-    record { states = subst (HasStates c.args.g.now) (sym is_class) (HasStates-class_chain c.args.g.now c.size.ensures.grid c.args.sign) }
+    record {
+      states =
+          subst (HasStates c.args.g.now) (sym is_class)
+          (HasStates-class_chain c.args.g.now c.size.ensures.grid c.args.sign);
+    }
 
 pub unreachable-requires : goal.unreachable-requires
 unreachable-requires c =
@@ -24,9 +28,11 @@ unreachable-requires c =
 pub returns-in-Null : goal.returns-in-Null
 returns-in-Null c =
     let is_class = c.in_ok-z.ensures ∙ ap single (c.rank.ensures.rank ∙ ap rank c.class_state-x.ensures) in
-    HasClassVerdict-of c.args.g.now c.args.sign c.in_ok-z.z c.in_ok-verdict.field-0 (Null c.in-Null.bound) false is_class c.in-Null.is c.in_ok-verdict.ensures.verdict refl
+    HasClassVerdict-of c.args.g.now c.args.sign c.in_ok-z.z c.in_ok-verdict.field-0
+    (Null c.in-Null.bound) false is_class c.in-Null.is c.in_ok-verdict.ensures.verdict refl
 
 pub returns : goal.returns
 returns c =
     let is_class = c.in_ok-z.ensures ∙ ap single (c.rank.ensures.rank ∙ ap rank c.class_state-x.ensures) in
-    HasClassVerdict-of c.args.g.now c.args.sign c.in_ok-z.z c.in_ok-verdict.field-0 (Alive c.in-Alive.cocycle) true is_class c.in-Alive.is c.in_ok-verdict.ensures.verdict refl
+    HasClassVerdict-of c.args.g.now c.args.sign c.in_ok-z.z c.in_ok-verdict.field-0
+    (Alive c.in-Alive.cocycle) true is_class c.in-Alive.is c.in_ok-verdict.ensures.verdict refl

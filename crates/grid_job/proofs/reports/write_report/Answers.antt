@@ -9,8 +9,11 @@ pub answer_to-requires : goal.answer_to-requires
 answer_to-requires g c =
     let command = c.command-item in
     subst (IsAllowed c.loop-command.in_force.grid) (sym command.is)
-    (IsAllowed-next (at_start c.args.g.now) c.args.commands.now c.loop-command.command-index c.loop-command.in_force command.result _ _
-    c.size.ensures.grid (HasStates-nothing c.args.g.now) c.requires.allowed c.loop-command-test.true c.loop-command.invariant.0)
+    (IsAllowed-next
+    (at_start c.args.g.now) c.args.commands.now c.loop-command.command-index c.loop-command.in_force command.result _
+    _
+    c.size.ensures.grid
+    (HasStates-nothing c.args.g.now) c.requires.allowed c.loop-command-test.true c.loop-command.invariant.0)
 
 pub returns-in_err-text-clause-part : goal.returns-in_err-text-clause-part
 returns-in_err-text-clause-part g c =
@@ -21,17 +24,29 @@ pub returns-in_err-write_all-clause-part : goal.returns-in_err-write_all-clause-
 returns-in_err-write_all-clause-part g c =
     let command = c.command-item in
     let now = c.loop-command.in_force in
-    let answer = IsAnswer-same now now command.result _ c.in_ok-text.text.items c.deref.result.now refl command.is (sym c.deref.ensures.value) c.in_ok-text.ensures in
-    IsPast-prefix_of_next (at_start c.args.g.now) c.args.commands.now c.loop-command.command-index now command.result c.deref.result.now _ _ _
-    c.size.ensures.grid (HasStates-nothing c.args.g.now) c.requires.allowed c.loop-command-test.true answer c.loop-command.invariant.0 c.write_all.ensures.prefix
+    let answer =
+    IsAnswer-same now now command.result _ c.in_ok-text.text.items c.deref.result.now refl command.is
+    (sym c.deref.ensures.value) c.in_ok-text.ensures in
+    IsPast-prefix_of_next
+    (at_start c.args.g.now) c.args.commands.now c.loop-command.command-index now command.result c.deref.result.now _ _
+    _
+    c.size.ensures.grid
+    (HasStates-nothing c.args.g.now) c.requires.allowed c.loop-command-test.true answer c.loop-command.invariant.0
+    c.write_all.ensures.prefix
 
 pub loop-command-preserved : goal.loop-command-preserved
 loop-command-preserved g c =
     let command = c.command-item in
     let now = c.loop-command.in_force in
-    let answer = IsAnswer-same now now command.result _ c.in_ok-text.text.items c.deref.result.now refl command.is (sym c.deref.ensures.value) c.in_ok-text.ensures in (
-      IsPast-next (at_start c.args.g.now) c.args.commands.now c.loop-command.command-index now c.follow.new.p command.result c.deref.result.now _ _ _
-          c.loop-command-test.true answer (c.in_ok-follow.ensures.after ∙ ap (after now) command.is) c.loop-command.invariant.0 (c.in_ok-write_all.ensures.all),
+    let answer =
+    IsAnswer-same now now command.result _ c.in_ok-text.text.items c.deref.result.now refl command.is
+    (sym c.deref.ensures.value) c.in_ok-text.ensures in (
+      IsPast-next
+          (at_start c.args.g.now) c.args.commands.now c.loop-command.command-index now c.follow.new.p command.result
+          c.deref.result.now _ _ _
+          c.loop-command-test.true answer
+          (c.in_ok-follow.ensures.after ∙ ap (after now) command.is) c.loop-command.invariant.0
+          (c.in_ok-write_all.ensures.all),
       c.in_ok-write_all.ensures.no_fault ∙ c.loop-command.invariant.1,
     )
 
@@ -44,13 +59,22 @@ pub returns-in_err-follow-clause-part : goal.returns-in_err-follow-clause-part
 returns-in_err-follow-clause-part g c =
     let command = c.command-item in
     let now = c.loop-command.in_force in
-    let answer = IsAnswer-same now now command.result _ c.in_ok-text.text.items c.deref.result.now refl command.is (sym c.deref.ensures.value) c.in_ok-text.ensures in
-    IsPast-prefix_of_next (at_start c.args.g.now) c.args.commands.now c.loop-command.command-index now command.result c.deref.result.now _ _ _
-    c.size.ensures.grid (HasStates-nothing c.args.g.now) c.requires.allowed c.loop-command-test.true answer c.loop-command.invariant.0 c.write_all.ensures.prefix
+    let answer =
+    IsAnswer-same now now command.result _ c.in_ok-text.text.items c.deref.result.now refl command.is
+    (sym c.deref.ensures.value) c.in_ok-text.ensures in
+    IsPast-prefix_of_next
+    (at_start c.args.g.now) c.args.commands.now c.loop-command.command-index now command.result c.deref.result.now _ _
+    _
+    c.size.ensures.grid
+    (HasStates-nothing c.args.g.now) c.requires.allowed c.loop-command-test.true answer c.loop-command.invariant.0
+    c.write_all.ensures.prefix
 
 pub follow-requires : goal.follow-requires
 follow-requires g c =
     let command = c.command-item in
     subst (IsAllowed c.loop-command.in_force.grid) (sym command.is)
-    (IsAllowed-next (at_start c.args.g.now) c.args.commands.now c.loop-command.command-index c.loop-command.in_force command.result _ _
-    c.size.ensures.grid (HasStates-nothing c.args.g.now) c.requires.allowed c.loop-command-test.true c.loop-command.invariant.0)
+    (IsAllowed-next
+    (at_start c.args.g.now) c.args.commands.now c.loop-command.command-index c.loop-command.in_force command.result _
+    _
+    c.size.ensures.grid
+    (HasStates-nothing c.args.g.now) c.requires.allowed c.loop-command-test.true c.loop-command.invariant.0)

@@ -8,4 +8,7 @@ returns-in_default-clause-none c a b h = c.in_default.ensures.none a h.between h
 
 pub returns-in_default-option_at-clause-none : goal.returns-in_default-option_at-clause-none
 returns-in_default-option_at-clause-none c a b h =
-    c.in_default-option_at.ensures.none b _ (second_option (map (string_bytes {Z = Global}) c.args.words.now) c.args.first c.args.second a b c.in-Some.a c.in-Some.between c.in-Some.ensures.some h)
+    c.in_default-option_at.ensures.none b _
+    (second_option
+    (map (string_bytes {Z = Global}) c.args.words.now) c.args.first c.args.second a b c.in-Some.a c.in-Some.between
+    c.in-Some.ensures.some h)
