@@ -1,12 +1,12 @@
 #!/usr/bin/env python3
 """Writes the document of a grid for an arc presentation or a closed braid, to standard output.
 
-    python3 examples/grids.py arcs 0,3 1,4 2,0 3,1 4,2      for each page, from the left, the two levels that its arc joins
-    python3 examples/grids.py braid 1,-2,1,-2               letters: i, or -i for the inverse, by its lower strand
+    python3 examples/grids.py arcs 0,3 1,4 2,0 3,1 4,2   for each page, from the left, the levels that its arc joins
+    python3 examples/grids.py braid 1,-2,1,-2            letters: i, or -i for the inverse, by its lower strand
 
 The grid of an arc presentation with n pages has n columns. That of a braid is made smaller by destabilisations and
-commutations, chosen at random from a fixed seed, until none helps; the program takes at most nine columns. In the braid 1 the
-lower strand passes over the upper one as both run to the right, so that 1,1,1 is the left-handed trefoil.
+commutations, chosen at random from a fixed seed; the program takes at most nine columns. In the braid 1 the lower strand
+passes over the upper one as both run to the right, so that 1,1,1 is the left-handed trefoil.
 """
 import random
 import sys
