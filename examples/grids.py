@@ -5,8 +5,8 @@
     python3 examples/grids.py braid 1,-2,1,-2            letters: i, or -i for the inverse, by its lower strand
 
 The grid of an arc presentation with n pages has n columns. That of a braid is made smaller by destabilisations and
-commutations, chosen at random from a fixed seed; the program takes at most nine columns. In the braid 1 the lower strand
-passes over the upper one as both run to the right, so that 1,1,1 is the left-handed trefoil.
+commutations, chosen at random from a fixed seed; the program takes at most nine columns. In the braid 1 the lower
+strand passes over the upper one as both run to the right, so that 1,1,1 is the left-handed trefoil.
 """
 import random
 import sys

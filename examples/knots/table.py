@@ -15,11 +15,11 @@ HEAD = """# Knots
 
 What the program prints for the documents of [examples/knots](../examples/knots/). The page is written by
 [examples/knots/table.py](../examples/knots/table.py), and no line of it by hand. A row M A D of a hat is the term
-D q^M t^A here. The ranks are those of the hat knot Floer homology of the knot or link that the grid is a diagram of, with
-the vertical strands over, and the front is of the mirror image ([README](../README.md)). Each grid is of a closed braid,
-which the last column gives, or of its mirror image. All have alternating diagrams, so that the polynomial there and the
-signature give the hat. The hats in [examples/knots/knots.tsv](../examples/knots/knots.tsv) are computed from these and
-not by this program, and they are the same.
+D q^M t^A here. The ranks are those of the hat knot Floer homology of the knot or link that the grid is a diagram of,
+with the vertical strands over, and the front is of the mirror image ([README](../README.md)). Each grid is of the
+closed braid that the last column gives, or of its mirror image. All have alternating diagrams, so that the polynomial
+there and the signature give the hat. The hats in [examples/knots/knots.tsv](../examples/knots/knots.tsv) are computed
+from these and not by this program, and they are the same.
 
 | name | size, O, X | tb | rot | hat | total rank | x+ | x- | known from |
 |---|---|---|---|---|---|---|---|---|"""
