@@ -14,11 +14,12 @@ HERE = os.path.dirname(os.path.abspath(__file__))
 HEAD = """# Knots
 
 What the program prints for the documents of [examples/knots](../examples/knots/). The page is written by
-[examples/knots/table.py](../examples/knots/table.py), and no line of it by hand. A row M A D of a hat is the term D q^M t^A here;
-the ranks are those of the hat knot Floer homology of the knot or link that the grid is a diagram of, verticals over (README,
-"What it is, and what it is not"). The front is of the mirror image. The last column says from what the hat is known: all of these
-have alternating diagrams, for which the Alexander polynomial and the signature give the hat. The hats in
-[examples/knots/knots.tsv](../examples/knots/knots.tsv) are computed from these and not by this program, and they are the same.
+[examples/knots/table.py](../examples/knots/table.py), and no line of it by hand. A row M A D of a hat is the term
+D q^M t^A here. The ranks are those of the hat knot Floer homology of the knot or link that the grid is a diagram of,
+with the vertical strands over, and the front is of the mirror image ([README](../README.md)). Each grid is of the
+closed braid that the last column gives, or of its mirror image. All have alternating diagrams, so that the polynomial
+there and the signature give the hat. The hats in [examples/knots/knots.tsv](../examples/knots/knots.tsv) are computed
+from these and not by this program, and they are the same.
 
 | name | size, O, X | tb | rot | hat | total rank | x+ | x- | known from |
 |---|---|---|---|---|---|---|---|---|"""
