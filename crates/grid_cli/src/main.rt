@@ -1,5 +1,8 @@
 //! The program `gridhom`: standard input in, standard output out, and the status of the call as the
 //! exit status. Words that ask for nothing are told the usage on standard error.
+//!
+//! Example: `printf 'grid 2\nO 1 0\nX 0 1\nhat\nend\n' | gridhom run` prints `hat exponent 1 rows 1` and
+//! `rank 0 0 1`, with the status 0.
 #![tactic(auto)]
 
 mod answers;

@@ -11,7 +11,8 @@ use Rattle.homology_cert.specs.CertificateText.{certificate_text}
 use Rattle.homology_cert.specs.declared.verdicts.CertVerdict.TheVariants.{Yes}
 use Rattle.report_text.specs.Lines.{refused_line}
 use Rattle.grid_job.specs.Certified.{IsCertificateText}
-use Rattle.grid_job.specs.Checked.{max_certificate, yes_line}
+use Rattle.homology_cert.specs.CertificateLimits.{max_certificate}
+use Rattle.grid_job.specs.Checked.{yes_line}
 use Rattle.grid_job.specs.Outcome.{IsOutcome}
 use Rattle.grid_job.specs.Inner.Written.{HasWritten, IsAnswerOfGrid}
 use Rattle.grid_job.specs.declared.modes.Mode.TheVariants.{Cert, Check}

@@ -8,7 +8,7 @@ use Rattle.homology_cert.specs.declared.verdicts.CertVerdict.{CertVerdict}
 use Rattle.homology_cert.specs.declared.verdicts.CertVerdict.TheVariants.{Yes, No as Fails}
 use Rattle.homology_cert.proofs.CertifiedLemmas.{table_of_certificate}
 use Rattle.report_text.specs.Lines.{refused_line}
-use Rattle.grid_job.specs.Checked.{max_certificate}
+use Rattle.homology_cert.specs.CertificateLimits.{max_certificate}
 use Rattle.grid_job.specs.Outcome.{IsOutcome}
 use Rattle.grid_job.specs.Inner.Written.{HasWritten, TellsVerdict}
 use Rattle.grid_job.specs.declared.modes.Mode.TheVariants.{Check}

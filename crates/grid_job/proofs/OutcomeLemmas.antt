@@ -17,7 +17,8 @@ use Rattle.homology_cert.specs.declared.verdicts.CertTest.{CertTest}
 use Rattle.homology_cert.specs.declared.verdicts.CertVerdict.{CertVerdict}
 use Rattle.homology_cert.specs.declared.verdicts.CertVerdict.TheVariants as verdict
 use Rattle.grid_job.specs.Certified.{IsCertificateText, IsCertified, IsTooLarge}
-use Rattle.grid_job.specs.Checked.{max_certificate, IsPassed, IsFailed, IsNoCertificate}
+use Rattle.homology_cert.specs.CertificateLimits.{max_certificate}
+use Rattle.grid_job.specs.Checked.{IsPassed, IsFailed, IsNoCertificate}
 use Rattle.grid_job.specs.InForce.{at_start}
 use Rattle.grid_job.specs.Outcome.{IsForm, IsTooLong, IsRefusal, IsReported, IsOutcome}
 use Rattle.grid_job.specs.declared.modes.Mode.{Mode}

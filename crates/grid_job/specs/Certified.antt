@@ -11,12 +11,12 @@ use Rattle.grid_text.specs.Document.{IsDocument, IsHeadLine}
 use Rattle.grid_text.specs.Limits.{max_text}
 use Rattle.grid_text.specs.Script.{GridScript, grid_in_force}
 use Rattle.grid_text.specs.Words.{words_of_lines}
+use Rattle.homology_cert.specs.CertificateLimits.{max_certified_size, max_certificate}
 use Rattle.homology_cert.specs.Certificates.{Certificate, IsCertificate}
 use Rattle.homology_cert.specs.CertificateTests.{verdict_of}
 use Rattle.homology_cert.specs.CertificateText.{certificate_text}
 use Rattle.homology_cert.specs.declared.verdicts.CertVerdict.TheVariants.{Yes}
 use Rattle.report_text.specs.Lines.{refused_line}
-use Rattle.grid_job.specs.Checked.{max_certificate}
 
 pub record IsCertificateText (g : Marks) (text : List ℕ) : Type 0 where
   pub certificate : Certificate
@@ -30,14 +30,14 @@ pub record IsCertified (text answer : List ℕ) : Type 0 where
   pub within : length text ≤ max_text
   pub script : GridScript
   pub document : IsDocument text script
-  pub small : size (grid_in_force script) ≤ 6
+  pub small : size (grid_in_force script) ≤ max_certified_size
   pub certified : IsCertificateText (grid_in_force script) answer
 
 pub record IsTooLarge (text answer : List ℕ) : Type 0 where
   pub within : length text ≤ max_text
   pub script : GridScript
   pub document : IsDocument text script
-  pub large : 6 < size (grid_in_force script)
+  pub large : max_certified_size < size (grid_in_force script)
   pub number : ℕ
   pub head : IsHeadLine (words_of_lines text) number
   pub told : answer ≡ refused_line (codes "TooLarge") number

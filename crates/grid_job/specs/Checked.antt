@@ -1,5 +1,4 @@
 -- What `check` answers to a text.
---     max_certificate         the greatest number of bytes of a text that is read as a certificate
 --     test_word test          the word of a test
 --     yes_line                the line of a certificate that passes
 --     no_line entry test      the line of one that fails: the number of its first entry that does not pass, and the
@@ -11,6 +10,7 @@
 --                             the text is that of no certificate, and the answer tells its first bad line
 use Rattle.std.specs.Prelude.{◌≡◌, ℕ, ◌≤◌, List, ◌∷◌, ◌++◌, length, codes}
 use Rattle.std.specs.Fmt.{decimal}
+use Rattle.homology_cert.specs.CertificateLimits.{max_certificate}
 use Rattle.homology_cert.specs.Certificates.{Certificate, IsCertificate}
 use Rattle.homology_cert.specs.CertificateTests.{verdict_of}
 use Rattle.homology_cert.specs.CertificateText.{certificate_text, IsFirstBadLine}
@@ -18,9 +18,6 @@ use Rattle.homology_cert.specs.declared.verdicts.CertTest.{CertTest}
 use Rattle.homology_cert.specs.declared.verdicts.CertTest.TheVariants.{Count, Degree, Cycle, Cocycle, Pairing, Probe, Missing}
 use Rattle.homology_cert.specs.declared.verdicts.CertVerdict.TheVariants.{Yes, No}
 use Rattle.report_text.specs.Lines.{line, refused_line}
-
-abbrev pub max_certificate : ℕ
-max_certificate = 16777216
 
 abbrev pub test_word : CertTest → List ℕ
 test_word Count = codes "count"

@@ -27,7 +27,8 @@ use Rattle.grid_text.specs.declared.faults.TextFault.{TextFault}
 use Rattle.grid_text.specs.Limits.{max_text}
 use Rattle.report_text.specs.Lines.{refused_line}
 use Rattle.grid_job.specs.Certified.{IsCertified, IsTooLarge}
-use Rattle.grid_job.specs.Checked.{max_certificate, IsPassed, IsFailed, IsNoCertificate}
+use Rattle.homology_cert.specs.CertificateLimits.{max_certificate}
+use Rattle.grid_job.specs.Checked.{IsPassed, IsFailed, IsNoCertificate}
 use Rattle.grid_job.specs.Made.{IsMade}
 use Rattle.grid_job.specs.Report.{IsReport}
 use Rattle.grid_job.specs.Words.{IsMake}

@@ -3,6 +3,7 @@ ghost use Rattle.std.specs.Prelude.{◌≡◌, ◌≢◌, ◌+◌, ◌≤◌, So
 ghost use Rattle.grid_ports.specs.Faults.{count_up};
 ghost use Rattle.grid_text.specs.Limits.{max_text};
 ghost use Rattle.torus_geom.specs.Marks.{size};
+ghost use Rattle.homology_cert.specs.CertificateLimits.{max_certified_size};
 ghost use Rattle.grid_job.specs.Certified.{IsCertificateText};
 ghost use Rattle.grid_job.specs.Outcome.{IsOutcome, IsEnd};
 ghost use Rattle.grid_job.specs.Inner.Written.{HasWritten, Tells, IsAnswerOfGrid};
@@ -66,7 +67,7 @@ fn certify_script<K: Sink>(alloc: Global, judged: &Judged, out: &mut K) -> Statu
 
 // Writes a certificate of a grid.
 fn write_certificate<K: Sink>(alloc: Global, g: &Grid, out: &mut K) -> Status
-    requires { size g.now ≤ 6 }
+    requires { size g.now ≤ max_certified_size }
     ensures { HasWritten
         (λ status answer. (status ≡ Status.Done) × IsCertificateText g.now answer) result
         (K.faults out.old) (K.faults out.new) (K.written out.old) (K.written out.new) }
@@ -83,7 +84,7 @@ fn write_certificate<K: Sink>(alloc: Global, g: &Grid, out: &mut K) -> Status
 
 // The text of a certificate of a grid.
 fn certificate_text(alloc: Global, g: &Grid) -> Result<Vec<u8>, NoMemory>
-    requires { size g.now ≤ 6 }
+    requires { size g.now ≤ max_certified_size }
     ensures { IfOk result (λ text. IsCertificateText g.now text.items) }
 {
     let certificate = make_cert(alloc, g)?;

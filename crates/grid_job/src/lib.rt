@@ -6,6 +6,9 @@
 //! Stands on `grid_ports`, on `grid_text`, which judges texts, on `front_data`, `rectangles`, `homology_cert`,
 //! `hat_division` and `legendrian_class`, which answer the commands, and on `report_text`, which prints their
 //! answers. `homology_cert` makes, reads and checks certificates too.
+//!
+//! Example: the word `run` and the lines `grid 2`, `O 1 0`, `X 0 1`, `hat` and `end` write the lines
+//! `hat exponent 1 rows 1` and `rank 0 0 1`, and the answer is `Done`.
 #![tactic(auto)]
 
 mod certificates;

@@ -26,6 +26,7 @@ use Rattle.f2_algebra.specs.Certificate.{CyclePair, StepPair, CertCell}
 use Rattle.state_rank.specs.States.{factorial}
 use Rattle.torus_geom.specs.Marks.{Marks, size, IsGrid}
 use Rattle.gradings.specs.Degrees.{IsSmallDegree}
+use Rattle.homology_cert.specs.CertificateLimits.{max_certified_size}
 
 abbrev pub Cell : Type 0
 Cell = CertCell (ℤ × ℤ)
@@ -86,7 +87,7 @@ entry_count cells = sum_by (λ c. 1 + length c.cycles + length c.steps) cells
 
 pub record IsCertificate (c : Certificate) : Type 0 where
   pub grid : IsGrid c.grid
-  pub small : size c.grid ≤ 6
+  pub small : size c.grid ≤ max_certified_size
   pub ordered : AllPairs (λ p q. IsTrue (comes_first p q)) c.cells
   pub degrees : All (λ (cell : Cell). HasSmallDegrees cell.at) c.cells
   pub states : All (HasPairStates c.grid) c.cells

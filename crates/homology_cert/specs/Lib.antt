@@ -1,4 +1,5 @@
 pub mod Tables
+pub mod CertificateLimits
 pub mod Certificates
 pub mod CertificateTests
 pub mod CertificateText

@@ -7,6 +7,7 @@ ghost use Rattle.cancel.specs.Logs.{log_of};
 ghost use Rattle.state_rank.specs.States.{factorial};
 ghost use Rattle.torus_geom.specs.GridComplex.{grid_complex};
 ghost use Rattle.torus_geom.specs.Marks.{Marks, size, IsGrid};
+ghost use Rattle.homology_cert.specs.CertificateLimits.{max_certified_size, max_certificate};
 ghost use Rattle.homology_cert.specs.Certificates.{Certificate, IsCertificate};
 ghost use Rattle.homology_cert.specs.CertificateTests.{has_degree as has_degree_of, verdict_of};
 ghost use Rattle.homology_cert.specs.CertificateText.{certificate_text};
@@ -35,14 +36,14 @@ use torus_geom::Grid;
 ///
 /// `NoMemory` if the allocator refuses.
 pub fn make_cert(alloc: Global, g: &Grid) -> Result<Cert, NoMemory>
-    requires { size g.now ≤ 6 }
+    requires { size g.now ≤ max_certified_size }
     ensures grid { IfOk result (λ c. c.grid ≡ g.now) }
     ensures passes { IfOk result (λ c. verdict_of c ≡ CertVerdict.Yes) }
-    ensures short { IfOk result (λ c. length (certificate_text c) < 16777216) }
+    ensures short { IfOk result (λ c. length (certificate_text c) < max_certificate) }
 
     // Whatever the call answers: each grid of this size has a certificate that passes.
-    ensures some_certificate { (h : Marks) → IsGrid h → size h ≤ 6 → (c : Certificate) × IsCertificate c
-        × (c.grid ≡ h) × (verdict_of c ≡ CertVerdict.Yes) × (length (certificate_text c) < 16777216) }
+    ensures some_certificate { (h : Marks) → IsGrid h → size h ≤ max_certified_size → (c : Certificate) × IsCertificate c
+        × (c.grid ≡ h) × (verdict_of c ≡ CertVerdict.Yes) × (length (certificate_text c) < max_certificate) }
 {
     let _size = g.size();
     certificate_of(alloc, g)
@@ -50,10 +51,10 @@ pub fn make_cert(alloc: Global, g: &Grid) -> Result<Cert, NoMemory>
 
 // A certificate of the table of the grid.
 fn certificate_of(alloc: Global, g: &Grid) -> Result<Cert, NoMemory>
-    requires { size g.now ≤ 6 }
+    requires { size g.now ≤ max_certified_size }
     ensures grid { IfOk result (λ c. c.grid ≡ g.now) }
     ensures passes { IfOk result (λ c. verdict_of c ≡ CertVerdict.Yes) }
-    ensures short { IfOk result (λ c. length (certificate_text c) < 16777216) }
+    ensures short { IfOk result (λ c. length (certificate_text c) < max_certificate) }
 {
     let _size = g.size();
     let cells = cells_of(alloc, g)?;

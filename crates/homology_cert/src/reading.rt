@@ -6,6 +6,7 @@ ghost use Rattle.state_rank.specs.Bijection.{IsSize, IsBijection};
 ghost use Rattle.state_rank.specs.States.{factorial, unrank, state_word};
 ghost use Rattle.gradings.specs.Degrees.{IsSmallDegree};
 ghost use Rattle.torus_geom.specs.Marks.{Marks, size, IsGrid};
+ghost use Rattle.homology_cert.specs.CertificateLimits.{max_certificate};
 ghost use Rattle.homology_cert.specs.Certificates.{Cell, Certificate, IsCertificate, HasSmallDegrees, AreStates, comes_first as comes_first_of};
 ghost use Rattle.homology_cert.specs.CertificateText.{set_line, marks_line, degree_line, certificate_text, IsFirstBadLine};
 ghost use Rattle.homology_cert.specs.Inner.Reading.{size_line, IsSmallSize, LeadsTo, IsAt, spaced, new_cell, with_cycle, with_step, IsFree};
@@ -80,7 +81,7 @@ impl From<AllocError> for CertEnd {
 ///
 /// `BadLine` if the text is that of no certificate; `NoMemory` if the allocator refuses.
 pub fn read_cert(alloc: Global, text: &[u8]) -> Result<Cert, CertEnd>
-    requires { length text.now ≤ 16777216 }
+    requires { length text.now ≤ max_certificate }
     ensures read { IfOk result (λ c. text.now ≡ certificate_text c) }
     ensures refused { (line : ℕ) → result ≡ Err (CertEnd.BadLine line) → IsFirstBadLine text.now line }
 
@@ -93,7 +94,7 @@ pub fn read_cert(alloc: Global, text: &[u8]) -> Result<Cert, CertEnd>
         → certificate_text c ≡ certificate_text d → c ≡ d }
 
     // Whatever the call answers: each text is that of a certificate, or has a first bad line, and only one.
-    ensures some_answer { (t : List ℕ) → length t ≤ 16777216
+    ensures some_answer { (t : List ℕ) → length t ≤ max_certificate
         → ((c : Certificate) × IsCertificate c × (t ≡ certificate_text c)) ⊎ ((line : ℕ) × IsFirstBadLine t line) }
     ensures one_line { (t : List ℕ) (k l : ℕ) → IsFirstBadLine t k → IsFirstBadLine t l → k ≡ l }
 {
@@ -102,7 +103,7 @@ pub fn read_cert(alloc: Global, text: &[u8]) -> Result<Cert, CertEnd>
 
 // The certificate with this text.
 fn cert_of(alloc: Global, text: &[u8]) -> Result<Cert, CertEnd>
-    requires { length text.now ≤ 16777216 }
+    requires { length text.now ≤ max_certificate }
     ensures certificate { IfOk result (λ c. IsCertificate c) }
     ensures read { IfOk result (λ c. text.now ≡ certificate_text c) }
     ensures refused { (line : ℕ) → result ≡ Err (CertEnd.BadLine line) → IsFirstBadLine text.now line }

@@ -13,6 +13,7 @@ use Rattle.grid_ports.specs.Bytes.{AppendsPrefix}
 use Rattle.grid_ports.specs.Faults.{count_up}
 use Rattle.torus_geom.specs.Marks.{size}
 use Rattle.grid_text.specs.Script.{GridScript, grid_in_force}
+use Rattle.homology_cert.specs.CertificateLimits.{max_certified_size}
 use Rattle.homology_cert.specs.declared.verdicts.CertVerdict.{CertVerdict}
 use Rattle.homology_cert.specs.declared.verdicts.CertVerdict.TheVariants as verdict
 use Rattle.report_text.specs.Lines.{refused_line}
@@ -42,5 +43,5 @@ TellsVerdict (verdict.No entry test) status answer = (status ≡ No) × (answer 
 
 abbrev pub IsAnswerOfGrid : GridScript → ℕ → Status → List ℕ → Type 0
 IsAnswerOfGrid s number status answer =
-    ((status ≡ Done) × (size (grid_in_force s) ≤ 6) × IsCertificateText (grid_in_force s) answer)
-    ⊎ ((status ≡ Refused) × (6 < size (grid_in_force s)) × (answer ≡ refused_line (codes "TooLarge") number))
+    ((status ≡ Done) × (size (grid_in_force s) ≤ max_certified_size) × IsCertificateText (grid_in_force s) answer)
+    ⊎ ((status ≡ Refused) × (max_certified_size < size (grid_in_force s)) × (answer ≡ refused_line (codes "TooLarge") number))

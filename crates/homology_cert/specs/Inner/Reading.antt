@@ -22,6 +22,7 @@ use Rattle.std.specs.Fmt.{decimal}
 use Rattle.f2_algebra.specs.Chain.{Chain}
 use Rattle.state_rank.specs.Bijection.{IsSize, IsBijection}
 use Rattle.torus_geom.specs.Marks.{Marks, size, IsGrid}
+use Rattle.homology_cert.specs.CertificateLimits.{max_certified_size}
 use Rattle.homology_cert.specs.Certificates.{Cell, comes_first, HasSmallDegrees, AreStates, HasPairStates}
 use Rattle.homology_cert.specs.CertificateText.{set_line, marks_line, degree_line, cell_lines, head_lines, text_of_lines}
 pub use Rattle.homology_cert.specs.Inner.Cells.{new_cell, with_cycle, with_step}
@@ -36,11 +37,11 @@ spaced rows = flat_map (λ r. 32 ∷ (48 + r) ∷ []) rows
 
 pub record IsSmallSize (n : ℕ) : Type 0 where
   pub size : IsSize n
-  pub small : n ≤ 6
+  pub small : n ≤ max_certified_size
 
 pub record IsSmallGrid (g : Marks) : Type 0 where
   pub grid : IsGrid g
-  pub small : size g ≤ 6
+  pub small : size g ≤ max_certified_size
 
 abbrev pub LeadsTo : Place → List Cell → List ℕ → Place → List Cell → Type 0
 LeadsTo Start ds line q es = (line ≡ codes "gridcert 1") × (q ≡ Size) × (es ≡ ds)

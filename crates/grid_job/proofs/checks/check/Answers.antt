@@ -1,5 +1,5 @@
 use Rattle.std.proofs.Common.{◌≤◌, length, ap, Err, arith, inl}
-use Rattle.grid_job.specs.Checked.{max_certificate}
+use Rattle.homology_cert.specs.CertificateLimits.{max_certificate}
 use Rattle.grid_job.specs.Outcome.{IsOutcome}
 use Rattle.grid_job.specs.declared.modes.Mode.TheVariants.{Check}
 use Rattle.grid_job.proofs.OutcomeLemmas.{some_checked}
