@@ -6,9 +6,9 @@
 --     steps_after p done log   the step pairs of the entries of a log whose x passes the test, after the entries done
 --     key_of d                 the bidegree with its Alexander degree first
 --     HasState g d             some state has the bidegree d
---     HasBidegrees g n degrees the set has the bidegrees of the states with a rank below n, the Alexander degree first, and
+-- HasBidegrees g n degrees the set has the bidegrees of the states with a rank below n, the Alexander degree first, and
 --                              no other
---     IsMade g cell            some state has the bidegree of the cell, and its pairs come from a log of the slice at its
+-- IsMade g cell            some state has the bidegree of the cell, and its pairs come from a log of the slice at its
 --                              Alexander degree that leaves no arrow
 --     AreMade g cells          the cells are made so and stand in order, and none is missing
 use Rattle.std.specs.Prelude.{◌≡◌, ℕ, ◌<◌, ℤ, Bool, true, false, cond, List, [], ◌∷◌, ◌++◌, map, IsTrue}
@@ -59,7 +59,8 @@ key_of d = (d.1, d.0)
 
 pub record HasBidegrees (g : Marks) (n : ℕ) (degrees : BTreeSet (ℤ × ℤ)) : Type 0 where
   pub found : (s : ℕ) → s < n → sorted.contains degree_cmp degrees (key_of (bidegree g (unrank (size g) s))) ≡ true
-  pub of_states : (q : ℤ × ℤ) → sorted.contains degree_cmp degrees q ≡ true → (s : ℕ) × (s < n) × (key_of (bidegree g (unrank (size g) s)) ≡ q)
+  pub of_states : (q : ℤ × ℤ) → sorted.contains degree_cmp degrees q ≡ true
+      → (s : ℕ) × (s < n) × (key_of (bidegree g (unrank (size g) s)) ≡ q)
 
 pub record IsMade (g : Marks) (cell : Cell) : Type 0 where
   pub state : ℕ

@@ -20,7 +20,8 @@ cell_at-requires c =
     let fits_a : SFits w32 c.in-Some.degree.now.0 = search rules in
     let keys = c.into_iter-degree-iterator.ensures.into_iter_gives ∙ c.iter-degree-items.ensures.rest in
     let inside = ahead (keys_of c.loop-degree.cells.items) c.next.new.self c.in_ok-degrees.degrees.keys q
-    (ap (λ ks. keys_of c.loop-degree.cells.items ++ ks) (sym c.in-Some.ensures.steps) ∙ c.loop-degree.invariant.keys ∙ keys) in
+    (ap (λ ks. keys_of c.loop-degree.cells.items ++ ks) (sym c.in-Some.ensures.steps) ∙ c.loop-degree.invariant.keys
+    ∙ keys) in
     subst (HasState c.args.g.now) (λ i. (sym (to_z-of_z w32 q.1 fits_m) i, sym (to_z-of_z w32 q.0 fits_a) i))
     (state_of-key c.args.g.now c.in_ok-degrees.degrees c.in_ok-degrees.ensures q inside)
 
@@ -30,9 +31,12 @@ loop-degree-preserved c =
     let fits_m : SFits w32 c.in-Some.degree.now.1 = search rules in
     let fits_a : SFits w32 c.in-Some.degree.now.0 = search rules in
     record {
-      made = made-pushed c.args.g.now c.loop-degree.cells.items c.push.new.self.items c.in_ok-cell.cell c.loop-degree.invariant.made c.in_ok-push.ensures.items c.in_ok-cell.ensures.0;
-      keys = keys-pushed c.loop-degree.cells.items c.push.new.self.items c.in_ok-cell.cell c.next.new.self c.into_iter-degree-iterator.result q
-          (ap (λ ks. keys_of c.loop-degree.cells.items ++ ks) (sym c.in-Some.ensures.steps) ∙ c.loop-degree.invariant.keys)
+      made = made-pushed c.args.g.now c.loop-degree.cells.items c.push.new.self.items c.in_ok-cell.cell
+          c.loop-degree.invariant.made c.in_ok-push.ensures.items c.in_ok-cell.ensures.0;
+      keys = keys-pushed c.loop-degree.cells.items c.push.new.self.items c.in_ok-cell.cell c.next.new.self
+          c.into_iter-degree-iterator.result q
+          (ap (λ ks. keys_of c.loop-degree.cells.items ++ ks) (sym c.in-Some.ensures.steps)
+          ∙ c.loop-degree.invariant.keys)
           c.in_ok-push.ensures.items
           (ap key_of c.in_ok-cell.ensures.1 ∙ (λ i. (to_z-of_z w32 q.0 fits_a i, to_z-of_z w32 q.1 fits_m i)));
     }
@@ -41,6 +45,8 @@ pub returns : goal.returns
 returns c =
     let cells = c.loop-degree.cells.items in
     let keys = c.into_iter-degree-iterator.ensures.into_iter_gives ∙ c.iter-degree-items.ensures.rest in
-    made-reversed c.args.g.now c.in_ok-degrees.degrees cells c.reverse.new.self.items c.in_ok-degrees.ensures c.iter-degree-items.ensures.ordered
-    (sym (append-nil (keys_of cells)) ∙ ap (λ ks. keys_of cells ++ ks) (sym c.in-None.ensures.steps.0) ∙ c.loop-degree.invariant.keys ∙ keys)
+    made-reversed c.args.g.now c.in_ok-degrees.degrees cells c.reverse.new.self.items c.in_ok-degrees.ensures
+    c.iter-degree-items.ensures.ordered
+    (sym (append-nil (keys_of cells)) ∙ ap (λ ks. keys_of cells ++ ks) (sym c.in-None.ensures.steps.0)
+    ∙ c.loop-degree.invariant.keys ∙ keys)
     c.loop-degree.invariant.made c.reverse.ensures.items

@@ -8,11 +8,14 @@ use Rattle.homology_cert.proofs.MakingLaws.{made_certificate, made_short}
 use Rattle.homology_cert.proofs.making.certificate_of.Goals as goal
 
 pub of-requires : goal.of-requires
-of-requires c = made_certificate c.args.g.now c.size-size.ensures.grid c.requires c.in_ok-cells.cells.items c.in_ok-cells.ensures
+of-requires c = made_certificate c.args.g.now c.size-size.ensures.grid c.requires c.in_ok-cells.cells.items
+    c.in_ok-cells.ensures
 
 pub returns-clause-passes : goal.returns-clause-passes
-returns-clause-passes c = ap verdict_of c.of.ensures ∙ made_passes c.args.g.now c.size-size.ensures.grid c.in_ok-cells.cells.items c.in_ok-cells.ensures
+returns-clause-passes c = ap verdict_of c.of.ensures
+    ∙ made_passes c.args.g.now c.size-size.ensures.grid c.in_ok-cells.cells.items c.in_ok-cells.ensures
 
 pub returns-clause-short : goal.returns-clause-short
 returns-clause-short c =
-    subst (λ (d : Certificate). length (certificate_text d) < 16777216) (sym c.of.ensures) (made_short c.args.g.now c.size-size.ensures.grid c.requires c.in_ok-cells.cells.items c.in_ok-cells.ensures)
+    subst (λ (d : Certificate). length (certificate_text d) < 16777216) (sym c.of.ensures)
+    (made_short c.args.g.now c.size-size.ensures.grid c.requires c.in_ok-cells.cells.items c.in_ok-cells.ensures)
