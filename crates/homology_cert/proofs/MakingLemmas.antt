@@ -67,21 +67,22 @@ cycles-kept f p n old so_far fails =
 
 -- ---- step pairs
 module _ (p : ℕ → Bool) (entries : List LogEntry) where
+  -- the log of the entries
   abbrev log : List Entry
   log = log_of entries
 
   -- the steps from an entry on
   steps-from : (k : ℕ) (d : LogEntry) → k < length entries
-      → steps_after p (take k log) (drop k log)
-      ≡ cond (p (get_or entries k d).x) (step_pair (take k log) (entry_of (get_or entries k d)) ∷ []) []
-      ++ steps_after p (take (k + 1) log) (drop (k + 1) log)
+      → steps_after p (take k log) (drop k log) ≡ cond (p (get_or entries k d).x)
+      (step_pair (take k log) (entry_of (get_or entries k d)) ∷ []) [] ++ steps_after p (take (k + 1) log)
+      (drop (k + 1) log)
   steps-from k d within =
       let long : k < length log = omega (arith, within, length-map entries entry_of) in
       let here : get_or log k (entry_of d) ≡ entry_of (get_or entries k d) =
       get_or-map entry_of entries k d (entry_of d) within in
       ap (steps_after p (take k log)) (drop_more log k (entry_of d) long ∙ ap (λ e. e ∷ drop (k + 1) log) here)
-      ∙ ap (λ done. cond (p (get_or entries k d).x) (step_pair (take k log) (entry_of (get_or entries k d)) ∷ []) []
-      ++ steps_after p done (drop (k + 1) log))
+      ∙ ap (λ done. cond (p (get_or entries k d).x) (step_pair (take k log) (entry_of (get_or entries k d)) ∷ []) [] ++
+      steps_after p done (drop (k + 1) log))
       (sym (take_more log k (entry_of d) long ∙ ap (λ e. take k log ++ e ∷ []) here))
 
   -- an entry whose x passes gives one more pair
@@ -96,57 +97,54 @@ module _ (p : ℕ → Bool) (entries : List LogEntry) where
       (pushed ∙ ap (λ (q : StepPair). old ++ q ∷ []) (λ i. record { step = z_is i; probe = w_is i }))
       ∙ append_assoc old (step_pair (take k log) (entry_of (get_or entries k d)) ∷ [])
       (steps_after p (take (k + 1) log) (drop (k + 1) log))
-      ∙ sym (ap (λ xs. old ++ xs) (steps-from k d within ∙ ap
-      (λ b. cond b (step_pair (take k log) (entry_of (get_or entries k d)) ∷ []) []
-      ++ steps_after p (take (k + 1) log) (drop (k + 1) log)) passes))
+      ∙ sym (ap (λ xs. old ++ xs) (steps-from k d within
+      ∙ ap (λ b. cond b (step_pair (take k log) (entry_of (get_or entries k d)) ∷ []) [] ++ steps_after p
+      (take (k + 1) log) (drop (k + 1) log)) passes))
       ∙ so_far
 
   -- another gives none
   pub steps-kept : (k : ℕ) (d : LogEntry) (old : List StepPair) → k < length entries
       → old ++ steps_after p (take k log) (drop k log) ≡ steps_after p [] log
-      → p (get_or entries k d).x ≡ false
-      → old ++ steps_after p (take (k + 1) log) (drop (k + 1) log) ≡ steps_after p [] log
+      → p (get_or entries k d).x ≡ false → old ++ steps_after p (take (k + 1) log) (drop (k + 1) log) ≡ steps_after p []
+      log
   steps-kept k d old within so_far fails =
       sym (ap (λ xs. old ++ xs) (steps-from k d within ∙ ap
-      (λ b. cond b (step_pair (take k log) (entry_of (get_or entries k d)) ∷ []) []
-      ++ steps_after p (take (k + 1) log) (drop (k + 1) log)) fails))
+      (λ b. cond b (step_pair (take k log) (entry_of (get_or entries k d)) ∷ []) [] ++ steps_after p
+      (take (k + 1) log) (drop (k + 1) log)) fails))
       ∙ so_far
 
 -- the sources of a log are cells of the first complex
 sources-live : {G : Type 0} (C : Complex G) → IsComplex C → (entries : List LogEntry) → IsLog C (log_of entries)
     → (k : ℕ) (d : LogEntry) → k < length entries → is_some (C.degree (get_or entries k d).x) ≡ true
 sources-live C laws [] stands k d within = absurd (omega (arith, within))
-sources-live C laws (e ∷ entries) stands zero d within = let (m, above, below) = laws.lowers e.x e.y stands.0.arrows in
-    ap is_some above
+sources-live C laws (e ∷ entries) stands zero d within = let (m, above, below) =
+    laws.lowers e.x e.y stands.0.arrows in ap is_some above
 sources-live C laws (e ∷ entries) stands (suc k) d within =
-    let later =
-    sources-live (cancelled C e.x e.y) (cancelled_IsComplex C laws (entry_of e) stands.0) entries stands.1 k d
-    (omega (arith, within)) in
+    let later = sources-live (cancelled C e.x e.y) (cancelled_IsComplex C laws (entry_of e) stands.0) entries stands.1 k
+    d (omega (arith, within)) in
     sym (ap is_some (live_below C laws (entry_of e) stands.0 (get_or entries k d).x later)) ∙ later
 
 -- so they are ranks of states
 pub sources-below : (g : Marks) → IsGrid g → (a : ℤ) (entries : List LogEntry) → IsLog (slice_of g a) (log_of entries)
     → (k : ℕ) (d : LogEntry) → k < length entries → (get_or entries k d).x < factorial (size g)
 sources-below g grid a entries stands k d within =
-    slice-below g a (get_or entries k d).x
-    (sources-live (slice_of g a) (at_second_IsComplex a (grid_complex g) refl
-    (grid_complex_rules g grid)) entries stands k d within)
+    slice-below g a (get_or entries k d).x (sources-live (slice_of g a)
+    (at_second_IsComplex a (grid_complex g) refl (grid_complex_rules g grid)) entries stands k d within)
 
 -- ---- bidegrees
 -- before the first state there is none
 pub bidegrees-none : (g : Marks) (degrees : BTreeSet (ℤ × ℤ)) → degrees.keys ≡ [] → HasBidegrees g 0 degrees
 bidegrees-none g degrees empty = record {
   found = λ s l. absurd (omega (arith, l));
-  of_states =
-      λ q h. absurd (no_member q (subst (λ ks. Contains ks q) empty
+  of_states = λ q h. absurd (no_member q (subst (λ ks. Contains ks q) empty
       ((btree_set_contains_iff degree_cmp_total exact_degrees degrees q).0 h)));
 }
 
 -- a state adds its bidegree
 pub bidegrees-next : (g : Marks) (n : ℕ) (d : ℤ × ℤ) (old new : BTreeSet (ℤ × ℤ))
     → d ≡ key_of (bidegree g (unrank (size g) n))
-    → ((q : ℤ × ℤ)
-    → sorted.contains degree_cmp new q ≡ cond (is_eq (degree_cmp d q)) true (sorted.contains degree_cmp old q))
+    → ((q : ℤ × ℤ) → sorted.contains degree_cmp new q ≡ cond (is_eq (degree_cmp d q)) true
+    (sorted.contains degree_cmp old q))
     → HasBidegrees g n old → HasBidegrees g (n + 1) new
 bidegrees-next g n d old new d_is adds before = record {
   found = below_more (λ s. sorted.contains degree_cmp new (key_of (bidegree g (unrank (size g) s))) ≡ true) n
@@ -170,8 +168,8 @@ bidegrees-next g n d old new d_is adds before = record {
         → (s : ℕ) × (s < n + 1) × (key_of (bidegree g (unrank (size g) s)) ≡ q)
     by_test q true e h = (n, omega arith, sym d_is ∙ exact_degrees d q (equal (degree_cmp d q) e))
     by_test q false e h =
-        let (s, below, is) =
-        before.of_states q (sym (adds q ∙ ap (λ b. cond b true (sorted.contains degree_cmp old q)) e) ∙ h) in
+        let (s, below, is) = before.of_states q (sym (adds q
+        ∙ ap (λ b. cond b true (sorted.contains degree_cmp old q)) e) ∙ h) in
         (s, omega (arith, below), is)
 
 -- a bidegree of the set is that of a state
@@ -186,7 +184,8 @@ state_of-key g degrees has q inside =
 pub made_cell : (g : Marks) (m a : ℤ) (d : ℤ × ℤ) (old new : Slice) (log : List Entry) (cycles : List CyclePair)
     (steps : List StepPair) → d ≡ (m, a) → HasState g (m, a) → slice_complex old ≡ slice_of g a → IsReduced old new log
     → cycles ≡ map (cycle_pair log) (left_codes g (slice_complex new) m)
-    → steps ≡ steps_after (has_degree g (m, a)) [] log → IsMade g (record { at = d; cycles = cycles; steps = steps })
+    → steps ≡ steps_after (has_degree g (m, a)) [] log
+    → IsMade g (record { at = d; cycles = cycles; steps = steps })
 made_cell g m a d old new log cycles steps at state built reduced cycles_are steps_are =
     let reduction = reduction_of g a old new log built reduced in
     record {
@@ -198,8 +197,8 @@ made_cell g m a d old new log cycles steps at state built reduced cycles_are ste
       stands = subst (λ (e : ℤ × ℤ). IsLog (slice_of g e.1) log) (sym at) reduction.stands;
       is_after = subst (λ (e : ℤ × ℤ). slice_complex new ≡ after (slice_of g e.1) log) (sym at) reduction.is_after;
       no_arrow = reduction.no_arrow;
-      cycles = subst (λ (e : ℤ × ℤ). cycles ≡ map (cycle_pair log) (left_codes g (slice_complex new) e.0))
-          (sym at) cycles_are;
+      cycles = subst (λ (e : ℤ × ℤ). cycles ≡ map (cycle_pair log) (left_codes g (slice_complex new) e.0)) (sym at)
+          cycles_are;
       steps = subst (λ (e : ℤ × ℤ). steps ≡ steps_after (has_degree g e) [] log) (sym at) steps_are;
     }
 
@@ -221,12 +220,13 @@ keys-pushed old new cell ks all q so_far pushed at =
     ∙ ap (λ k. keys_of old ++ k ∷ ks) at
     ∙ so_far
 
+-- which was made
 pub made-pushed : (g : Marks) (old new : List Cell) (cell : Cell) → All (IsMade g) old → new ≡ old ++ cell ∷ []
     → IsMade g cell → All (IsMade g) new
-made-pushed g old new cell so_far pushed made =
-    subst (All (IsMade g)) (sym pushed)
+made-pushed g old new cell so_far pushed made = subst (All (IsMade g)) (sym pushed)
     (All-append (IsMade g) old (cell ∷ []) so_far (All-cons (IsMade g) cell [] made (All-nil (IsMade g))))
 
+-- keys in order rise pair by pair
 keys-rise : (ks : List (ℤ × ℤ)) → IsStrictlySortedBy degree_cmp ks → AllPairs (λ p q. degree_cmp p q ≡ Less) ks
 unfolding IsStrictlySortedBy
 keys-rise [] h = λ i j d l k. absurd (omega (arith, k))
@@ -257,6 +257,7 @@ higher m a n b less = by (int_cmp a b) refl less
     by Equal is h = second a b m n (int_ranked a b Equal is) (int_ranked m n Less (sym h))
     by Greater is h = absurd (false≢true (ap is_lt h))
 
+-- cells whose keys rise stand in the other order
 cells-rise : (cells : List Cell) → AllPairs (λ p q. degree_cmp p q ≡ Less) (keys_of cells)
     → AllPairs (λ p q. IsTrue (comes_first q p)) cells
 cells-rise cells pairs i j d less within =
@@ -265,10 +266,11 @@ cells-rise cells pairs i j d less within =
     let q = get_or cells j d in
     let first : get_or (keys_of cells) i (k d) ≡ k p = get_or-map k cells i d (k d) (omega (arith, less, within)) in
     let second : get_or (keys_of cells) j (k d) ≡ k q = get_or-map k cells j d (k d) within in
-    higher p.at.0 p.at.1 q.at.0 q.at.1
-    (ap₂ degree_cmp (sym first) (sym second) ∙ pairs i j (k d) less (omega (arith, within, length-map cells k)))
+    higher p.at.0 p.at.1 q.at.0 q.at.1 (ap₂ degree_cmp (sym first) (sym second)
+    ∙ pairs i j (k d) less (omega (arith, within, length-map cells k)))
 
 module _ (cells : List Cell) where
+  -- so the other way round they stand in order
   reversed-pairs : AllPairs (λ p q. IsTrue (comes_first q p)) cells
       → AllPairs (λ p q. IsTrue (comes_first p q)) (reverse cells)
   reversed-pairs pairs i j d less within =
@@ -279,21 +281,25 @@ module _ (cells : List Cell) where
       (λ k. (sym (get_or-reverse cells i d in_i) k, sym (get_or-reverse cells j d in_j) k))
       (pairs (length cells - 1 - j) (length cells - 1 - i) d (omega (arith, less, in_j)) (omega (arith, in_i)))
 
+  -- what holds of each holds the other way round
   reversed-all : (P : Cell → Type 0) → All P cells → All P (reverse cells)
   reversed-all P all k d within =
       let long = length-reverse cells in
       let in_k : k < length cells = omega (arith, within, long) in
       subst P (sym (get_or-reverse cells k d in_k)) (all (length cells - 1 - k) d (omega (arith, in_k)))
 
+  -- each stands there
   reversed-member : (c : Cell) → Contains cells c → Contains (reverse cells) c
   reversed-member c (k, within, is) =
       let long = length-reverse cells in
       let back : length cells - 1 - (length cells - 1 - k) ≡ k = omega (arith, within) in (
         length cells - 1 - k,
         omega (arith, within, long),
-        get_or-reverse cells (length cells - 1 - k) c (omega (arith, within)) ∙ ap (λ n. get_or cells n c) back ∙ is,
+        get_or-reverse cells (length cells - 1 - k) c
+            (omega (arith, within)) ∙ ap (λ n. get_or cells n c) back ∙ is,
       )
 
+-- a member that passes is found
 any_member : (p : Cell → Bool) (cells : List Cell) (cell : Cell) → Contains cells cell → p cell ≡ true
     → list_any p cells ≡ true
 any_member p [] cell inside h = absurd (no_member cell inside)
@@ -312,20 +318,18 @@ pub made-reversed : (g : Marks) (degrees : BTreeSet (ℤ × ℤ)) (cells turned 
     → keys_of cells ≡ degrees.keys
     → All (IsMade g) cells → turned ≡ reverse cells → AreMade g turned
 made-reversed g degrees cells turned has ordered all made is = subst (AreMade g) (sym is) (record {
-  ordered =
-      reversed-pairs cells (cells-rise cells (keys-rise (keys_of cells)
+  ordered = reversed-pairs cells (cells-rise cells (keys-rise (keys_of cells)
       (subst (IsStrictlySortedBy degree_cmp) (sym all) ordered)));
   each = reversed-all cells (IsMade g) made;
-  complete =
-      all_below-true (factorial (size g)) (λ s. list_any (λ (c : Cell). has_degree g c.at s) (reverse cells)) one;
+  complete = all_below-true (factorial (size g)) (λ s. list_any (λ (c : Cell). has_degree g c.at s) (reverse cells))
+      one;
 })
   where
     one : (s : ℕ) → s < factorial (size g) → list_any (λ (c : Cell). has_degree g c.at s) (reverse cells) ≡ true
     one s below =
         let d = bidegree g (unrank (size g) s) in
         let stood = (btree_set_contains_iff degree_cmp_total exact_degrees degrees (key_of d)).0 (has.found s below) in
-        let (cell, inside, at) =
-        member_of_map (λ (c : Cell). key_of c.at) cells (key_of d)
+        let (cell, inside, at) = member_of_map (λ (c : Cell). key_of c.at) cells (key_of d)
         (subst (λ ks. Contains ks (key_of d)) (sym all) stood) in
         any_member (λ (c : Cell). has_degree g c.at s) (reverse cells) cell (reversed-member cells cell inside)
         ((same_degree-is d cell.at).1 (sym (ap key_of at)))

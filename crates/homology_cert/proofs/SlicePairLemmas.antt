@@ -38,8 +38,7 @@ all_codes p z h = among (codes z) (λ s i. h s (holds-codes z s ∙ i))
   where
     among : (xs : List ℕ) → ((s : ℕ) → any s xs ≡ true → p s ≡ true) → list_all p xs ≡ true
     among [] f = refl
-    among (x ∷ xs) f =
-        ap₂ ◌&&◌ (f x (ap (λ b. b || any x xs) (eq-eqb x x refl)))
+    among (x ∷ xs) f = ap₂ ◌&&◌ (f x (ap (λ b. b || any x xs) (eq-eqb x x refl)))
         (among xs (λ s i. f s (ap (λ b. eqb s x || b) i ∙ either (eqb s x))))
       where
         either : (b : Bool) → (b || true) ≡ true
@@ -52,17 +51,23 @@ every_three : {X : Type 0} (P Q R T : X → Type 0) (xs : List X) → ((x : X) �
 every_three P Q R T [] f p q r = tt
 every_three P Q R T (x ∷ xs) f p q r = (f x p.0 q.0 r.0, every_three P Q R T xs f p.1 q.1 r.1)
 
+-- and from four
 every_four : {X : Type 0} (P Q R S T : X → Type 0) (xs : List X) → ((x : X) → P x → Q x → R x → S x → T x) → Every P xs
     → Every Q xs → Every R xs → Every S xs → Every T xs
 every_four P Q R S T [] f p q r s = tt
 every_four P Q R S T (x ∷ xs) f p q r s = (f x p.0 q.0 r.0 s.0, every_four P Q R S T xs f p.1 q.1 r.1 s.1)
 
+-- what follows of two elements from a property of the later one
 pairwise_with : {X : Type 0} (P : X → Type 0) (R S : X → X → Type 0) (xs : List X) → ((x y : X) → P y → R x y → S x y)
     → Every P xs → Pairwise R xs → Pairwise S xs
 pairwise_with P R S [] f p h = tt
-pairwise_with P R S (x ∷ xs) f p h =
-    (every_both P (R x) (S x) xs (λ y q r. f x y q r) p.1 h.0, pairwise_with P R S xs f p.1 h.1)
+pairwise_with P R S (x ∷ xs) f p h = (
+  every_both P (R x) (S x) xs (λ y q r. f x y q r) p.1 h.0,
+  pairwise_with P R S xs f
+      p.1 h.1,
+)
 
+-- the empty chain has no codes
 empty_nothing : (z : Chain) → z ≡ nothing → is_empty z ≡ true
 empty_nothing z e = ap is_empty e ∙ ap (λ xs. eqb (length xs) 0) (codes-of_codes [] none)
   where
@@ -70,30 +75,36 @@ empty_nothing z e = ap is_empty e ∙ ap (λ xs. eqb (length xs) 0) (codes-of_co
     none i l = absurd (omega arith)
 
 module _ (g : Marks) (grid : IsGrid g) (m a : ℤ) where
+  -- the complex of the grid
   abbrev G : Complex (ℤ × ℤ)
   G = grid_complex g
 
+  -- the slice
   abbrev S : Complex ℤ
   S = slice_of g a
 
+  -- the bidegree
   abbrev d : ℤ × ℤ
   d = (m, a)
 
+  -- the slice is a part of the complex
   part : IsPartOf G (with_second a) S
   part = at_second_IsPartOf a G refl
 
+  -- which keeps the two rules
   rules : IsComplex G
   rules = grid_complex_rules g grid
 
   -- a state of the degree passes the test of its bidegree
   test_of_degree : (e : ℤ × ℤ) (s : ℕ) → G.degree s ≡ Some e → has_degree g e s ≡ true
-  test_of_degree e s is =
-      (same_degree-is (bidegree g (unrank (size g) s)) e).1
+  test_of_degree e s is = (same_degree-is (bidegree g (unrank (size g) s)) e).1
       (same_some _ _ (sym (degree_of_state g grid s (state_of_degree g grid s e is)) ∙ is))
 
+  -- a chain of a bidegree passes the test of it
   have_degree : (e : ℤ × ℤ) (z : Chain) → AllOfDegree G e z → all_have g e z ≡ true
   have_degree e z of = all_codes (has_degree g e) z (λ s h. test_of_degree e s (of s h))
 
+  -- and has states alone
   are_states : (e : ℤ × ℤ) (z : Chain) → AllOfDegree G e z → AreStates g z
   are_states e z of = All-codes (λ code. code < factorial (size g)) z (λ s h. state_of_degree g grid s e (of s h))
 
@@ -110,27 +121,29 @@ module _ (g : Marks) (grid : IsGrid g) (m a : ℤ) where
   even_everywhere f of even s = none_where (pairs_oddly (G.targets s) f) (λ odd.
       let (t, reached, in_f) = weight-some (holds f) (G.targets s) (sym (pairs_oddly-weight (G.targets s) f) ∙ odd) in
       let (n, above, below) = rules.lowers s t reached in
-      let up : G.degree s ≡ Some (m +ℤ pos 1, a) =
-      above ∙ ap (λ e. Some (up_m e)) (same_some n d (sym below ∙ of t in_f)) in
+      let up : G.degree s ≡ Some (m +ℤ pos 1, a) = above
+      ∙ ap (λ e. Some (up_m e)) (same_some n d (sym below ∙ of t in_f)) in
       true≢false (sym odd ∙ ap (λ z. pairs_oddly z f) (sym
       (part.targets s (m +ℤ pos 1) ((part.degrees s (m +ℤ pos 1)).1 up))) ∙ even s))
 
+  -- so it passes the test of a cocycle
   cocycle_test : (f : Chain) → AllOfDegree G d f → ((s : ℕ) → pairs_oddly (S.targets s) f ≡ false)
       → is_cocycle g f ≡ true
-  cocycle_test f of even =
-      all_below-true (factorial (size g)) (λ s. not (pairs_oddly (border_of_state g (unrank (size g) s)) f)) (λ s l.
+  cocycle_test f of even = all_below-true (factorial (size g))
+      (λ s. not (pairs_oddly (border_of_state g (unrank (size g) s)) f)) (λ s l.
       ap (λ b. not (pairs_oddly (if b then border_of_state g (unrank (size g) s) else nothing) f))
       (sym (lt-ltb s (factorial (size g)) l))
       ∙ ap not (even_everywhere f of even s))
 
   -- ---- cycle pairs
   module _ (pairs : List CyclePair) (h : AreCyclePairs S m pairs) where
+    -- a chain of the degree has the bidegree
     in_grid : (z : Chain) → AllOfDegree S m z → AllOfDegree G d z
     in_grid z of = of_part G (with_second a) S part m z of
 
+    -- each passes its own tests
     pub cycle_passes : Every (PassesCycle g d) pairs
-    cycle_passes =
-        every_four (λ (p : CyclePair). IsCycle S m p.cycle) (λ (p : CyclePair). AllOfDegree S m p.cocycle)
+    cycle_passes = every_four (λ (p : CyclePair). IsCycle S m p.cycle) (λ (p : CyclePair). AllOfDegree S m p.cocycle)
         (λ (p : CyclePair). (s : ℕ) → pairs_oddly (S.targets s) p.cocycle ≡ false)
         (λ (p : CyclePair). pairs_oddly p.cycle p.cocycle ≡ true)
         (PassesCycle g d) pairs one
@@ -149,27 +162,32 @@ module _ (g : Marks) (grid : IsGrid g) (m a : ℤ) where
               own = odd;
             }
 
+    -- and they pair evenly with each other
     pub cycles_apart : Pairwise ArePairedApart pairs
     cycles_apart = pairwise ArePairedApart pairs h.others
 
+    -- their sets are sets of states
     pub cycle_states : Every (HasCycleStates g) pairs
-    cycle_states =
-        every_both (λ (p : CyclePair). IsCycle S m p.cycle) (λ (p : CyclePair). AllOfDegree S m p.cocycle)
+    cycle_states = every_both (λ (p : CyclePair). IsCycle S m p.cycle) (λ (p : CyclePair). AllOfDegree S m p.cocycle)
         (HasCycleStates g) pairs
         (λ p c of. record {
           cycle = are_states d p.cycle (in_grid p.cycle c.0);
-          cocycle = are_states d p.cocycle (in_grid p.cocycle of);
+          cocycle =
+              are_states d p.cocycle (in_grid p.cocycle of);
         })
         (every _ pairs h.cycles) (every _ pairs h.cocycle_degrees)
 
   -- ---- step pairs
   module _ (pairs : List StepPair) (h : AreStepPairs S m pairs) where
+    -- a chain has one border in the slice and in the grid
     same_border : (z : Chain) → AllOfDegree S m z → border g z ≡ border_in S z
     same_border z of = sym (border-part G (with_second a) S part m z of ∙ border-grid_complex g z)
 
+    -- a probe is one degree below
     IsBelow : StepPair → Type 0
     IsBelow p = (s : ℕ) → holds p.probe s ≡ true → (n : ℤ) × (S.degree s ≡ Some n) × (S.up n ≡ m)
 
+    -- so it has the bidegree below
     below : (p : StepPair) → IsBelow p → AllOfDegree G (one_below d) p.probe
     unfolding IsBelow
     below p is s held =
@@ -179,10 +197,10 @@ module _ (g : Marks) (grid : IsGrid g) (m a : ℤ) where
         down : (n k : ℤ) → n +ℤ pos 1 ≡ k → n ≡ k -ℤ pos 1
         down n k e = omega (arith, ints, e)
 
+    -- each passes its own tests
     pub step_passes : Every (PassesStep g d) pairs
     unfolding IsBelow
-    step_passes =
-        every_three (λ (p : StepPair). AllOfDegree S m p.step) IsBelow
+    step_passes = every_three (λ (p : StepPair). AllOfDegree S m p.step) IsBelow
         (λ (p : StepPair). pairs_oddly (border_in S p.step) p.probe ≡ true) (PassesStep g d) pairs
         (λ p of is odd. record {
           step_degree = have_degree d p.step (of_part G (with_second a) S part m p.step of);
@@ -191,19 +209,21 @@ module _ (g : Marks) (grid : IsGrid g) (m a : ℤ) where
         })
         (every _ pairs h.steps) (every _ pairs h.probe_degrees) (every _ pairs h.own)
 
+    -- a probe pairs evenly with the borders of later steps
     pub steps_apart : Pairwise (λ (p q : StepPair). pairs_oddly (border g q.step) p.probe ≡ false) pairs
-    steps_apart =
-        pairwise_with (λ (p : StepPair). AllOfDegree S m p.step)
+    steps_apart = pairwise_with (λ (p : StepPair). AllOfDegree S m p.step)
         (λ (p q : StepPair). pairs_oddly (border_in S q.step) p.probe ≡ false)
         (λ (p q : StepPair). pairs_oddly (border g q.step) p.probe ≡ false) pairs
         (λ p q of even. ap (λ z. pairs_oddly z p.probe) (same_border q.step of) ∙ even) (every _ pairs h.steps)
         (pairwise _ pairs h.later)
 
+    -- their sets are sets of states
     pub step_states : Every (HasStepStates g) pairs
     unfolding IsBelow
     step_states = every_both (λ (p : StepPair). AllOfDegree S m p.step) IsBelow (HasStepStates g) pairs
         (λ p of is. record {
           step = are_states d p.step (of_part G (with_second a) S part m p.step of);
-          probe = are_states (one_below d) p.probe (below p is);
+          probe =
+              are_states (one_below d) p.probe (below p is);
         })
         (every _ pairs h.steps) (every _ pairs h.probe_degrees)

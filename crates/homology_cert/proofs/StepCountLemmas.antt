@@ -33,6 +33,7 @@ from_above f h sums b top (suc k) =
     let same : f (m +ℤ pos 1) ≡ h (m +ℤ pos 1) = ap f next ∙ later ∙ sym (ap h next) in
     omega (arith, both, same)
 
+-- where none is above b, the numbers are the same at each degree
 pub same_everywhere : (f h : ℤ → ℕ) → ((m : ℤ) → f m + f (m +ℤ pos 1) ≡ h m + h (m +ℤ pos 1)) → (b : ℤ)
     → ((m : ℤ) → b <ℤ m → (f m ≡ 0) × (h m ≡ 0)) → (m : ℤ) → f m ≡ h m
 same_everywhere f h sums b none m = elim (cases_Bool (int_lt b m)) [
@@ -65,8 +66,8 @@ module _ (C : Complex ℤ) (laws : IsComplex C) (up : (m : ℤ) → C.up m ≡ m
   module _ (log : List Entry) (stands : IsLog C log) (bare : (s : ℕ) → (after C log).targets s ≡ nothing)
       (left : ℤ → Chain) (left_all : (m : ℤ) → IsAllCells (after C log) m (left m)) where
     -- the states of a degree are those left, and one for each step of it and of the degree above
-    pub counted_steps : (m : ℤ)
-        → cardinality (cells m) ≡ cardinality (left m) + (steps_of log m + steps_of log (m +ℤ pos 1))
+    pub counted_steps : (m : ℤ) → cardinality (cells m) ≡ cardinality (left m) +
+        (steps_of log m + steps_of log (m +ℤ pos 1))
     counted_steps m =
         count_log C laws log stands m (tests m) (tests (m +ℤ pos 1)) (are m)
         (subst (λ n. IsTest C n (tests (m +ℤ pos 1))) (sym (up m)) (are (m +ℤ pos 1)))
@@ -77,6 +78,7 @@ module _ (C : Complex ℤ) (laws : IsComplex C) (up : (m : ℤ) → C.up m ≡ m
       (left other_left : ℤ → Chain) (left_all : (m : ℤ) → IsAllCells (after C log) m (left m))
       (other_all : (m : ℤ) → IsAllCells (after C other) m (other_left m))
       (b : ℤ) (high : (m : ℤ) → b <ℤ m → cardinality (cells m) ≡ 0) where
+    -- both leave as many states of each degree
     same_left : (m : ℤ) → cardinality (left m) ≡ cardinality (other_left m)
     same_left m =
         cardinality-length (left m)

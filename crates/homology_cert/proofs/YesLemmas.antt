@@ -20,9 +20,11 @@ pub all_of_every : {X : Type 0} (p : X → Bool) (xs : List X) → Every (λ x. 
 all_of_every p [] h = refl
 all_of_every p (x ∷ xs) h = ap₂ ◌&&◌ h.0 (all_of_every p xs h.1)
 
+-- all questions are passed
 abbrev Passed : List Question → Type 0
 Passed qs = Every (λ (q : Question). q.passes ≡ true) qs
 
+-- so none fails
 none_fails : (qs : List Question) → Passed qs → first_failing qs ≡ None
 none_fails [] h = refl
 none_fails (q ∷ qs) h = ap (λ b. cond b (first_failing qs) (Some failure)) h.0 ∙ none_fails qs h.1
@@ -35,6 +37,7 @@ abbrev IsEvenWith : CyclePair → CyclePair → Type 0
 IsEvenWith p q = not (pairs_oddly q.cycle p.cocycle) ≡ true
 
 module _ (g : Marks) (d : ℤ × ℤ) where
+  -- the questions of a cycle pair
   cycle_pair_passed : (k : ℕ) (p : CyclePair) (others : List CyclePair) → PassesCycle g d p
       → Every (IsEvenWith p) others → Passed (cycle_pair_questions g d k p others)
   cycle_pair_passed k p others h even = (
@@ -43,7 +46,11 @@ module _ (g : Marks) (d : ℤ × ℤ) where
       h.cycle,
       (
         h.cocycle,
-        (ap₂ ◌&&◌ h.own (all_of_every (λ (q : CyclePair). not (pairs_oddly q.cycle p.cocycle)) others even), tt),
+        (
+          ap₂ ◌&&◌ h.own (all_of_every (λ (q : CyclePair). not (pairs_oddly q.cycle p.cocycle)) others
+              even),
+          tt,
+        ),
       ),
     ),
   )
@@ -70,6 +77,7 @@ module _ (g : Marks) (d : ℤ × ℤ) where
         tt,
       )))
 
+  -- the questions of step pairs
   steps_passed : (k : ℕ) (pairs : List StepPair) → Every (PassesStep g d) pairs
       → Pairwise (λ (p q : StepPair). pairs_oddly (border g q.step) p.probe ≡ false) pairs
       → Passed (step_questions g d k pairs)
@@ -80,14 +88,15 @@ module _ (g : Marks) (d : ℤ × ℤ) where
         (
           ap₂ ◌&&◌ h.0.own (all_of_every (λ (q : StepPair). not (pairs_oddly (border g q.step) p.probe)) later
               (every_weaker (λ (q : StepPair). pairs_oddly (border g q.step) p.probe ≡ false)
-              (λ (q : StepPair). not (pairs_oddly (border g q.step) p.probe) ≡ true) later
-              (λ q even. ap not even) apart.0)),
+              (λ (q : StepPair). not (pairs_oddly (border g q.step) p.probe) ≡ true) later (λ q even. ap not even)
+              apart.0)),
           tt,
         ),
       )
       (steps_passed (k + 1) later h.1 apart.1)
 
 module _ (c : Certificate) where
+  -- the questions of cells
   cells_passed : (k : ℕ) (cells : List Cell) → Every (PassesCell c) cells → Passed (all_questions c k cells)
   cells_passed k [] h = tt
   cells_passed k (cell ∷ cells) h =

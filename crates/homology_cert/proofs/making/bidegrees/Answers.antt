@@ -26,8 +26,8 @@ loop-code-init c = record {
 
 pub degree-degree-requires : goal.degree-degree-requires
 degree-degree-requires c =
-    let count : c.state_count-code-end.result ≡ factorial (size c.args.g.now) =
-    c.state_count-code-end.ensures ∙ ap factorial c.size-2.ensures.size in
+    let count : c.state_count-code-end.result ≡ factorial (size c.args.g.now) = c.state_count-code-end.ensures
+    ∙ ap factorial c.size-2.ensures.size in
     let below : c.loop-code._code < factorial (size c.args.g.now) = omega arith in
     record {
       one_size = ap length (c.loop-code.invariant.visited below)
@@ -38,19 +38,17 @@ pub loop-code-preserved : goal.loop-code-preserved
 loop-code-preserved c =
     let g = c.args.g.now in
     let n = c.loop-code._code in
-    let count : c.state_count-code-end.result ≡ factorial (size c.args.g.now) =
-    c.state_count-code-end.ensures ∙ ap factorial c.size-2.ensures.size in
+    let count : c.state_count-code-end.result ≡ factorial (size c.args.g.now) = c.state_count-code-end.ensures
+    ∙ ap factorial c.size-2.ensures.size in
     let below : c.loop-code._code < factorial (size c.args.g.now) = omega arith in
     let x_is = c.loop-code.invariant.visited below in
     let degree = c.degree-degree.result in
     let fits_m : SFits w32 c.degree-degree.result.m = search rules in
     let fits_a : SFits w32 c.degree-degree.result.a = search rules in
-    let adds : (q : ℤ × ℤ)
-    → sorted.contains degree_cmp c.insert.new.self q
-    ≡ cond (is_eq (degree_cmp (degree.a, degree.m) q)) true (sorted.contains degree_cmp c.loop-code.degrees q) =
-    subst (λ (d : ℤ × ℤ). (q : ℤ × ℤ)
-    → sorted.contains degree_cmp c.insert.new.self q
-    ≡ cond (is_eq (degree_cmp d q)) true (sorted.contains degree_cmp c.loop-code.degrees q))
+    let adds : (q : ℤ × ℤ) → sorted.contains degree_cmp c.insert.new.self q ≡ cond
+    (is_eq (degree_cmp (degree.a, degree.m) q)) true (sorted.contains degree_cmp c.loop-code.degrees q) =
+    subst (λ (d : ℤ × ℤ). (q : ℤ × ℤ) → sorted.contains degree_cmp c.insert.new.self q ≡ cond (is_eq (degree_cmp d q))
+    true (sorted.contains degree_cmp c.loop-code.degrees q))
     (λ i. (to_z-of_z w32 c.degree-degree.result.a fits_a i, to_z-of_z w32 c.degree-degree.result.m fits_m i))
     c.in_ok-insert.ensures.updates.0 in
     record {
@@ -60,15 +58,13 @@ loop-code-preserved c =
             (c.degree-degree.ensures.maslov ∙ (λ j. maslov_o (c.of-tables.ensures j) (x_is j))) i,
           ))
           adds c.loop-code.invariant.degrees;
-      visited =
-          visited-next
-          (size g) n c.loop-code.x c.advance.new.self c.advance.result below c.loop-code.invariant.visited
-          c.advance.ensures.state c.advance.ensures.last;
+      visited = visited-next (size g) n c.loop-code.x c.advance.new.self c.advance.result below
+          c.loop-code.invariant.visited c.advance.ensures.state c.advance.ensures.last;
     }
 
 pub returns : goal.returns
 returns c =
-    let count : c.state_count-code-end.result ≡ factorial (size c.args.g.now) =
-    c.state_count-code-end.ensures ∙ ap factorial c.size-2.ensures.size in
+    let count : c.state_count-code-end.result ≡ factorial (size c.args.g.now) = c.state_count-code-end.ensures
+    ∙ ap factorial c.size-2.ensures.size in
     let all : c.loop-code._code ≡ factorial (size c.args.g.now) = omega arith in
     subst (λ n. HasBidegrees c.args.g.now n c.loop-code.degrees) all c.loop-code.invariant.degrees

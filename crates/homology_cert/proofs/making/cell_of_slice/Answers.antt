@@ -16,9 +16,8 @@ use Rattle.homology_cert.proofs.making.cell_of_slice.Goals as goal
 pub steps_of-requires : goal.steps_of-requires
 steps_of-requires c =
     let g = c.args.g.now in
-    let reduction =
-    reduction_of g c.args.a c.args.slice.slice c.reduce.new.slice.slice
-    (log_of c.in_ok-log.log) c.requires.built c.in_ok-log.ensures.reduced in
+    let reduction = reduction_of g c.args.a c.args.slice.slice c.reduce.new.slice.slice (log_of c.in_ok-log.log)
+    c.requires.built c.in_ok-log.ensures.reduced in
     subst (λ (a : ℤ). IsLog (at_second a (grid_complex g)) (log_of c.in_ok-log.log))
     (sym (to_z-of_z w32 c.args.a c.ranges.a)) reduction.stands
 
@@ -29,11 +28,8 @@ returns c =
     let slice = slice_complex c.reduce.new.slice.slice in
     let same_m = to_z-of_z w32 c.args.m c.ranges.m in
     let same_a = to_z-of_z w32 c.args.a c.ranges.a in (
-      made_cell g c.args.m c.args.a (
-        to_z w32 (of_z w32 c.args.m),
-        to_z w32 (of_z w32 c.args.a),
-      ) c.args.slice.slice c.reduce.new.slice.slice log c.in_ok-cycles.cycles.items
-          c.in_ok-steps.steps.items
+      made_cell g c.args.m c.args.a (to_z w32 (of_z w32 c.args.m), to_z w32 (of_z w32 c.args.a)) c.args.slice.slice
+          c.reduce.new.slice.slice log c.in_ok-cycles.cycles.items c.in_ok-steps.steps.items
           (λ i. (same_m i, same_a i)) c.requires.state c.requires.built c.in_ok-log.ensures.reduced
           (c.in_ok-cycles.ensures ∙ ap (λ m. map (cycle_pair log) (left_codes g slice m)) same_m)
           (c.in_ok-steps.ensures ∙ (λ i. steps_after (has_degree g (same_m i, same_a i)) [] log)),

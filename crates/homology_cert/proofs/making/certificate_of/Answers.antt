@@ -8,8 +8,8 @@ use Rattle.homology_cert.proofs.MakingLaws.{made_certificate, made_short}
 use Rattle.homology_cert.proofs.making.certificate_of.Goals as goal
 
 pub of-requires : goal.of-requires
-of-requires c =
-    made_certificate c.args.g.now c.size-size.ensures.grid c.requires c.in_ok-cells.cells.items c.in_ok-cells.ensures
+of-requires c = made_certificate c.args.g.now c.size-size.ensures.grid c.requires c.in_ok-cells.cells.items
+    c.in_ok-cells.ensures
 
 pub returns-clause-passes : goal.returns-clause-passes
 returns-clause-passes c = ap verdict_of c.of.ensures

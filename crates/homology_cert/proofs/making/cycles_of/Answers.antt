@@ -34,8 +34,8 @@ loop-code-preserved c =
 pub returns : goal.returns
 returns c =
     let all : c.loop-code.code ≡ factorial (size c.args.g.now) =
-    let count = c.state_count-code-end.ensures ∙ ap factorial c.size.ensures.size in let end = c.loop-code-test.false in
-    let near = c.loop-code.auto.code-end in omega (arith, count, end, near) in
+    let count = c.state_count-code-end.ensures ∙ ap factorial c.size.ensures.size in let end =
+    c.loop-code-test.false in let near = c.loop-code.auto.code-end in omega (arith, count, end, near) in
     c.loop-code.invariant
     ∙ ap (λ m. map (cycle_pair (log_of c.args.log.now))
     (filter (λ s. degree_is m ((slice_complex c.args.slice.now.slice).degree s)) (ascending c.loop-code.code)))

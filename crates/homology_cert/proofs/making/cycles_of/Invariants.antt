@@ -9,6 +9,5 @@ use Rattle.homology_cert.proofs.making.cycles_of.Given as goal
 
 abbrev pub invariant-loop-code : goal.invariant-loop-code
 invariant-loop-code l =
-    l.pairs.items
-    ≡ map (cycle_pair (log_of l.log))
-    (filter (λ s. degree_is l.m ((slice_complex l.slice.slice).degree s)) (ascending l.code))
+    l.pairs.items ≡ map (cycle_pair (log_of l.log)) (filter
+    (λ s. degree_is l.m ((slice_complex l.slice.slice).degree s)) (ascending l.code))

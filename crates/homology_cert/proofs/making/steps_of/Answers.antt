@@ -18,9 +18,8 @@ use Rattle.homology_cert.proofs.making.steps_of.Goals.{then-has_degree+in_ok-ste
 
 pub loop-k-init : goal.loop-k-init
 loop-k-init c =
-    ap (λ xs. xs
-    ++ steps_after (has_degree c.args.g.now (to_z w32 (of_z w32 c.args.m), to_z w32 (of_z w32 c.args.a))) []
-    (log_of c.entries-entries.result.now)) c.new-pairs.ensures.items
+    ap (λ xs. xs ++ steps_after (has_degree c.args.g.now (to_z w32 (of_z w32 c.args.m), to_z w32 (of_z w32 c.args.a)))
+    [] (log_of c.entries-entries.result.now)) c.new-pairs.ensures.items
 
 pub has_degree-requires : goal.has_degree-requires
 has_degree-requires c =
@@ -29,23 +28,23 @@ has_degree-requires c =
     (sym c.entries-entries.ensures.entries) c.requires) c.loop-k.k _ c.loop-k-test.true
 
 pub lift_before-requires : goal.lift_before-requires
-lift_before-requires c = let same = ap length c.entries-entries.ensures.entries in let below = c.loop-k-test.true in
-    omega (arith, same, below)
+lift_before-requires c = let same = ap length c.entries-entries.ensures.entries in let below =
+    c.loop-k-test.true in omega (arith, same, below)
 
 pub pull_before-requires : goal.pull_before-requires
-pull_before-requires c = let same = ap length c.entries-entries.ensures.entries in let below = c.loop-k-test.true in
-    omega (arith, same, below)
+pull_before-requires c = let same = ap length c.entries-entries.ensures.entries in let below =
+    c.loop-k-test.true in omega (arith, same, below)
 
 pub loop-k-preserved : goal.loop-k-preserved
 loop-k-preserved c =
     let p = has_degree c.args.g.now (to_z w32 (of_z w32 c.args.m), to_z w32 (of_z w32 c.args.a)) in
     let entries = c.entries-entries.result.now in
-    let none : LogEntry =
-    record {
+    let none : LogEntry = record {
       x = 0;
       y = 0;
       sources = record { ref_ptr = (0, 0); now = [] };
-      targets = record { ref_ptr = (0, 0); now = [] };
+      targets =
+          record { ref_ptr = (0, 0); now = [] };
     } in
     let entry = get_or entries c.loop-k.k none in
     elim c.if-has_degree.branch [
@@ -53,15 +52,14 @@ loop-k-preserved c =
           steps-pushed p entries c.loop-k.k none c.loop-k.pairs.items c.if-has_degree.pairs.items w.in_ok-step.step
           w.in_ok-probe.probe c.loop-k-test.true c.loop-k.invariant
           (sym c.has_degree.ensures ∙ w.if-has_degree.true)
-          (w.in_ok-step.ensures.lift
-          ∙ ap (λ xs. lift (take c.loop-k.k (log_of xs)) (single entry.x)) (sym c.entries-entries.ensures.entries))
-          (w.in_ok-probe.ensures.map
-          ∙ ap (λ xs. pull (take c.loop-k.k (log_of xs)) (single entry.y)) (sym c.entries-entries.ensures.entries))
+          (w.in_ok-step.ensures.lift ∙ ap (λ xs. lift (take c.loop-k.k (log_of xs)) (single entry.x))
+          (sym c.entries-entries.ensures.entries))
+          (w.in_ok-probe.ensures.map ∙ ap (λ xs. pull (take c.loop-k.k (log_of xs)) (single entry.y))
+          (sym c.entries-entries.ensures.entries))
           (ap (λ pairs. pairs.items) w.pairs-is ∙ w.in_ok-push.ensures.items)
       | else-has_degree w ↦
-          subst (λ (pairs : Vec StepPair Global). pairs.items
-          ++ steps_after p (take (c.loop-k.k + 1) (log_of entries)) (drop (c.loop-k.k + 1) (log_of entries))
-          ≡ steps_after p [] (log_of entries)) (sym w.pairs-is)
+          subst (λ (pairs : Vec StepPair Global). pairs.items ++ steps_after p (take (c.loop-k.k + 1) (log_of entries))
+          (drop (c.loop-k.k + 1) (log_of entries)) ≡ steps_after p [] (log_of entries)) (sym w.pairs-is)
           (steps-kept p entries c.loop-k.k none c.loop-k.pairs.items c.loop-k-test.true c.loop-k.invariant
           (sym c.has_degree.ensures ∙ w.if-has_degree.false))
     ]
@@ -78,5 +76,6 @@ returns c =
     ∙ c.loop-k.invariant
     ∙ (λ i. steps_after (has_degree c.args.g.now (
       to_z-of_z w32 c.args.m c.ranges.m i,
-      to_z-of_z w32 c.args.a c.ranges.a i,
+      to_z-of_z w32 c.args.a c.ranges.a
+          i,
     )) [] (log_of (c.entries-entries.ensures.entries i)))

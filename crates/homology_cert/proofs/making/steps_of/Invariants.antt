@@ -7,5 +7,5 @@ use Rattle.homology_cert.proofs.making.steps_of.Given as goal
 
 abbrev pub invariant-loop-k : goal.invariant-loop-k
 invariant-loop-k l =
-    l.pairs.items ++ steps_after (has_degree l.g (l.m, l.a)) (take l.k (log_of l.entries)) (drop l.k (log_of l.entries))
-    ≡ steps_after (has_degree l.g (l.m, l.a)) [] (log_of l.entries)
+    l.pairs.items ++ steps_after (has_degree l.g (l.m, l.a)) (take l.k (log_of l.entries))
+    (drop l.k (log_of l.entries)) ≡ steps_after (has_degree l.g (l.m, l.a)) [] (log_of l.entries)
