@@ -25,12 +25,12 @@ use Rattle.sparse_complex.specs.declared.links.Links.{Links}
 use Rattle.sparse_complex.specs.declared.slices.Cell.{Cell}
 use Rattle.sparse_complex.specs.Inner.Lists.{among, AreDistinct, linked_heads}
 use Rattle.sparse_complex.specs.Inner.Graph.{AreListed, width, has_arrow, no_cell, code_at, IsLinked}
-use Rattle.sparse_complex.specs.Inner.Kept.{no_key, key_of, is_live, maslov_at, slice_of, IsKeptByKey}
+use Rattle.sparse_complex.specs.Inner.Stored.{no_key, key_of, is_live, maslov_at, slice_of, IsStoredByKey}
 use Rattle.sparse_complex.specs.Inner.Built.{count_of, AreCells, AreKeys, AreLinksBelow}
 use Rattle.sparse_complex.proofs.ListLemmas.{same_test, eqb_comm, in_head, in_tail}
 use Rattle.sparse_complex.proofs.LinkLemmas.{AreInLists-same, length-linked}
 use Rattle.sparse_complex.proofs.GraphLemmas.{lt_or_eq, has_arrow-from, has_arrow-to, has_arrow-linked, no_node}
-use Rattle.sparse_complex.proofs.KeptLemmas.{degree-slice_of, arrow-kept, live_is, has_arrow-reserved}
+use Rattle.sparse_complex.proofs.StoredLemmas.{degree-slice_of, arrow-stored, live_is, has_arrow-reserved}
 use Rattle.sparse_complex.proofs.CancelLemmas.{key_of-set}
 use Rattle.sparse_complex.proofs.GridPartLemmas.{targets-live, no_cell_past, part_rules}
 
@@ -328,8 +328,8 @@ module _ (D : Complex ℤ) (n : ℕ) (rules : IsComplex D) (up : D.up ≡ (λ m.
   degree-live c h = let w = k.live c h in ap D.degree (sym w.1) ∙ degree-at D n cells s (key_of keys c) w.0
 
   module _ (links : Links) (a : AreLinksBelow D cells (length cells) links) where
-    pub kept-built : IsKeptByKey keys cells links
-    kept-built = record {
+    pub stored-built : IsStoredByKey keys cells links
+    stored-built = record {
       listed = a.listed;
       small = subst (λ w. w ≤ no_key) (sym a.whole) k.small;
       whole = sym a.whole;
@@ -355,7 +355,7 @@ module _ (D : Complex ℤ) (n : ℕ) (rules : IsComplex D) (up : D.up ≡ (λ m.
 
     arrow-built : (c d : ℕ) → arrow (slice_complex (slice_of keys cells links)) c d ≡ arrow D c d
     arrow-built c d =
-        arrow-kept keys cells links kept-built c d
+        arrow-stored keys cells links stored-built c d
         ∙ ap (λ h. (is_live keys c && is_live keys d) && h) (a.arrows (key_of keys c) (key_of keys d))
         ∙ same_test _ _ forth back
       where

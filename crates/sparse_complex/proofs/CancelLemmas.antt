@@ -16,11 +16,11 @@ use Rattle.sparse_complex.specs.declared.slices.Cell.{Cell}
 use Rattle.sparse_complex.specs.Slices.{other_sources, other_targets, fill}
 use Rattle.sparse_complex.specs.Inner.Lists.{no_id, among, AreDistinct, head_at}
 use Rattle.sparse_complex.specs.Inner.Graph.{AreListed, width, targets, sources, has_arrow, others, code_at, IsFilled, IsCleared}
-use Rattle.sparse_complex.specs.Inner.Kept.{no_key, key_of, is_live, maslov_at, slice_of, IsLiveKey, IsKeptByKey, IsFirst, IsKept}
+use Rattle.sparse_complex.specs.Inner.Stored.{no_key, key_of, is_live, maslov_at, slice_of, IsLiveKey, IsStoredByKey, IsFirst, IsStored}
 use Rattle.sparse_complex.proofs.ListLemmas.{same_test, in_head, in_tail, AreDistinct-filter}
 use Rattle.sparse_complex.proofs.GraphLemmas.{has_arrow-sources, has_arrow-targets}
 use Rattle.sparse_complex.proofs.FillLemmas.{no_out}
-use Rattle.sparse_complex.proofs.KeptLemmas.{past, degree-slice_of, arrow-kept, ends-live, same_key, no_arrow-from, no_arrow-to}
+use Rattle.sparse_complex.proofs.StoredLemmas.{past, degree-slice_of, arrow-stored, ends-live, same_key, no_arrow-from, no_arrow-to}
 use Rattle.sparse_complex.proofs.QueryLemmas.{distinct-source_codes, distinct-target_codes, among-source_codes, among-target_codes}
 
 -- ---- an entry of a slice
@@ -91,7 +91,7 @@ length-others cells c k (j ∷ ks) h =
         ap (λ b. length (cond (not b) (code_at cells j ∷ others c (map (code_at cells) ks))
         (others c (map (code_at cells) ks)))) e ∙ ap suc r
 
-module _ (keys : List ℕ) (cells : List Cell) (links : Links) (s : IsKeptByKey keys cells links) where
+module _ (keys : List ℕ) (cells : List Cell) (links : Links) (s : IsStoredByKey keys cells links) where
   -- a code is that of a live key where the key is that of the code
   code-test : (c k : ℕ) → is_live keys c ≡ true → IsLiveKey keys cells k
       → eqb (code_at cells k) c ≡ eqb k (key_of keys c)
@@ -105,11 +105,11 @@ module _ (keys : List ℕ) (cells : List Cell) (links : Links) (s : IsKeptByKey 
       (λ h. eq-eqb c d (same_key keys cells links s c d l m (eqb-true (key_of keys c) (key_of keys d) h)))
       (λ h. eq-eqb (key_of keys c) (key_of keys d) (ap (key_of keys) (eqb-true c d h)))
 
-  pub fill-kept : (x y : ℕ) → is_live keys x ≡ true → is_live keys y ≡ true
+  pub fill-stored : (x y : ℕ) → is_live keys x ≡ true → is_live keys y ≡ true
       → fill (slice_of keys cells links) x y
       ≡ length (others (key_of keys x) (sources links (key_of keys y)))
       * length (others (key_of keys y) (targets links (key_of keys x)))
-  fill-kept x y l m =
+  fill-stored x y l m =
       let p = key_of keys x in
       let q = key_of keys y in
       ap₂ (λ a b. a * b)
@@ -162,12 +162,12 @@ products : (a b c d n : ℕ) → a ≤ c → b ≤ d → n ≡ c * d → a * b �
 products a b c d n l m e = grind (arith, e, l, m)
 
 -- the product of all sources and all targets is enough
-pub room-enough : (keys : List ℕ) (cells : List Cell) (links : Links) (s : IsKeptByKey keys cells links) (x y n : ℕ)
+pub room-enough : (keys : List ℕ) (cells : List Cell) (links : Links) (s : IsStoredByKey keys cells links) (x y n : ℕ)
     → is_live keys x ≡ true → is_live keys y ≡ true
     → n ≡ length (sources links (key_of keys y)) * length (targets links (key_of keys x))
     → fill (slice_of keys cells links) x y ≤ n
 room-enough keys cells links s x y n l m e =
-    let f = fill-kept keys cells links s x y l m in
+    let f = fill-stored keys cells links s x y l m in
     let g = products (length (others (key_of keys x) (sources links (key_of keys y))))
     (length (others (key_of keys y) (targets links (key_of keys x)))) _ _ n
     (others-shorter (key_of keys x) (sources links (key_of keys y)))
@@ -246,7 +246,7 @@ not-true false h = refl
 abbrev pub keys_without : List ℕ → ℕ → ℕ → List ℕ
 keys_without keys x y = set (set keys x no_key) y no_key
 
-module _ (keys : List ℕ) (cells : List Cell) (links : Links) (s : IsKeptByKey keys cells links) (x y : ℕ)
+module _ (keys : List ℕ) (cells : List Cell) (links : Links) (s : IsStoredByKey keys cells links) (x y : ℕ)
     (l : is_live keys x ≡ true) (m : is_live keys y ≡ true)
     (new : Links) (cut : IsCut (key_of keys x) (key_of keys y) links new) where
   key-without : (c : ℕ)
@@ -330,8 +330,8 @@ module _ (keys : List ℕ) (cells : List Cell) (links : Links) (s : IsKeptByKey 
       key-stays (code_at cells k) (ap₂ (λ a b. a || b) (code-test keys cells links s x k l e ∙ n.0)
       (code-test keys cells links s y k m e ∙ n.1)) ∙ e
 
-  pub kept-left : IsKeptByKey (keys_without keys x y) cells new
-  kept-left = record {
+  pub stored-left : IsStoredByKey (keys_without keys x y) cells new
+  stored-left = record {
     listed = cut.listed;
     small = subst (λ w. w ≤ no_key) (sym cut.width) s.small;
     whole = s.whole ∙ sym cut.width;
@@ -399,7 +399,7 @@ module _ (keys : List ℕ) (cells : List Cell) (links : Links) (s : IsKeptByKey 
       old : (c d : ℕ) → is_live keys c ≡ true → is_live keys d ≡ true
           → has_arrow links (key_of keys c) (key_of keys d) ≡ arrow (slice_complex (slice_of keys cells links)) c d
       old c d u v =
-          sym (arrow-kept keys cells links s c d
+          sym (arrow-stored keys cells links s c d
           ∙ ap (λ b. b && has_arrow links (key_of keys c) (key_of keys d))
           (and_from (is_live keys c) (is_live keys d) u v))
 
@@ -407,8 +407,8 @@ module _ (keys : List ℕ) (cells : List Cell) (links : Links) (s : IsKeptByKey 
   not-live : (c d : ℕ) → (is_live keys c && is_live keys d) ≡ false
       → (old_arrow c d ⊻ (old_arrow c y && old_arrow x d)) ≡ false
   not-live c d e =
-      (λ i. arrow-kept keys cells links s c d i
-      ⊻ (arrow-kept keys cells links s c y i && arrow-kept keys cells links s x d i))
+      (λ i. arrow-stored keys cells links s c d i
+      ⊻ (arrow-stored keys cells links s c y i && arrow-stored keys cells links s x d i))
       ∙ by (is_live keys c) (is_live keys d) (is_live keys x) (is_live keys y)
       (has_arrow links (key_of keys c) (key_of keys d)) (has_arrow links (key_of keys c) (key_of keys y))
       (has_arrow links (key_of keys x) (key_of keys d)) e
@@ -430,7 +430,7 @@ module _ (keys : List ℕ) (cells : List Cell) (links : Links) (s : IsKeptByKey 
   arrow-left : (c d : ℕ)
       → arrow (slice_complex (slice_of (keys_without keys x y) cells new)) c d
       ≡ (not (is_one_of x y c) && ((old_arrow c d ⊻ (old_arrow c y && old_arrow x d)) && not (is_one_of x y d)))
-  arrow-left c d = arrow-kept (keys_without keys x y) cells new kept-left c d
+  arrow-left c d = arrow-stored (keys_without keys x y) cells new stored-left c d
       ∙ (λ i. (live-without c i && live-without d i)
       && has_arrow new (key_of (keys_without keys x y) c) (key_of (keys_without keys x y) d))
       ∙ by (is_one_of x y c) refl (is_one_of x y d) refl (is_live keys c) refl (is_live keys d) refl
@@ -534,7 +534,7 @@ pub record CanCancel (keys : List ℕ) (links : Links) (x y p q fills : ℕ) : T
   pub y_in : y < length keys
   pub room : length (others p (sources links q)) * length (others q (targets links p)) ≡ fills
 
-pub can_cancel : (keys : List ℕ) (cells : List Cell) (links : Links) (s : IsKeptByKey keys cells links) (x y p q : ℕ)
+pub can_cancel : (keys : List ℕ) (cells : List Cell) (links : Links) (s : IsStoredByKey keys cells links) (x y p q : ℕ)
     → arrow (slice_complex (slice_of keys cells links)) x y ≡ true → p ≡ key_of keys x → q ≡ key_of keys y
     → CanCancel keys links x y p q (fill (slice_of keys cells links) x y)
 can_cancel keys cells links s x y p q is e f =
@@ -547,33 +547,34 @@ can_cancel keys cells links s x y p q is e f =
       x_in = live-below keys x l.0;
       y_in = live-below keys y l.1;
       room = (λ i. length (others (e i) (sources links (f i))) * length (others (f i) (targets links (e i))))
-          ∙ sym (fill-kept keys cells links s x y l.0 l.1);
+          ∙ sym (fill-stored keys cells links s x y l.0 l.1);
     }
 
-pub kept_after : (keys : List ℕ) (cells : List Cell) (links new : Links) (cursor next : ℕ)
-    (k : IsKept keys cells links cursor) (x y : ℕ) (is : arrow (slice_complex (slice_of keys cells links)) x y ≡ true)
+pub stored_after : (keys : List ℕ) (cells : List Cell) (links new : Links) (cursor next : ℕ)
+    (k : IsStored keys cells links cursor) (x y : ℕ) (is : arrow (slice_complex (slice_of keys cells links)) x y ≡ true)
     → IsCut (key_of keys x) (key_of keys y) links new
     → next ≤ width new → ((j : ℕ) → cursor ≤ j → j < next → (head_at new.heads.items j).first_out ≡ no_id)
     → (next < width new → eqb (head_at new.heads.items next).first_out no_id ≡ false)
-    → IsKept (keys_without keys x y) cells new next
-kept_after keys cells links new cursor next k x y is cut within none some =
+    → IsStored (keys_without keys x y) cells new next
+stored_after keys cells links new cursor next k x y is cut within none some =
     let l = ends-live keys cells links k.by_key x y is in
     record {
-      by_key = kept-left keys cells links k.by_key x y l.0 l.1 new cut;
+      by_key = stored-left keys cells links k.by_key x y l.0 l.1 new cut;
       first = first-left keys cells links k.by_key x y l.0 l.1 new cut cursor next k.first within none some;
       rules = subst IsComplex (sym (left-is keys cells links k.by_key x y l.0 l.1 new cut k.rules is))
           (rules-left keys cells links k.by_key x y l.0 l.1 new cut k.rules is);
     }
 
 pub cancelled_after : (keys : List ℕ) (cells : List Cell) (links new : Links) (cursor : ℕ)
-    (k : IsKept keys cells links cursor) (x y : ℕ) (is : arrow (slice_complex (slice_of keys cells links)) x y ≡ true)
+    (k : IsStored keys cells links cursor) (x y : ℕ) (is : arrow (slice_complex (slice_of keys cells links)) x y ≡ true)
     → IsCut (key_of keys x) (key_of keys y) links new
     → slice_complex (slice_of (keys_without keys x y) cells new)
     ≡ cancelled (slice_complex (slice_of keys cells links)) x y
 cancelled_after keys cells links new cursor k x y is cut = let l = ends-live keys cells links k.by_key x y is in
     left-is keys cells links k.by_key x y l.0 l.1 new cut k.rules is
 
-pub rules_after : (keys : List ℕ) (cells : List Cell) (links : Links) (cursor : ℕ) (k : IsKept keys cells links cursor)
+pub rules_after : (keys : List ℕ) (cells : List Cell) (links : Links) (cursor : ℕ)
+    (k : IsStored keys cells links cursor)
     (x y : ℕ) (is : arrow (slice_complex (slice_of keys cells links)) x y ≡ true)
     → IsComplex (cancelled (slice_complex (slice_of keys cells links)) x y)
 rules_after keys cells links cursor k x y is =

@@ -3,7 +3,7 @@ pub mod LinkLemmas
 pub mod GraphLemmas
 pub mod WalkLemmas
 pub mod FillLemmas
-pub mod KeptLemmas
+pub mod StoredLemmas
 pub mod QueryLemmas
 pub mod CancelLemmas
 pub mod GridPartLemmas

@@ -9,9 +9,9 @@ use Rattle.sparse_complex.specs.declared.links.Links.{Links}
 use Rattle.sparse_complex.specs.declared.slices.Cell.{Cell}
 use Rattle.sparse_complex.specs.Slices.{ListsCells}
 use Rattle.sparse_complex.specs.Inner.Graph.{no_cell, code_at}
-use Rattle.sparse_complex.specs.Inner.Kept.{key_of, is_live, maslov_at, slice_of, IsKeptByKey, ListsLive}
+use Rattle.sparse_complex.specs.Inner.Stored.{key_of, is_live, maslov_at, slice_of, IsStoredByKey, ListsLive}
 use Rattle.sparse_complex.proofs.GraphLemmas.{lt_or_eq}
-use Rattle.sparse_complex.proofs.KeptLemmas.{live_is, degree-live, degree-slice_of}
+use Rattle.sparse_complex.proofs.StoredLemmas.{live_is, degree-live, degree-slice_of}
 
 -- an optional value that is there, under a test
 some_if : (b : Bool) (m n : ℤ) → cond b (Some m) None ≡ Some n → (b ≡ true) × (m ≡ n)
@@ -89,7 +89,7 @@ module _ (keys : List ℕ) (cells : List Cell) where
         ]
 
 -- all live cells are the cells of the slice
-pub ListsCells-live : (keys : List ℕ) (cells : List Cell) (links : Links) (s : IsKeptByKey keys cells links)
+pub ListsCells-live : (keys : List ℕ) (cells : List Cell) (links : Links) (s : IsStoredByKey keys cells links)
     (live : List Cell)
     → ListsLive keys cells (length cells) live → ListsCells (slice_complex (slice_of keys cells links)) live
 unfolding maslov_at code_at

@@ -14,10 +14,10 @@ use Rattle.sparse_complex.specs.declared.slices.Cell.{Cell}
 use Rattle.sparse_complex.specs.Slices.{ListsOnce, ListsSome}
 use Rattle.sparse_complex.specs.Inner.Lists.{among, AreDistinct}
 use Rattle.sparse_complex.specs.Inner.Graph.{width, targets, sources, has_arrow, code_at, IsPrefix}
-use Rattle.sparse_complex.specs.Inner.Kept.{key_of, is_live, slice_of, IsKeptByKey, IsFirst}
+use Rattle.sparse_complex.specs.Inner.Stored.{key_of, is_live, slice_of, IsStoredByKey, IsFirst}
 use Rattle.sparse_complex.proofs.ListLemmas.{same_test, in_head, in_tail, in_cases}
 use Rattle.sparse_complex.proofs.GraphLemmas.{among-map, among-of_map, AreDistinct-map, has_arrow-targets, has_arrow-sources, has_arrow-from, distinct-targets, distinct-sources}
-use Rattle.sparse_complex.proofs.KeptLemmas.{arrow-keys, ends-live}
+use Rattle.sparse_complex.proofs.StoredLemmas.{arrow-keys, ends-live}
 
 -- ---- membership in two spellings
 pub Contains-among : (xs : List ℕ) (c : ℕ) → among c xs ≡ true → Contains xs c
@@ -52,7 +52,7 @@ pub ListsOnce-none : (test : ℕ → Bool) → ((c : ℕ) → test c ≡ false) 
 ListsOnce-none test none = ListsOnce-distinct [] test tt (λ c. sym (none c))
 
 -- ---- sources and targets
-module _ (keys : List ℕ) (cells : List Cell) (links : Links) (s : IsKeptByKey keys cells links) where
+module _ (keys : List ℕ) (cells : List Cell) (links : Links) (s : IsStoredByKey keys cells links) where
   -- keys that have arrows differ where their codes are one
   codes-distinct : (ks : List ℕ) → ((k : ℕ) → among k ks ≡ true → key_of keys (code_at cells k) ≡ k) → AreDistinct ks
       → AreDistinct (map (code_at cells) ks)

@@ -6,7 +6,7 @@ ghost use Rattle.f2_algebra.specs.Slice.{slice_complex, IsSlice};
 ghost use Rattle.sparse_complex.specs.Slices.{ListsOnce, ListsSome, ListsCells, fill};
 ghost use Rattle.sparse_complex.specs.Inner.Lists.{no_id, head_at};
 ghost use Rattle.sparse_complex.specs.Inner.Graph.{width};
-ghost use Rattle.sparse_complex.specs.Inner.Kept.{key_of, no_key, slice_of, IsKeptByKey, ListsLive};
+ghost use Rattle.sparse_complex.specs.Inner.Stored.{key_of, no_key, slice_of, IsStoredByKey, ListsLive};
 
 use crate::links::Links;
 use grid_ports::NoMemory;
@@ -52,20 +52,20 @@ impl Model for AlexSlice {
 
     ghost coded = { state_code };
 
-    ghost use Rattle.sparse_complex.specs.Inner.Kept.{slice_of, IsKept};
+    ghost use Rattle.sparse_complex.specs.Inner.Stored.{slice_of, IsStored};
 
     ghost view = { λ s. record {
       slice = slice_of s.keys.items s.cells.items s.links;
       spare = s.links.pool.spare;
     } };
 
-    ghost invariant = { λ s. IsKept s.keys.items s.cells.items s.links s.cursor };
+    ghost invariant = { λ s. IsStored s.keys.items s.cells.items s.links s.cursor };
 }
 
 impl AlexSlice {
     // The slice of these parts.
     pub(crate) fn of_parts(keys: Vec<u32>, cells: Vec<Cell>, links: Links) -> AlexSlice
-        requires by_key { IsKeptByKey keys.items cells.items links }
+        requires by_key { IsStoredByKey keys.items cells.items links }
         requires rules { IsSlice (slice_of keys.items cells.items links) }
         ensures { result.slice ≡ slice_of keys.items cells.items links }
     {

@@ -10,7 +10,7 @@ use Rattle.f2_algebra.specs.Complex.{Complex, arrow}
 use Rattle.sparse_complex.specs.declared.links.Links.{Links}
 use Rattle.sparse_complex.specs.declared.slices.Cell.{Cell}
 use Rattle.sparse_complex.specs.Inner.Graph.{AreListed, width, has_arrow, code_at}
-use Rattle.sparse_complex.specs.Inner.Kept.{no_key, key_of, is_live}
+use Rattle.sparse_complex.specs.Inner.Stored.{no_key, key_of, is_live}
 
 -- how many cells have the code
 abbrev pub count_of : ℕ → List Cell → ℕ

@@ -6,7 +6,7 @@ use Rattle.state_rank.specs.States.{factorial}
 use Rattle.torus_geom.specs.Marks.{size}
 use Rattle.torus_geom.specs.GridComplex.{grid_complex}
 use Rattle.sparse_complex.specs.Inner.Graph.{code_at}
-use Rattle.sparse_complex.specs.Inner.Kept.{no_key}
+use Rattle.sparse_complex.specs.Inner.Stored.{no_key}
 use Rattle.sparse_complex.proofs.BuildLemmas.{KeysPlace, keys-start, keys-step, keys-end, factorial_fits}
 use Rattle.sparse_complex.proofs.builds.keys_of.Goals as goal
 

@@ -12,8 +12,8 @@ use Rattle.f2_algebra.specs.Chain.{codes}
 use Rattle.torus_geom.specs.GridComplex.{grid_complex}
 use Rattle.sparse_complex.specs.Inner.Lists.{among}
 use Rattle.sparse_complex.specs.Inner.Graph.{code_at, width, has_arrow, IsLinked}
-use Rattle.sparse_complex.specs.Inner.Kept.{is_live}
-use Rattle.sparse_complex.proofs.KeptLemmas.{key_read_zero}
+use Rattle.sparse_complex.specs.Inner.Stored.{is_live}
+use Rattle.sparse_complex.proofs.StoredLemmas.{key_read_zero}
 use Rattle.sparse_complex.proofs.CancelLemmas.{live-below}
 use Rattle.sparse_complex.proofs.BuildLemmas.{ArrowsPlace, arrows-start, arrows-step, arrows-end, source-in, target-in, not-yet, all-targets, target-live, target-fresh, read-more}
 use Rattle.sparse_complex.proofs.builds.push_arrows.Goals as goal

@@ -1,7 +1,7 @@
 -- A cell whose code leads back to it is one more.
 use Rattle.std.proofs.Common.{◌+◌, get_or, refl, sym, subst, ◌∙◌}
 use Rattle.sparse_complex.specs.Inner.Graph.{no_cell}
-use Rattle.sparse_complex.specs.Inner.Kept.{ListsLive}
+use Rattle.sparse_complex.specs.Inner.Stored.{ListsLive}
 use Rattle.sparse_complex.proofs.LiveLemmas.{ListsLive-more, ListsLive-same}
 use Rattle.sparse_complex.proofs.slices.live_among.Goals as goal
 use Rattle.sparse_complex.proofs.slices.live_among.Goals.{then-find_key-key+in_ok-push, else-find_key-key}

@@ -1,5 +1,5 @@
 -- The live cells among those that were looked at.
-use Rattle.sparse_complex.specs.Inner.Kept.{ListsLive}
+use Rattle.sparse_complex.specs.Inner.Stored.{ListsLive}
 use Rattle.sparse_complex.proofs.slices.live_among.Given as goal
 
 abbrev pub invariant-loop-key : goal.invariant-loop-key

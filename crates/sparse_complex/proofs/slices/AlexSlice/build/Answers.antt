@@ -11,7 +11,7 @@ use Rattle.torus_geom.specs.GridComplex.{grid_complex}
 use Rattle.sparse_complex.specs.declared.slices.Cell.{Cell}
 use Rattle.sparse_complex.specs.Inner.Built.{AreCells, AreKeys, AreLinksBelow}
 use Rattle.sparse_complex.proofs.GridPartLemmas.{part_rules, no_cell_past}
-use Rattle.sparse_complex.proofs.BuildLemmas.{kept-built, built-is, built-rules}
+use Rattle.sparse_complex.proofs.BuildLemmas.{stored-built, built-is, built-rules}
 use Rattle.sparse_complex.proofs.slices.AlexSlice.build.Goals as goal
 
 pub of_parts-requires-clause-by_key : goal.of_parts-requires-clause-by_key
@@ -28,7 +28,7 @@ of_parts-requires-clause-by_key c =
     (length c.in_ok-cells.cells.items) c.in_ok-links.links) (to_z-of_z w32 c.args.a fits)
     (subst (λ (cs : List Cell). AreLinksBelow (at_second (to_z w32 (of_z w32 c.args.a)) (grid_complex c.args.g.now)) cs
     (length cs) c.in_ok-links.links) c.deref-3.ensures.value c.in_ok-links.ensures) in
-    kept-built (at_second c.args.a (grid_complex c.args.g.now)) (factorial (size c.args.g.now))
+    stored-built (at_second c.args.a (grid_complex c.args.g.now)) (factorial (size c.args.g.now))
     (part_rules c.args.g.now c.args.a c.size-size.ensures.grid) refl
     (no_cell_past c.args.g.now c.args.a) c.in_ok-cells.cells.items cells c.in_ok-keys.keys.items keys
     c.in_ok-links.links links

@@ -5,8 +5,8 @@ use Rattle.f2_algebra.specs.Cancel.{cancelled}
 use Rattle.f2_algebra.specs.Slice.{slice_complex}
 use Rattle.f2_algebra.proofs.Cancelling.Cancellation.{cancelled_IsComplex}
 use Rattle.sparse_complex.specs.Slices.{fill}
-use Rattle.sparse_complex.specs.Inner.Kept.{key_of, slice_of}
-use Rattle.sparse_complex.proofs.CancelLemmas.{can_cancel, IsCut, IsCut-cleared, kept_after, cancelled_after, rules_after}
+use Rattle.sparse_complex.specs.Inner.Stored.{key_of, slice_of}
+use Rattle.sparse_complex.proofs.CancelLemmas.{can_cancel, IsCut, IsCut-cleared, stored_after, cancelled_after, rules_after}
 use Rattle.sparse_complex.proofs.slices.AlexSlice.cancel.Goals as goal
 
 pub fill-requires-clause-ends : goal.fill-requires-clause-ends
@@ -133,7 +133,7 @@ invariant_of-self c =
     (IsCut-cleared c.find_key-from.result c.find_key-to.result c.self.inside.links c.fill.new.self c.clear_out.new.self
     c.clear_in.new.self c.clear_out-2.new.self c.clear_in-2.new.self
     c.fill.ensures c.clear_out.ensures c.clear_in.ensures c.clear_out-2.ensures c.clear_in-2.ensures) in
-    kept_after c.self.inside.keys.items c.self.inside.cells.items c.self.inside.links c.clear_in-2.new.self
+    stored_after c.self.inside.keys.items c.self.inside.cells.items c.self.inside.links c.clear_in-2.new.self
     c.self.inside.cursor c.first_with_arrow-self-inside.result c.self.invariant c.args.x c.args.y is cut
     c.first_with_arrow-self-inside.ensures.within.1 c.first_with_arrow-self-inside.ensures.none_before
     c.first_with_arrow-self-inside.ensures.some_here

@@ -3,8 +3,8 @@ use Rattle.std.proofs.Common.{sym, ap, ap₂, ◌∙◌}
 use Rattle.f2_algebra.specs.Complex.{arrow}
 use Rattle.f2_algebra.specs.Slice.{slice_complex}
 use Rattle.sparse_complex.specs.Inner.Graph.{has_arrow}
-use Rattle.sparse_complex.specs.Inner.Kept.{key_of}
-use Rattle.sparse_complex.proofs.KeptLemmas.{no_arrow-from, no_arrow-to, arrow-live, live_is}
+use Rattle.sparse_complex.specs.Inner.Stored.{key_of}
+use Rattle.sparse_complex.proofs.StoredLemmas.{no_arrow-from, no_arrow-to, arrow-live, live_is}
 use Rattle.sparse_complex.proofs.GraphLemmas.{found-has_arrow}
 use Rattle.sparse_complex.proofs.slices.AlexSlice.is_arrow.Goals as goal
 

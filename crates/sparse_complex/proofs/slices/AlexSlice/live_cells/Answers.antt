@@ -4,7 +4,7 @@ use Rattle.std.proofs.lemmas.Result.{IfOk-weaker}
 use Rattle.f2_algebra.specs.Slice.{slice_complex}
 use Rattle.sparse_complex.specs.declared.slices.Cell.{Cell}
 use Rattle.sparse_complex.specs.Slices.{ListsCells}
-use Rattle.sparse_complex.specs.Inner.Kept.{ListsLive}
+use Rattle.sparse_complex.specs.Inner.Stored.{ListsLive}
 use Rattle.sparse_complex.proofs.LiveLemmas.{ListsCells-live}
 use Rattle.sparse_complex.proofs.slices.AlexSlice.live_cells.Goals as goal
 

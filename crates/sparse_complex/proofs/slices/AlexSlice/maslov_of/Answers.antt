@@ -4,8 +4,8 @@ use mir.Val.{SFits}
 use Rattle.std.proofs.lemmas.Int.{to_z-of_z}
 use Rattle.f2_algebra.specs.Slice.{slice_complex, IsSlice}
 use Rattle.sparse_complex.specs.Inner.Graph.{width}
-use Rattle.sparse_complex.specs.Inner.Kept.{key_of, maslov_at}
-use Rattle.sparse_complex.proofs.KeptLemmas.{degree-live, degree-none, live_is, maslov_read}
+use Rattle.sparse_complex.specs.Inner.Stored.{key_of, maslov_at}
+use Rattle.sparse_complex.proofs.StoredLemmas.{degree-live, degree-none, live_is, maslov_read}
 use Rattle.sparse_complex.proofs.slices.AlexSlice.maslov_of.Goals as goal
 
 pub returns-then-key-clause-degree : goal.returns-then-key-clause-degree

@@ -3,8 +3,8 @@ use Rattle.std.proofs.Common.{◌≡◌, ◌≤◌, ◌*◌, length, sym, ap, ap
 use Rattle.std.proofs.lemmas.Result.{on_ok_weaker}
 use Rattle.sparse_complex.specs.Slices.{fill}
 use Rattle.sparse_complex.specs.Inner.Graph.{sources, targets}
-use Rattle.sparse_complex.specs.Inner.Kept.{key_of}
-use Rattle.sparse_complex.proofs.KeptLemmas.{live_is, kept-reserved, slice_of-reserved}
+use Rattle.sparse_complex.specs.Inner.Stored.{key_of}
+use Rattle.sparse_complex.proofs.StoredLemmas.{live_is, stored-reserved, slice_of-reserved}
 use Rattle.sparse_complex.proofs.CancelLemmas.{room-from, room-to, room-enough}
 use Rattle.sparse_complex.proofs.slices.AlexSlice.reserve_for.Goals as goal
 
@@ -24,7 +24,7 @@ returns-then-to-clause-room c =
 
 pub invariant_of-self : goal.invariant_of-self
 invariant_of-self c =
-    kept-reserved c.self.inside.keys.items c.self.inside.cells.items c.self.inside.links c.reserve.new.self
+    stored-reserved c.self.inside.keys.items c.self.inside.cells.items c.self.inside.links c.reserve.new.self
     c.self.inside.cursor c.reserve.ensures.nodes c.reserve.ensures.heads c.self.invariant
 
 pub returns-clause-room : goal.returns-clause-room

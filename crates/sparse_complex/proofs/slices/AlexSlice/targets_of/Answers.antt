@@ -5,8 +5,8 @@ use Rattle.f2_algebra.specs.Complex.{arrow}
 use Rattle.f2_algebra.specs.Slice.{slice_complex}
 use Rattle.sparse_complex.specs.Slices.{ListsOnce}
 use Rattle.sparse_complex.specs.Inner.Graph.{targets, code_at, IsPrefix}
-use Rattle.sparse_complex.specs.Inner.Kept.{key_of}
-use Rattle.sparse_complex.proofs.KeptLemmas.{no_arrow-from, live_is}
+use Rattle.sparse_complex.specs.Inner.Stored.{key_of}
+use Rattle.sparse_complex.proofs.StoredLemmas.{no_arrow-from, live_is}
 use Rattle.sparse_complex.proofs.QueryLemmas.{ListsOnce-none, ListsOnce-targets, ListsSome-prefix}
 use Rattle.sparse_complex.proofs.slices.AlexSlice.targets_of.Goals as goal
 

@@ -1,4 +1,4 @@
--- How a slice is kept: a key for each code that is live, a cell for each key, and arrows between keys.
+-- How a slice is stored: a key for each code that is live, a cell for each key, and arrows between keys.
 --     no_key                            what stands for the key of a code that is not live
 --     key_of keys c                     the key of a code, or `no_key`
 --     is_live keys c                    the code has a key
@@ -8,11 +8,11 @@
 --     IsLiveKey keys cells k            the code of the key k has the key k
 --     ListsLive keys cells k live       `live` has the cells before the place k whose codes have their
 --                                       places as keys, each code once
---     IsKeptByKey keys cells links      live codes have keys that lead back to them, and only such keys
+--     IsStoredByKey keys cells links    live codes have keys that lead back to them, and only such keys
 --                                       have arrows
 --     IsFirst links cursor              no key before the cursor has an arrow out, and that at the cursor
 --                                       has one, unless the cursor is past the last key
---     IsKept keys cells links cursor    these, and the slice keeps the two rules of a complex
+--     IsStored keys cells links cursor  these, and the slice keeps the two rules of a complex
 use Rattle.std.specs.Prelude.{◌≡◌, ◌≢◌, ◌↔◌, ℕ, zero, suc, ℤ, ◌<◌, ◌≤◌, Bool, true, false, not, cond, eqb, List, [], ◌∷◌, map, length, get_or}
 use Rattle.std.specs.List.{Contains, AllPairs}
 use Rattle.std.specs.FinMap as fin
@@ -61,7 +61,7 @@ pub record ListsLive (keys : List ℕ) (cells : List Cell) (k : ℕ) (live : Lis
   pub once : AllPairs (λ b c. b.code ≢ c.code) live
 
 -- all but the rules
-pub record IsKeptByKey (keys : List ℕ) (cells : List Cell) (links : Links) : Type 0 where
+pub record IsStoredByKey (keys : List ℕ) (cells : List Cell) (links : Links) : Type 0 where
   pub listed : AreListed links
   pub small : width links ≤ no_key
   pub whole : length cells ≡ width links
@@ -74,7 +74,7 @@ pub record IsFirst (links : Links) (cursor : ℕ) : Type 0 where
   pub none_before : (p q : ℕ) → p < cursor → has_arrow links p q ≡ false
   pub some_here : cursor < width links → eqb (head_at links.heads.items cursor).first_out no_id ≡ false
 
-pub record IsKept (keys : List ℕ) (cells : List Cell) (links : Links) (cursor : ℕ) : Type 0 where
-  pub by_key : IsKeptByKey keys cells links
+pub record IsStored (keys : List ℕ) (cells : List Cell) (links : Links) (cursor : ℕ) : Type 0 where
+  pub by_key : IsStoredByKey keys cells links
   pub first : IsFirst links cursor
   pub rules : IsSlice (slice_of keys cells links)

@@ -12,7 +12,7 @@ use Rattle.sparse_complex.specs.declared.links.Links.{Links}
 use Rattle.sparse_complex.specs.declared.slices.Cell.{Cell}
 use Rattle.sparse_complex.specs.Inner.Lists.{no_id, among, node_at, head_at, outs}
 use Rattle.sparse_complex.specs.Inner.Graph.{width, targets, has_arrow, no_cell, code_at}
-use Rattle.sparse_complex.specs.Inner.Kept.{no_key, key_of, is_live, maslov_at, target_codes, entry_of, entries_below, slice_of, IsLiveKey, IsKeptByKey, IsKept}
+use Rattle.sparse_complex.specs.Inner.Stored.{no_key, key_of, is_live, maslov_at, target_codes, entry_of, entries_below, slice_of, IsLiveKey, IsStoredByKey, IsStored}
 use Rattle.sparse_complex.proofs.ListLemmas.{same_test}
 use Rattle.sparse_complex.proofs.LinkLemmas.{AreInLists-same}
 use Rattle.sparse_complex.proofs.GraphLemmas.{among-map, among-of_map, has_arrow-targets, has_arrow-from, has_arrow-to}
@@ -125,16 +125,16 @@ not-false true h = sym h
 not-false false h = refl
 
 -- ---- what is kept
-module _ (keys : List ℕ) (cells : List Cell) (links : Links) (s : IsKeptByKey keys cells links) where
+module _ (keys : List ℕ) (cells : List Cell) (links : Links) (s : IsStoredByKey keys cells links) where
   -- a key that leads back to itself is the key of a live code
   pub live-code : (p : ℕ) → p < width links → IsLiveKey keys cells p → is_live keys (code_at cells p) ≡ true
   live-code p l e = let sm = s.small in ap not (ap (λ k. eqb k no_key) e ∙ ne_eqb p no_key (λ h. omega arith))
 
   -- the arrows of the slice are those between the keys
-  pub arrow-kept : (c d : ℕ)
+  pub arrow-stored : (c d : ℕ)
       → arrow (slice_complex (slice_of keys cells links)) c d
       ≡ ((is_live keys c && is_live keys d) && has_arrow links (key_of keys c) (key_of keys d))
-  arrow-kept c d = arrow-slice_of keys cells links c d ∙ by (is_live keys c) refl
+  arrow-stored c d = arrow-slice_of keys cells links c d ∙ by (is_live keys c) refl
     where
       forth : is_live keys c ≡ true → among d (map (code_at cells) (targets links (key_of keys c))) ≡ true
           → (is_live keys d && has_arrow links (key_of keys c) (key_of keys d)) ≡ true
@@ -167,7 +167,7 @@ module _ (keys : List ℕ) (cells : List Cell) (links : Links) (s : IsKeptByKey 
       → arrow (slice_complex (slice_of keys cells links)) (code_at cells p) (code_at cells q) ≡ true
   arrow-keys p q h =
       let e = s.ends p q h in
-      arrow-kept (code_at cells p) (code_at cells q)
+      arrow-stored (code_at cells p) (code_at cells q)
       ∙ and_from (is_live keys (code_at cells p) && is_live keys (code_at cells q))
       (has_arrow links (key_of keys (code_at cells p)) (key_of keys (code_at cells q)))
       (and_from (is_live keys (code_at cells p)) (is_live keys (code_at cells q))
@@ -177,7 +177,7 @@ module _ (keys : List ℕ) (cells : List Cell) (links : Links) (s : IsKeptByKey 
   -- of live codes
   pub arrow-live : (c d : ℕ) → is_live keys c ≡ true → is_live keys d ≡ true
       → arrow (slice_complex (slice_of keys cells links)) c d ≡ has_arrow links (key_of keys c) (key_of keys d)
-  arrow-live c d l m = arrow-kept c d
+  arrow-live c d l m = arrow-stored c d
       ∙ ap (λ b. b && has_arrow links (key_of keys c) (key_of keys d)) (and_from (is_live keys c) (is_live keys d) l m)
 
   -- both ends of an arrow are live
@@ -185,18 +185,18 @@ module _ (keys : List ℕ) (cells : List Cell) (links : Links) (s : IsKeptByKey 
       → (is_live keys c ≡ true) × (is_live keys d ≡ true) × (has_arrow links (key_of keys c) (key_of keys d) ≡ true)
   ends-live c d h =
       let p = and_parts (is_live keys c && is_live keys d) (has_arrow links (key_of keys c) (key_of keys d))
-      (sym (arrow-kept c d) ∙ h) in
+      (sym (arrow-stored c d) ∙ h) in
       let q = and_parts (is_live keys c) (is_live keys d) p.0 in
       (q.0, q.1, p.1)
 
   -- a code that is not live has no arrow
   pub no_arrow-from : (c d : ℕ) → key_of keys c ≡ no_key → arrow (slice_complex (slice_of keys cells links)) c d ≡ false
-  no_arrow-from c d e = arrow-kept c d
+  no_arrow-from c d e = arrow-stored c d
       ∙ ap (λ b. (not b && is_live keys d) && has_arrow links (key_of keys c) (key_of keys d))
       (eq-eqb (key_of keys c) no_key e)
 
   pub no_arrow-to : (c d : ℕ) → key_of keys d ≡ no_key → arrow (slice_complex (slice_of keys cells links)) c d ≡ false
-  no_arrow-to c d e = arrow-kept c d
+  no_arrow-to c d e = arrow-stored c d
       ∙ ap (λ b. (is_live keys c && not b) && has_arrow links (key_of keys c) (key_of keys d))
       (eq-eqb (key_of keys d) no_key e) ∙ none (is_live keys c) (has_arrow links (key_of keys c) (key_of keys d))
     where
@@ -273,9 +273,10 @@ slice_of-reserved keys cells old new nodes heads = ap fin.from_entries (entries 
             ) ∷ e i
         by false e = e
 
-pub kept-reserved : (keys : List ℕ) (cells : List Cell) (old new : Links) (cursor : ℕ) → new.pool.nodes ≡ old.pool.nodes
-    → new.heads.items ≡ old.heads.items → IsKept keys cells old cursor → IsKept keys cells new cursor
-kept-reserved keys cells old new cursor nodes heads k = record {
+pub stored-reserved : (keys : List ℕ) (cells : List Cell) (old new : Links) (cursor : ℕ)
+    → new.pool.nodes ≡ old.pool.nodes
+    → new.heads.items ≡ old.heads.items → IsStored keys cells old cursor → IsStored keys cells new cursor
+stored-reserved keys cells old new cursor nodes heads k = record {
   by_key = record {
     listed = AreInLists-same _ _ _ _ nodes heads k.by_key.listed;
     small = subst (λ hs. length hs ≤ no_key) (sym heads) k.by_key.small;
