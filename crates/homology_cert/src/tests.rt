@@ -1,4 +1,4 @@
-use crate::rank_table;
+use crate::{make_cert, print_cert, rank_table};
 use hat_division::TableRow;
 use std::test::Fail;
 use torus_geom::Grid;
@@ -14,5 +14,17 @@ fn tables_of_the_unknot(rt: HostRuntime) -> Result<(), Fail> {
     let table = rank_table(rt.alloc(), &large).ok().ok_or("memory")?;
     let rows = [row(0, 0, 1), row(-1, -1, 2), row(-2, -2, 1)];
     assert_eq!(rt; table.rows(), rows.as_slice());
+    Ok(())
+}
+
+/// The only certificate of the smallest grid.
+#[test]
+fn certificate_of_the_smallest_grid(rt: HostRuntime) -> Result<(), Fail> {
+    let g = Grid::of(&[1, 0], &[0, 1]).ok().ok_or("grid")?;
+    let cert = make_cert(rt.alloc(), &g).ok().ok_or("memory")?;
+    let text = print_cert(rt.alloc(), &cert).ok().ok_or("memory")?;
+    let cells = "cell 0 0\ncycle 01\ncocycle 01\ncell -1 -1\ncycle 10\ncocycle 10\n";
+    let whole = format!(in rt.alloc(); "gridcert 1\ngrid 2\nO 1 0\nX 0 1\n{cells}end\n")?;
+    assert_eq!(rt; text.as_slice(), whole.as_bytes());
     Ok(())
 }
