@@ -2,7 +2,7 @@
 ghost use Rattle.std.specs.Prelude.{◌≡◌, ◌≢◌, ◌+◌, ◌≤◌, Some, length, drop, IfOk, IfSome};
 ghost use Rattle.grid_ports.specs.Faults.{count_up};
 ghost use Rattle.homology_cert.specs.CertificateTests.{verdict_of};
-ghost use Rattle.grid_job.specs.Checked.{max_certificate, test_word as test_word_of, yes_line, no_line as no_line_of};
+ghost use Rattle.grid_job.specs.Checked.{max_certificate, test_word as test_word_of, no_line as no_line_of};
 ghost use Rattle.grid_job.specs.Outcome.{IsOutcome, IsEnd};
 ghost use Rattle.grid_job.specs.Inner.Written.{HasWritten, Tells, TellsVerdict};
 
