@@ -1,15 +1,14 @@
 -- The certificate of the grid of a document, and the outcomes of `cert`.
-use Rattle.std.proofs.Common.{◌≡◌, ℕ, ◌<◌, ◌≤◌, List, length, codes, Option, refl, sym, ap, subst, ◌∙◌, inl, inr, arith}
+use Rattle.std.proofs.Common.{◌≡◌, ℕ, ◌<◌, ◌≤◌, List, length, Option, refl, sym, ap, subst, inl, inr, arith}
 use Rattle.torus_geom.specs.Marks.{Marks, size, IsGrid}
 use Rattle.grid_text.specs.Document.{IsDocument, IsHeadLine}
 use Rattle.grid_text.specs.Limits.{max_text}
-use Rattle.grid_text.specs.Script.{GridScript, grid_in_force}
+use Rattle.grid_text.specs.Script.{GridScript}
 use Rattle.grid_text.specs.Words.{words_of_lines}
 use Rattle.homology_cert.specs.Certificates.{Certificate, IsCertificate}
 use Rattle.homology_cert.specs.CertificateTests.{verdict_of}
 use Rattle.homology_cert.specs.CertificateText.{certificate_text}
 use Rattle.homology_cert.specs.declared.verdicts.CertVerdict.TheVariants.{Yes}
-use Rattle.report_text.specs.Lines.{refused_line}
 use Rattle.grid_job.specs.Certified.{IsCertificateText}
 use Rattle.homology_cert.specs.CertificateLimits.{max_certificate}
 use Rattle.grid_job.specs.Checked.{yes_line}
@@ -17,7 +16,7 @@ use Rattle.grid_job.specs.Outcome.{IsOutcome}
 use Rattle.grid_job.specs.Inner.Written.{HasWritten, IsAnswerOfGrid}
 use Rattle.grid_job.specs.declared.modes.Mode.TheVariants.{Cert, Check}
 use Rattle.grid_job.specs.declared.statuses.Status.{Status}
-use Rattle.grid_job.specs.declared.statuses.Status.TheVariants.{Done, Refused, NoMemory}
+use Rattle.grid_job.specs.declared.statuses.Status.TheVariants.{Done, NoMemory}
 use Rattle.homology_cert.proofs.MakingLaws.{exists_certificate}
 use Rattle.grid_job.proofs.WrittenLemmas.{HasWritten-weaker, HasWritten-nothing}
 

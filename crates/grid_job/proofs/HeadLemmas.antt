@@ -1,5 +1,5 @@
 -- The head of a document begins at one of its lines: the first that is not blank.
-use Rattle.std.proofs.Common.{◌≡◌, ◌⊎◌, ℕ, ◌+◌, List, [], ◌∷◌, length, true, refl, sym, ap, subst, inl, inr, arith}
+use Rattle.std.proofs.Common.{◌≡◌, ℕ, ◌+◌, List, [], ◌∷◌, true, refl, sym, ap, subst, inl, inr, arith}
 use Rattle.std.proofs.lemmas.List.Elements.{All-nil, All-cons}
 use Rattle.grid_text.specs.Words.{Word, is_blank}
 use Rattle.grid_text.specs.Document.{Place, head, ended, LeadsOn, Path, IsHeadLine}

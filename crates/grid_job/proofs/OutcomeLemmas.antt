@@ -1,7 +1,7 @@
 -- Each text has an outcome in each mode, and all outcomes of a text have one status.
-use Rattle.std.proofs.Common.{◌≡◌, ◌⊎◌, ℕ, ◌+◌, ◌<◌, ◌≤◌, List, length, map, nat_lt, false, refl, sym, ap, subst, ◌∙◌, inl, inr, arith}
+use Rattle.std.proofs.Common.{◌≡◌, ◌⊎◌, ℕ, ◌<◌, ◌≤◌, List, length, map, nat_lt, false, refl, sym, ap, ◌∙◌, inl, inr, arith}
 use Rattle.std.proofs.lemmas.Bool.{cases_Bool, ltb-true}
-use Rattle.torus_geom.specs.Marks.{Marks, size}
+use Rattle.torus_geom.specs.Marks.{size}
 use Rattle.grid_text.specs.Words.{lines_of, words_of, words_of_lines}
 use Rattle.grid_text.specs.Document.{head, ended, IsDocument}
 use Rattle.grid_text.specs.Script.{GridScript, IsScript, grid_in_force}
@@ -24,7 +24,7 @@ use Rattle.grid_job.specs.Outcome.{IsForm, IsTooLong, IsRefusal, IsReported, IsO
 use Rattle.grid_job.specs.declared.modes.Mode.{Mode}
 use Rattle.grid_job.specs.declared.modes.Mode.TheVariants.{Run, Cert, Check, Make}
 use Rattle.grid_job.specs.declared.statuses.Status.{Status}
-use Rattle.grid_job.specs.declared.statuses.Status.TheVariants.{Done, Usage, Refused, ReadFault, WriteFault, NoMemory, No}
+use Rattle.grid_job.specs.declared.statuses.Status.TheVariants.{Done, Refused, No}
 use Rattle.homology_cert.proofs.DecisionLemmas.{some_answer}
 use Rattle.homology_cert.proofs.MakingLaws.{exists_certificate}
 use Rattle.homology_cert.proofs.ReadLemmas.{one_certificate}

@@ -3,7 +3,7 @@ ghost use Rattle.std.specs.Prelude.{◌≡◌, ◌≢◌, ◌+◌, ◌≤◌, So
 ghost use Rattle.grid_ports.specs.Faults.{count_up};
 ghost use Rattle.homology_cert.specs.CertificateTests.{verdict_of};
 ghost use Rattle.homology_cert.specs.CertificateLimits.{max_certificate};
-ghost use Rattle.grid_job.specs.Checked.{test_word as test_word_of, yes_line, no_line as no_line_of};
+ghost use Rattle.grid_job.specs.Checked.{test_word as test_word_of, no_line as no_line_of};
 ghost use Rattle.grid_job.specs.Outcome.{IsOutcome, IsEnd};
 ghost use Rattle.grid_job.specs.Inner.Written.{HasWritten, Tells, TellsVerdict};
 
