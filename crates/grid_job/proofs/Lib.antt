@@ -1,13 +1,4 @@
-pub mod HatLemmas
-pub mod GeneratorLemmas
-pub mod ReportLemmas
-pub mod OutcomeLemmas
-pub mod ModeLemmas
-pub mod OptionLemmas
-pub mod WrittenLemmas
-pub mod HeadLemmas
-pub mod CheckLemmas
-pub mod CertificateLemmas
-pub mod ChainLemmas
-pub mod ClassLemmas
-pub mod MadeLemmas
+pub mod Generated
+pub mod Certified
+pub mod Reported
+pub mod Outcomes

@@ -1,15 +1,2 @@
-pub mod CarriedChains
-pub mod CommutesAgain
-pub mod ComponentLemmas
-pub mod CycleCounts
-pub mod Reindexing
-pub mod Shifts
-pub mod StateChains
-pub mod SwapGridLemmas
-pub mod SwappedTwice
-pub mod TransposedGrids
-pub mod TurnLemmas
-pub mod TurnedBorders
-pub mod TurnedDegrees
-pub mod TurnedStates
-pub mod TurnedSteps
+pub mod Exchanged
+pub mod Turned

@@ -6,8 +6,8 @@ use Rattle.f2_algebra.proofs.Chains.Lists.{All-codes}
 use Rattle.f2_algebra.specs.Chain.{Chain}
 use Rattle.state_rank.specs.States.{factorial}
 use Rattle.torus_geom.specs.Marks.{IsGrid, Marks, size}
-use Rattle.grid_moves.proofs.CommutesAgain.{are_commuting-swapped}
-use Rattle.grid_moves.proofs.SwappedTwice.{IsGrid-swapped, size-swapped, swapped-swapped}
+use Rattle.grid_moves.proofs.Exchanged.CommutesAgain.{are_commuting-swapped}
+use Rattle.grid_moves.proofs.Exchanged.SwappedTwice.{IsGrid-swapped, size-swapped, swapped-swapped}
 use Rattle.grid_moves.specs.Moves.{are_commuting, swapped}
 use Rattle.grid_moves.specs.declared.commutations.Axis.{Axis}
 use Rattle.pentagon_map.proofs.FrontStates.ByAxis.{image-minus_state, image-plus_state}

@@ -7,9 +7,9 @@ use Rattle.f2_algebra.proofs.Chains.Sums.{add-nothing, add_assoc, nothing-add}
 use Rattle.f2_algebra.specs.Chain.{Chain, codes, holds, single, sum_over, total, ◌⊕◌}
 use Rattle.state_rank.specs.States.{factorial, rank, unrank}
 use Rattle.torus_geom.specs.Marks.{Marks, size}
-use Rattle.grid_moves.proofs.CarriedChains.{AreInverse-back, holds-carried, moved-below, moved-past, moved-undone, renamed-sum}
-use Rattle.grid_moves.proofs.TurnLemmas.{length-turned_rows}
-use Rattle.grid_moves.proofs.TurnedStates.{opposite, turned_AreInverse}
+use Rattle.grid_moves.proofs.Turned.CarriedChains.{AreInverse-back, holds-carried, moved-below, moved-past, moved-undone, renamed-sum}
+use Rattle.grid_moves.proofs.Turned.TurnLemmas.{length-turned_rows}
+use Rattle.grid_moves.proofs.Turned.TurnedStates.{opposite, turned_AreInverse}
 use Rattle.grid_moves.specs.Carried.{carried, moved, turned_chain, turned_state}
 use Rattle.grid_moves.specs.Moves.{turned}
 use Rattle.grid_moves.specs.declared.turns.Side.{Side}

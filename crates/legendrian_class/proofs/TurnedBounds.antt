@@ -11,12 +11,12 @@ use Rattle.torus_geom.proofs.Circles.TurnLemmas.{one_down_below}
 use Rattle.torus_geom.specs.Front.{plus_state}
 use Rattle.torus_geom.specs.Marks.{IsGrid, Marks, size}
 use Rattle.torus_geom.specs.Range.{one_down, one_up}
-use Rattle.grid_moves.proofs.CarriedChains.{carried-single}
-use Rattle.grid_moves.proofs.Shifts.{IsShift-moved_row, IsShift-target_column}
-use Rattle.grid_moves.proofs.TurnLemmas.{IsGrid-turned, length-turned_rows}
-use Rattle.grid_moves.proofs.TurnedBorders.{border-turned}
-use Rattle.grid_moves.proofs.TurnedStates.{IsBijection-turned_state, opposite, turned_AreInverse, turned_state-back}
-use Rattle.grid_moves.proofs.TurnedSteps.{at_target, state-at_target}
+use Rattle.grid_moves.proofs.Turned.CarriedChains.{carried-single}
+use Rattle.grid_moves.proofs.Turned.Shifts.{IsShift-moved_row, IsShift-target_column}
+use Rattle.grid_moves.proofs.Turned.TurnLemmas.{IsGrid-turned, length-turned_rows}
+use Rattle.grid_moves.proofs.Turned.TurnedBorders.{border-turned}
+use Rattle.grid_moves.proofs.Turned.TurnedStates.{IsBijection-turned_state, opposite, turned_AreInverse, turned_state-back}
+use Rattle.grid_moves.proofs.Turned.TurnedSteps.{at_target, state-at_target}
 use Rattle.grid_moves.specs.Carried.{target_column, turned_chain, turned_state}
 use Rattle.grid_moves.specs.Moves.{moved_row, turned, turned_rows}
 use Rattle.grid_moves.specs.declared.turns.Side.{Side}

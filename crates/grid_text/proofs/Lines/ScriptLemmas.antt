@@ -9,8 +9,8 @@ use Rattle.std.proofs.lemmas.List.Edits.{length-swap}
 use Rattle.grid_moves.specs.Moves.{swapped, swapped_columns}
 use Rattle.grid_moves.specs.declared.commutations.Axis.{Axis}
 use Rattle.grid_moves.specs.declared.commutations.Axis.TheVariants.{Cols, Rows}
-use Rattle.grid_moves.proofs.TurnLemmas.{IsGrid-turned, length-turned_rows}
-use Rattle.grid_moves.proofs.SwapGridLemmas.{IsGrid-swapped_columns}
+use Rattle.grid_moves.proofs.Turned.TurnLemmas.{IsGrid-turned, length-turned_rows}
+use Rattle.grid_moves.proofs.Exchanged.SwapGridLemmas.{IsGrid-swapped_columns}
 use Rattle.grid_text.specs.Commands.{IsAllowed, grid_after}
 use Rattle.grid_text.specs.Script.{GridScript, IsScript, AreAllowed, grid_after_all, grid_in_force, with_command}
 use Rattle.grid_text.specs.declared.commands.Command.{Command}

@@ -28,8 +28,8 @@ use Rattle.rectangles.proofs.Square.OpenRectangles.{is_open}
 use Rattle.rectangles.proofs.Square.RectangleSums.{parity-rectangles, weight-border_of_state}
 use Rattle.rectangles.proofs.Square.RectangleTests.{corners, slice_index-swap}
 use Rattle.rectangles.proofs.Square.TwoSteps.{differ}
-use Rattle.grid_moves.proofs.CarriedChains.{unrank-past}
-use Rattle.grid_moves.proofs.SwapGridLemmas.{IsGrid-swapped_columns}
+use Rattle.grid_moves.proofs.Turned.CarriedChains.{unrank-past}
+use Rattle.grid_moves.proofs.Exchanged.SwapGridLemmas.{IsGrid-swapped_columns}
 use Rattle.grid_moves.specs.Moves.{swapped_columns}
 use Rattle.pentagon_map.proofs.ChainMap.FourRows.{AreBusy-rows, AreSides-rows, HasFourRows, IsThin-rows}
 use Rattle.pentagon_map.proofs.ChainMap.PentagonSums.{crossing_row-below, pentagon_at, weight-column_image}

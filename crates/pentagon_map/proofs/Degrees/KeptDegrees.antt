@@ -33,9 +33,9 @@ use Rattle.rectangles.proofs.Square.CyclicOrder.{between}
 use Rattle.rectangles.proofs.Square.EmptyRectangles.{free, is_between, is_clear_of}
 use Rattle.rectangles.proofs.Square.OpenRectangles.{marks}
 use Rattle.rectangles.proofs.Square.TwoSteps.{differ, differ_apart}
-use Rattle.grid_moves.proofs.CarriedChains.{holds-carried, moved-rank}
-use Rattle.grid_moves.proofs.ComponentLemmas.{alexander_same, components-along, components-back, row-column_after}
-use Rattle.grid_moves.proofs.SwapGridLemmas.{IsGrid-swapped_columns}
+use Rattle.grid_moves.proofs.Turned.CarriedChains.{holds-carried, moved-rank}
+use Rattle.grid_moves.proofs.Turned.ComponentLemmas.{alexander_same, components-along, components-back, row-column_after}
+use Rattle.grid_moves.proofs.Exchanged.SwapGridLemmas.{IsGrid-swapped_columns}
 use Rattle.grid_moves.specs.Moves.{are_commuting, are_commuting_columns, swapped, swapped_columns}
 use Rattle.grid_moves.specs.declared.commutations.Axis.{Axis}
 use Rattle.grid_moves.specs.declared.commutations.Axis.TheVariants.{Cols, Rows}
@@ -43,7 +43,7 @@ use Rattle.pentagon_map.proofs.ChainMap.PentagonSums.{crossing_row-below, holds-
 use Rattle.pentagon_map.proofs.ChainMap.Pentagons.{lacks, two}
 use Rattle.pentagon_map.proofs.Crossing.CrossingRow.{IsCrossing, crossing_row_IsCrossing}
 use Rattle.pentagon_map.proofs.Degrees.MarksInPentagon.{IsPentagonOf, maslov-pentagon}
-use Rattle.grid_moves.proofs.TransposedGrids.{size-transposed, transpose-at, transpose-transpose, transpose_AreInverse}
+use Rattle.grid_moves.proofs.Exchanged.TransposedGrids.{size-transposed, transpose-at, transpose-transpose, transpose_AreInverse}
 use Rattle.pentagon_map.specs.Pentagon.{column_image, crossing_row, image_of_state}
 use Rattle.pentagon_map.specs.declared.Corner.{Corner}
 

@@ -11,8 +11,8 @@ use Rattle.torus_geom.specs.Border.{border}
 use Rattle.torus_geom.specs.Range.{one_down}
 use Rattle.torus_geom.specs.Marks.{IsGrid, Marks, size}
 use Rattle.torus_geom.specs.Transposed.{transposed}
-use Rattle.grid_moves.proofs.CarriedChains.{AreInverse, IsOfStates, carried-carried, holds-carried, moved-past, moved-rank, sum_over-carried}
-use Rattle.grid_moves.proofs.SwapGridLemmas.{IsGrid-swapped_columns}
+use Rattle.grid_moves.proofs.Turned.CarriedChains.{AreInverse, IsOfStates, carried-carried, holds-carried, moved-past, moved-rank, sum_over-carried}
+use Rattle.grid_moves.proofs.Exchanged.SwapGridLemmas.{IsGrid-swapped_columns}
 use Rattle.grid_moves.specs.Carried.{moved, transposed_chain}
 use Rattle.grid_moves.specs.Moves.{are_commuting, swapped, swapped_columns}
 use Rattle.grid_moves.specs.declared.commutations.Axis.{Axis}
@@ -20,7 +20,7 @@ use Rattle.grid_moves.specs.declared.commutations.Axis.TheVariants.{Cols, Rows}
 use Rattle.pentagon_map.proofs.ChainMap.FourRows.{HasFourRows-commuting}
 use Rattle.pentagon_map.proofs.ChainMap.ImageOfBorder.{column_image-nil, image_by_columns, image_by_columns-border}
 use Rattle.pentagon_map.proofs.ChainMap.PentagonSums.{column_image-below}
-use Rattle.grid_moves.proofs.TransposedGrids.{size-transposed, transpose_AreInverse}
+use Rattle.grid_moves.proofs.Exchanged.TransposedGrids.{size-transposed, transpose_AreInverse}
 use Rattle.pentagon_map.proofs.Rows.Transposing.{border-transposed}
 use Rattle.pentagon_map.specs.Pentagon.{column_image, image, image_of_state}
 use Rattle.pentagon_map.specs.declared.Corner.{Corner}

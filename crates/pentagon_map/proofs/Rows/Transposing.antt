@@ -23,12 +23,12 @@ use Rattle.rectangles.proofs.Square.EmptyRectangles.{free, free_rows, is_between
 use Rattle.rectangles.proofs.Square.OpenRectangles.{is_open, unmarked}
 use Rattle.rectangles.proofs.Square.RectangleSums.{weight-border_of_state}
 use Rattle.rectangles.proofs.Square.TwoSteps.{differ}
-use Rattle.grid_moves.proofs.CarriedChains.{eqb_alike, sum_over-carried}
-use Rattle.grid_moves.proofs.Shifts.{exchanged-row}
-use Rattle.grid_moves.proofs.TurnedBorders.{border_IsOfStates}
-use Rattle.grid_moves.proofs.TransposedGrids.{transpose-at, transpose-transpose, size-transposed, transpose_AreInverse}
+use Rattle.grid_moves.proofs.Turned.CarriedChains.{eqb_alike, sum_over-carried}
+use Rattle.grid_moves.proofs.Turned.Shifts.{exchanged-row}
+use Rattle.grid_moves.proofs.Turned.TurnedBorders.{border_IsOfStates}
+use Rattle.grid_moves.proofs.Exchanged.TransposedGrids.{transpose-at, transpose-transpose, size-transposed, transpose_AreInverse}
 use Rattle.grid_moves.specs.Carried.{transposed_chain}
-use Rattle.grid_moves.proofs.Reindexing.{all_below_reindex, parity_below_reindex_both}
+use Rattle.grid_moves.proofs.Turned.Reindexing.{all_below_reindex, parity_below_reindex_both}
 
 -- the rectangle of circles a and b of x is open, and leads to the state of rank q
 abbrev pub leads_to : ℕ → Marks → List ℕ → ℕ → ℕ → ℕ → Bool

@@ -26,7 +26,7 @@ use Rattle.torus_geom.proofs.TransposeLemmas.{IsBijection-transposed, slice_inde
 use Rattle.rectangles.proofs.Square.RectangleSums.{parity-tabulate}
 use Rattle.rectangles.proofs.Sweep.TargetLemmas.{Rises, is_before-at}
 use Rattle.rectangles.proofs.Square.TwoSteps.{differ, differ-self, differ-true}
-use Rattle.grid_moves.proofs.Reindexing.{parity_below_reindex}
+use Rattle.grid_moves.proofs.Turned.Reindexing.{parity_below_reindex}
 use Rattle.pentagon_map.specs.Inner.Exchanges.{in_order, is_right, is_set, lowering, lowers, picked, raises, raising, sideways}
 
 -- ---- lists

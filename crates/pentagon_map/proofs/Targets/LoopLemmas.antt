@@ -9,7 +9,7 @@ use Rattle.f2_algebra.specs.Chain.{Chain, codes, holds, sum_over, total, ◌⊕�
 use Rattle.state_rank.proofs.RankLemmas.{IsBijection-unrank}
 use Rattle.state_rank.specs.States.{factorial, unrank}
 use Rattle.torus_geom.specs.Marks.{IsGrid, Marks, size}
-use Rattle.grid_moves.proofs.CarriedChains.{unrank-past}
+use Rattle.grid_moves.proofs.Turned.CarriedChains.{unrank-past}
 use Rattle.grid_moves.specs.declared.commutations.Axis.{Axis}
 use Rattle.pentagon_map.proofs.Rows.ImageByRows.{image_of_state_IsOfStates}
 use Rattle.pentagon_map.specs.Pentagon.{image, image_of_state}

@@ -20,14 +20,14 @@ use Rattle.torus_geom.specs.Rectangle.{is_empty}
 use Rattle.torus_geom.specs.Transposed.{transposed}
 use Rattle.rectangles.proofs.Square.TwoSteps.{differ, differ-self, differ_comm}
 use Rattle.rectangles.specs.Inner.Open.{leaving}
-use Rattle.grid_moves.proofs.CarriedChains.{eqb-renamed, eqb_alike, holds-carried, moved-rank, moved-undone}
+use Rattle.grid_moves.proofs.Turned.CarriedChains.{eqb-renamed, eqb_alike, holds-carried, moved-rank, moved-undone}
 use Rattle.grid_moves.specs.Carried.{moved}
 use Rattle.grid_moves.specs.Moves.{turned}
 use Rattle.grid_moves.specs.declared.commutations.Axis.{Axis}
 use Rattle.grid_moves.specs.declared.commutations.Axis.TheVariants.{Cols, Rows}
 use Rattle.pentagon_map.proofs.ChainMap.PentagonSums.{crossing_row-below, holds-column_image, passes_at-pentagon, pentagon_at}
-use Rattle.grid_moves.proofs.Reindexing.{parity_below_reindex}
-use Rattle.grid_moves.proofs.TransposedGrids.{size-transposed, transpose-transpose, transpose_AreInverse}
+use Rattle.grid_moves.proofs.Turned.Reindexing.{parity_below_reindex}
+use Rattle.grid_moves.proofs.Exchanged.TransposedGrids.{size-transposed, transpose-transpose, transpose_AreInverse}
 use Rattle.pentagon_map.proofs.Rows.Transposing.{transpose-swap}
 use Rattle.pentagon_map.proofs.Targets.InOrder.{codes-in_order, in_order_states}
 use Rattle.pentagon_map.specs.Inner.Exchanges.{across, in_order, is_odd_circle, is_pentagon_at, is_set}

@@ -4,7 +4,7 @@ use Rattle.state_rank.proofs.BijectionLemmas.{IsOneToOne}
 use Rattle.rectangles.proofs.Square.CyclicOrder.{between}
 use Rattle.rectangles.proofs.Square.RectangleTests.{in_range-between}
 use Rattle.rectangles.proofs.Square.TwoSteps.{differ}
-use Rattle.grid_moves.proofs.Shifts.{IsShift, eqb-shift}
+use Rattle.grid_moves.proofs.Turned.Shifts.{IsShift, eqb-shift}
 
 pub between-shift : (n : ℕ) (f : ℕ → ℕ) → IsShift n f → (a b t : ℕ) → a < n → b < n → t < n
     → between (f a) (f b) (f t) ≡ between a b t

@@ -13,9 +13,9 @@ use Rattle.torus_geom.proofs.TransposeLemmas.{IsBijection-transposed, IsGrid-tra
 use Rattle.torus_geom.proofs.Circles.TurnLemmas.{composed_one}
 use Rattle.torus_geom.specs.Marks.{IsGrid, Marks, size}
 use Rattle.torus_geom.specs.Transposed.{transposed}
-use Rattle.grid_moves.proofs.CarriedChains.{AreInverse-back, holds-carried, moved-below, moved-past, moved-rank, moved-undone}
-use Rattle.grid_moves.proofs.TurnLemmas.{IsBijection-turned_rows, IsGrid-turned, length-turned_rows}
-use Rattle.grid_moves.proofs.TurnedStates.{IsBijection-turned_state, opposite, turned_AreInverse}
+use Rattle.grid_moves.proofs.Turned.CarriedChains.{AreInverse-back, holds-carried, moved-below, moved-past, moved-rank, moved-undone}
+use Rattle.grid_moves.proofs.Turned.TurnLemmas.{IsBijection-turned_rows, IsGrid-turned, length-turned_rows}
+use Rattle.grid_moves.proofs.Turned.TurnedStates.{IsBijection-turned_state, opposite, turned_AreInverse}
 use Rattle.grid_moves.specs.Carried.{moved, target_column, transposed_chain, turned_chain, turned_place, turned_state}
 use Rattle.grid_moves.specs.Moves.{moved_row, turned, turned_rows}
 use Rattle.grid_moves.specs.declared.commutations.Axis.{Axis}
@@ -24,9 +24,9 @@ use Rattle.grid_moves.specs.declared.turns.Side.{Side}
 use Rattle.grid_moves.specs.declared.turns.Side.TheVariants.{Down, Left, Right, Up}
 use Rattle.pentagon_map.proofs.ChainMap.ImageOfBorder.{image_by_columns}
 use Rattle.pentagon_map.proofs.Rows.ImageByRows.{image-by_columns, image-by_rows}
-use Rattle.grid_moves.proofs.TransposedGrids.{size-transposed, transpose-at, transpose_AreInverse}
-use Rattle.grid_moves.proofs.Shifts.{IsShift-moved_row, IsShift-target_column}
-use Rattle.grid_moves.proofs.TurnedSteps.{at_target}
+use Rattle.grid_moves.proofs.Exchanged.TransposedGrids.{size-transposed, transpose-at, transpose_AreInverse}
+use Rattle.grid_moves.proofs.Turned.Shifts.{IsShift-moved_row, IsShift-target_column}
+use Rattle.grid_moves.proofs.Turned.TurnedSteps.{at_target}
 use Rattle.pentagon_map.proofs.Turns.TurnedImages.{image_by_columns-turned}
 use Rattle.pentagon_map.specs.Pentagon.{image}
 use Rattle.pentagon_map.specs.declared.Corner.{Corner}

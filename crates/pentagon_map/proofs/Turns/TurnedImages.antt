@@ -10,9 +10,9 @@ use Rattle.torus_geom.proofs.Circles.TurnLemmas.{one_down_below}
 use Rattle.torus_geom.specs.Range.{one_down}
 use Rattle.torus_geom.specs.Marks.{IsGrid, Marks, size}
 use Rattle.torus_geom.specs.Range.{in_range}
-use Rattle.grid_moves.proofs.CarriedChains.{eqb_alike, sum_over-carried}
-use Rattle.grid_moves.proofs.TurnLemmas.{IsGrid-turned, length-turned_rows}
-use Rattle.grid_moves.proofs.TurnedStates.{IsBijection-turned_state, opposite, turned_AreInverse, turned_state-back}
+use Rattle.grid_moves.proofs.Turned.CarriedChains.{eqb_alike, sum_over-carried}
+use Rattle.grid_moves.proofs.Turned.TurnLemmas.{IsGrid-turned, length-turned_rows}
+use Rattle.grid_moves.proofs.Turned.TurnedStates.{IsBijection-turned_state, opposite, turned_AreInverse, turned_state-back}
 use Rattle.grid_moves.specs.Carried.{target_column, turned_chain, turned_state}
 use Rattle.grid_moves.specs.Moves.{moved_row, turned}
 use Rattle.grid_moves.specs.declared.turns.Side.{Side}
@@ -20,9 +20,9 @@ use Rattle.pentagon_map.proofs.ChainMap.ImageOfBorder.{image_by_columns}
 use Rattle.pentagon_map.proofs.ChainMap.PentagonSums.{crossing_row-below, holds-column_image}
 use Rattle.pentagon_map.proofs.ChainMap.Pentagons.{is_open_pentagon}
 use Rattle.pentagon_map.proofs.Rows.ImageByRows.{column_image_IsOfStates}
-use Rattle.grid_moves.proofs.Reindexing.{parity_below_reindex_both}
-use Rattle.grid_moves.proofs.Shifts.{IsShift, IsShift-moved_row, IsShift-target_column}
-use Rattle.grid_moves.proofs.TurnedSteps.{at_target, state-at_target, swap-turned}
+use Rattle.grid_moves.proofs.Turned.Reindexing.{parity_below_reindex_both}
+use Rattle.grid_moves.proofs.Turned.Shifts.{IsShift, IsShift-moved_row, IsShift-target_column}
+use Rattle.grid_moves.proofs.Turned.TurnedSteps.{at_target, state-at_target, swap-turned}
 use Rattle.pentagon_map.proofs.Turns.TurnedPentagons.{pentagon-turned}
 use Rattle.pentagon_map.specs.Pentagon.{column_image, crossing_row, first_met, last_met}
 use Rattle.pentagon_map.specs.declared.Corner.{Corner}

@@ -8,8 +8,8 @@ use Rattle.rectangles.proofs.Square.OpenRectangles.{marks}
 use Rattle.rectangles.proofs.Square.TwoSteps.{differ}
 use Rattle.pentagon_map.proofs.ChainMap.Pentagons.{is_open_pentagon, lacks, penta, two}
 use Rattle.pentagon_map.proofs.ChainMap.RowArcs.{above_of}
-use Rattle.grid_moves.proofs.Reindexing.{all_below_reindex}
-use Rattle.grid_moves.proofs.Shifts.{IsShift, eqb-shift}
+use Rattle.grid_moves.proofs.Turned.Reindexing.{all_below_reindex}
+use Rattle.grid_moves.proofs.Turned.Shifts.{IsShift, eqb-shift}
 use Rattle.pentagon_map.proofs.Turns.Shifts.{between-shift, differ-shift}
 
 module _ (n : ℕ) (f h : ℕ → ℕ) (sf : IsShift n f) (sh : IsShift n h) where

@@ -1,9 +1,9 @@
 use Rattle.std.proofs.Common.{inl}
 use Rattle.grid_job.specs.Outcome.{IsOutcome}
 use Rattle.grid_job.specs.declared.modes.Mode.TheVariants.{Cert}
-use Rattle.grid_job.proofs.CertificateLemmas.{HasWritten-certified}
-use Rattle.grid_job.proofs.OutcomeLemmas.{some_certified}
-use Rattle.grid_job.proofs.WrittenLemmas.{HasWritten-fault, HasWritten-nothing}
+use Rattle.grid_job.proofs.Certified.CertificateLemmas.{HasWritten-certified}
+use Rattle.grid_job.proofs.Outcomes.OutcomeLemmas.{some_certified}
+use Rattle.grid_job.proofs.Outcomes.WrittenLemmas.{HasWritten-fault, HasWritten-nothing}
 use Rattle.grid_job.proofs.certificates.certify_text.Goals as goal
 
 pub returns-in-Ok : goal.returns-in-Ok

@@ -1,5 +1,5 @@
 -- Out of memory before anything was written.
-use Rattle.grid_job.proofs.CertificateLemmas.{HasWritten-no_certificate}
+use Rattle.grid_job.proofs.Certified.CertificateLemmas.{HasWritten-no_certificate}
 use Rattle.grid_job.proofs.certificates.write_certificate.Goals as goal
 
 pub returns-in_default : goal.returns-in_default

@@ -1,9 +1,9 @@
 use Rattle.std.proofs.Common.{ap, Err}
 use Rattle.grid_job.specs.Outcome.{IsOutcome}
 use Rattle.grid_job.specs.declared.modes.Mode.TheVariants.{Check}
-use Rattle.grid_job.proofs.CheckLemmas.{HasWritten-verdict, HasWritten-bad_line}
-use Rattle.grid_job.proofs.OutcomeLemmas.{some_checked}
-use Rattle.grid_job.proofs.WrittenLemmas.{HasWritten-nothing}
+use Rattle.grid_job.proofs.Certified.CheckLemmas.{HasWritten-verdict, HasWritten-bad_line}
+use Rattle.grid_job.proofs.Outcomes.OutcomeLemmas.{some_checked}
+use Rattle.grid_job.proofs.Outcomes.WrittenLemmas.{HasWritten-nothing}
 use Rattle.grid_job.proofs.checks.answer_certificate.Goals as goal
 
 pub returns-in-Ok : goal.returns-in-Ok

@@ -2,8 +2,8 @@ use Rattle.std.proofs.Common.{◌≤◌, length, ap, Err, arith, inl}
 use Rattle.homology_cert.specs.CertificateLimits.{max_certificate}
 use Rattle.grid_job.specs.Outcome.{IsOutcome}
 use Rattle.grid_job.specs.declared.modes.Mode.TheVariants.{Check}
-use Rattle.grid_job.proofs.OutcomeLemmas.{some_checked}
-use Rattle.grid_job.proofs.WrittenLemmas.{read_to_the_end, read_past_the_limit, HasWritten-long, HasWritten-read, HasWritten-unread, not_usage}
+use Rattle.grid_job.proofs.Outcomes.OutcomeLemmas.{some_checked}
+use Rattle.grid_job.proofs.Outcomes.WrittenLemmas.{read_to_the_end, read_past_the_limit, HasWritten-long, HasWritten-read, HasWritten-unread, not_usage}
 use Rattle.grid_job.proofs.checks.check.Goals as goal
 
 pub returns-in-Ok-clause-read : goal.returns-in-Ok-clause-read

@@ -1,6 +1,6 @@
 -- Out of memory before anything was written.
 use Rattle.homology_cert.specs.CertificateTests.{verdict_of}
-use Rattle.grid_job.proofs.CheckLemmas.{HasWritten-no_verdict}
+use Rattle.grid_job.proofs.Certified.CheckLemmas.{HasWritten-no_verdict}
 use Rattle.grid_job.proofs.checks.tell_verdict.Goals as goal
 
 pub returns-in-Err : goal.returns-in-Err

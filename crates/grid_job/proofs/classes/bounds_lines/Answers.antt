@@ -5,7 +5,7 @@ use Rattle.state_rank.specs.States.{factorial}
 use Rattle.legendrian_class.specs.Verdicts.{IsVerdict}
 use Rattle.legendrian_class.proofs.VerdictLemmas.{IsNotCycle-state}
 use Rattle.legendrian_class.specs.States.{HasStates}
-use Rattle.grid_job.proofs.ClassLemmas.{HasStates-single}
+use Rattle.grid_job.proofs.Reported.ClassLemmas.{HasStates-single}
 use Rattle.grid_job.proofs.classes.bounds_lines.Goals as goal
 
 pub set_line-requires-clause-ranks : goal.set_line-requires-clause-ranks

@@ -4,7 +4,7 @@ use Rattle.f2_algebra.specs.Chain.{single}
 use Rattle.state_rank.specs.States.{rank}
 use Rattle.legendrian_class.specs.Verdicts.{IsNotCycle, IsVerdict}
 use Rattle.legendrian_class.specs.States.{HasStates}
-use Rattle.grid_job.proofs.ClassLemmas.{class_is_cycle, HasStates-class_chain}
+use Rattle.grid_job.proofs.Reported.ClassLemmas.{class_is_cycle, HasStates-class_chain}
 use Rattle.grid_job.proofs.classes.class_lines.Goals as goal
 
 pub verdict-requires : goal.verdict-requires

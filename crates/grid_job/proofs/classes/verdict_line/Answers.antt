@@ -1,6 +1,6 @@
 -- The state of a class has the size of the grid.
 use Rattle.std.proofs.Common.{length, ap, ◌∙◌}
-use Rattle.grid_job.proofs.ClassLemmas.{class_state-state}
+use Rattle.grid_job.proofs.Reported.ClassLemmas.{class_state-state}
 use Rattle.grid_job.proofs.classes.verdict_line.Goals as goal
 
 pub degree-requires : goal.degree-requires

@@ -2,7 +2,7 @@
 use Rattle.std.proofs.Common.{◌≡◌, [], ◌∷◌, ap, sym, subst, ◌∙◌, take, rules}
 use Rattle.state_rank.specs.Bijection.{ascending}
 use Rattle.state_rank.specs.States.{IsState}
-use Rattle.grid_job.proofs.GeneratorLemmas.{IsState-ascending, take-ascending}
+use Rattle.grid_job.proofs.Generated.GeneratorLemmas.{IsState-ascending, take-ascending}
 use Rattle.grid_job.proofs.generator.ascending.Goals as goal
 
 pub unwrap-requires : goal.unwrap-requires

@@ -3,7 +3,7 @@ use Rattle.std.proofs.Common.{◌≡◌, ◌<◌, slice_index, ap, sym, subst, �
 use Rattle.torus_geom.specs.Range.{one_down}
 use Rattle.front_data.proofs.FilledRows.{IsFilled-more}
 use Rattle.grid_job.specs.Generator.{IsGridThrough}
-use Rattle.grid_job.proofs.GeneratorLemmas.{put_marks}
+use Rattle.grid_job.proofs.Generated.GeneratorLemmas.{put_marks}
 use Rattle.grid_job.proofs.generator.grid_through.Goals as goal
 
 pub loop-c-preserved : goal.loop-c-preserved

@@ -1,6 +1,6 @@
 -- The script of the grid through the shuffled columns and rows.
 use Rattle.std.proofs.Common.{ap}
-use Rattle.grid_job.proofs.GeneratorLemmas.{IsMadeScript-from, four_commands}
+use Rattle.grid_job.proofs.Generated.GeneratorLemmas.{IsMadeScript-from, four_commands}
 use Rattle.grid_job.proofs.generator.make_script.Goals as goal
 
 pub returns : goal.returns

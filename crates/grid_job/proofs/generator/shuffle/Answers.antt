@@ -1,7 +1,7 @@
 -- Place by place, from the last.
 use Rattle.std.proofs.Common.{◌≡◌, ◌+◌, ◌-◌, ◌/◌, ◌%◌, suc, ap, ◌∙◌, arith}
 use Rattle.std.specs.List.{swap}
-use Rattle.grid_job.proofs.GeneratorLemmas.{IsShuffling-start, IsShuffling-more, IsShuffling-state, IsShuffling-number}
+use Rattle.grid_job.proofs.Generated.GeneratorLemmas.{IsShuffling-start, IsShuffling-more, IsShuffling-state, IsShuffling-number}
 use Rattle.grid_job.proofs.generator.shuffle.Goals as goal
 
 pub loop-done-init : goal.loop-done-init

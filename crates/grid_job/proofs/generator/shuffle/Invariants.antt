@@ -1,6 +1,6 @@
 -- The exchanges that are left complete the shuffle.
 use Rattle.std.proofs.Common.{◌-◌}
-use Rattle.grid_job.proofs.GeneratorLemmas.{IsShuffling}
+use Rattle.grid_job.proofs.Generated.GeneratorLemmas.{IsShuffling}
 use Rattle.grid_job.proofs.generator.shuffle.Given as goal
 
 abbrev pub invariant-loop-done : goal.invariant-loop-done

@@ -4,7 +4,7 @@ use Rattle.std.specs.Prelude.{◌-◌}
 use Rattle.std.proofs.lemmas.Result.{IfOk-weaker}
 use Rattle.report_text.specs.Lines.{hat_lines}
 use Rattle.grid_job.specs.Hat.{IsHatText}
-use Rattle.grid_job.proofs.HatLemmas.{components-le, IsHatText-quotient}
+use Rattle.grid_job.proofs.Reported.HatLemmas.{components-le, IsHatText-quotient}
 use Rattle.grid_job.proofs.hats.hat_text.Goals as goal
 
 pub overflow_sub-exponent : goal.overflow_sub-exponent

@@ -2,7 +2,7 @@ use Rattle.std.proofs.Common.{sym, ap, subst, take, ◌∙◌, map}
 use Rattle.f2_algebra.specs.Chain.{of_codes, single, ◌⊕◌}
 use Rattle.state_rank.specs.States.{rank}
 use Rattle.grid_text.specs.States.{AreStates}
-use Rattle.grid_job.proofs.ChainLemmas.{states-next}
+use Rattle.grid_job.proofs.Reported.ChainLemmas.{states-next}
 use Rattle.grid_job.proofs.in_force.chain_of.Goals as goal
 
 pub loop-state-preserved : goal.loop-state-preserved

@@ -2,7 +2,7 @@
 use Rattle.std.proofs.Common.{subst, sym}
 use Rattle.grid_text.specs.Commands.{IsAllowed}
 use Rattle.legendrian_class.specs.States.{HasStates}
-use Rattle.grid_job.proofs.ChainLemmas.{ranks-below}
+use Rattle.grid_job.proofs.Reported.ChainLemmas.{ranks-below}
 use Rattle.grid_job.proofs.in_force.follow.Goals as goal
 
 pub set-requires : goal.set-requires

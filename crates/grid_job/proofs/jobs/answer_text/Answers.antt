@@ -1,7 +1,7 @@
 use Rattle.grid_job.specs.Outcome.{IsOutcome}
 use Rattle.grid_job.specs.declared.modes.Mode.TheVariants.{Run}
-use Rattle.grid_job.proofs.OutcomeLemmas.{some_report}
-use Rattle.grid_job.proofs.WrittenLemmas.{HasWritten-script, HasWritten-fault, HasWritten-nothing}
+use Rattle.grid_job.proofs.Outcomes.OutcomeLemmas.{some_report}
+use Rattle.grid_job.proofs.Outcomes.WrittenLemmas.{HasWritten-script, HasWritten-fault, HasWritten-nothing}
 use Rattle.grid_job.proofs.jobs.answer_text.Goals as goal
 
 pub returns-in-Ok : goal.returns-in-Ok

@@ -1,9 +1,9 @@
 use Rattle.std.proofs.Common.{map, string_bytes, Global, refl, subst}
 use Rattle.grid_job.specs.Outcome.{IsForm}
 use Rattle.grid_job.specs.declared.modes.Mode.TheVariants.{Run, Cert, Check, Make}
-use Rattle.grid_job.proofs.ModeLemmas.{told_apart}
-use Rattle.grid_job.proofs.OptionLemmas.{IsMake-size, IsMake-seed}
-use Rattle.grid_job.proofs.WrittenLemmas.{HasEnded-written, HasBegun-written, HasWritten-made, left_alone, ended_not_read_fault, begun_not_read_fault, status_of_reading, status_of_mode}
+use Rattle.grid_job.proofs.Outcomes.ModeLemmas.{told_apart}
+use Rattle.grid_job.proofs.Outcomes.OptionLemmas.{IsMake-size, IsMake-seed}
+use Rattle.grid_job.proofs.Outcomes.WrittenLemmas.{HasEnded-written, HasBegun-written, HasWritten-made, left_alone, ended_not_read_fault, begun_not_read_fault, status_of_reading, status_of_mode}
 use Rattle.grid_job.proofs.jobs.answer_words.Goals as goal
 
 -- ---- a run

@@ -1,8 +1,8 @@
 use Rattle.grid_text.proofs.Paths.JudgementLemmas.{one_script, no_document}
 use Rattle.grid_text.proofs.Paths.OutcomeLemmas.{one_fault}
-use Rattle.grid_job.proofs.CertificateLemmas.{certificates_pass}
-use Rattle.grid_job.proofs.CheckLemmas.{yes_tells_the_table}
-use Rattle.grid_job.proofs.OutcomeLemmas.{some_outcome, one_status}
+use Rattle.grid_job.proofs.Certified.CertificateLemmas.{certificates_pass}
+use Rattle.grid_job.proofs.Certified.CheckLemmas.{yes_tells_the_table}
+use Rattle.grid_job.proofs.Outcomes.OutcomeLemmas.{some_outcome, one_status}
 use Rattle.grid_job.proofs.jobs.gridhom.Goals as goal
 
 pub returns-clause-some_outcome : goal.returns-clause-some_outcome

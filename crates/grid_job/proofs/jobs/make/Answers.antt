@@ -2,8 +2,8 @@
 use Rattle.std.proofs.Common.{◌≡◌, refl}
 use Rattle.grid_job.specs.Made.{IsMade}
 use Rattle.grid_job.specs.declared.statuses.Status.TheVariants.{Done}
-use Rattle.grid_job.proofs.MadeLemmas.{exists_made}
-use Rattle.grid_job.proofs.WrittenLemmas.{HasWritten-nothing}
+use Rattle.grid_job.proofs.Generated.MadeLemmas.{exists_made}
+use Rattle.grid_job.proofs.Outcomes.WrittenLemmas.{HasWritten-nothing}
 use Rattle.grid_job.proofs.jobs.make.Goals as goal
 
 pub returns-in_default-clause-written : goal.returns-in_default-clause-written

@@ -2,8 +2,8 @@ use Rattle.std.proofs.Common.{◌≤◌, length, ap, Err, arith, inl}
 use Rattle.grid_text.specs.Limits.{max_text}
 use Rattle.grid_job.specs.Outcome.{IsOutcome}
 use Rattle.grid_job.specs.declared.modes.Mode.TheVariants.{Run}
-use Rattle.grid_job.proofs.OutcomeLemmas.{some_report}
-use Rattle.grid_job.proofs.WrittenLemmas.{read_to_the_end, read_past_the_limit, HasWritten-long, HasWritten-read, HasWritten-unread, not_others}
+use Rattle.grid_job.proofs.Outcomes.OutcomeLemmas.{some_report}
+use Rattle.grid_job.proofs.Outcomes.WrittenLemmas.{read_to_the_end, read_past_the_limit, HasWritten-long, HasWritten-read, HasWritten-unread, not_others}
 use Rattle.grid_job.proofs.jobs.run.Goals as goal
 
 pub returns-in-Ok-clause-read : goal.returns-in-Ok-clause-read

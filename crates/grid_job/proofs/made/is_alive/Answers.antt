@@ -5,8 +5,8 @@ use Rattle.state_rank.specs.States.{rank}
 use Rattle.legendrian_class.specs.Verdicts.{IsNotCycle, IsVerdict}
 use Rattle.legendrian_class.specs.States.{HasStates}
 use Rattle.legendrian_class.specs.declared.verdicts.ClassVerdict.TheVariants.{Null, Alive}
-use Rattle.grid_job.proofs.ClassLemmas.{class_is_cycle, HasStates-class_chain}
-use Rattle.grid_job.proofs.MadeLemmas.{HasClassVerdict-of}
+use Rattle.grid_job.proofs.Reported.ClassLemmas.{class_is_cycle, HasStates-class_chain}
+use Rattle.grid_job.proofs.Generated.MadeLemmas.{HasClassVerdict-of}
 use Rattle.grid_job.proofs.made.is_alive.Goals as goal
 
 pub verdict-requires : goal.verdict-requires

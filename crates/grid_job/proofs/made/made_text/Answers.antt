@@ -1,6 +1,6 @@
 -- The plain form, and the summary below it.
 use Rattle.std.proofs.Common.{◌++◌, ap, ◌∙◌}
-use Rattle.grid_job.proofs.MadeLemmas.{IsMade-of}
+use Rattle.grid_job.proofs.Generated.MadeLemmas.{IsMade-of}
 use Rattle.grid_job.proofs.made.made_text.Goals as goal
 
 pub returns : goal.returns

@@ -1,7 +1,7 @@
 -- The numbers and the verdicts of the grid.
 use Rattle.std.proofs.lemmas.Result.{IfOk-weaker}
 use Rattle.grid_job.specs.Made.{IsSummary}
-use Rattle.grid_job.proofs.MadeLemmas.{IsSummary-of}
+use Rattle.grid_job.proofs.Generated.MadeLemmas.{IsSummary-of}
 use Rattle.grid_job.proofs.made.summary.Goals as goal
 
 pub returns : goal.returns

@@ -1,6 +1,6 @@
 use Rattle.std.proofs.Common.{ap, map, string_bytes, Global, ◌∙◌}
 use Rattle.std.specs.Str.{bytes_eq}
-use Rattle.grid_job.proofs.ModeLemmas.{single-item, command_alone}
+use Rattle.grid_job.proofs.Outcomes.ModeLemmas.{single-item, command_alone}
 use Rattle.grid_job.proofs.modes.is_alone.Goals as goal
 
 pub returns-in-len1 : goal.returns-in-len1

@@ -1,7 +1,7 @@
 -- The words are those of no mode.
 use Rattle.std.proofs.Common.{map, string_bytes, Global, sym, ◌∙◌}
 use Rattle.std.proofs.lemmas.Bool.{false≢true}
-use Rattle.grid_job.proofs.ModeLemmas.{no_mode}
+use Rattle.grid_job.proofs.Outcomes.ModeLemmas.{no_mode}
 use Rattle.grid_job.proofs.modes.mode_of.Goals as goal
 
 pub returns-in_default-clause-none : goal.returns-in_default-clause-none

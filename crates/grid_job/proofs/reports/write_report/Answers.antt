@@ -1,8 +1,8 @@
 use Rattle.std.proofs.Common.{refl, sym, ap, subst, ◌∙◌}
 use Rattle.grid_text.specs.Commands.{IsAllowed}
 use Rattle.grid_job.specs.InForce.{at_start, after}
-use Rattle.grid_job.proofs.ChainLemmas.{HasStates-nothing}
-use Rattle.grid_job.proofs.ReportLemmas.{IsAnswer-same, IsAllowed-next, IsPast-next, IsPast-prefix, IsPast-prefix_of_next}
+use Rattle.grid_job.proofs.Reported.ChainLemmas.{HasStates-nothing}
+use Rattle.grid_job.proofs.Reported.ReportLemmas.{IsAnswer-same, IsAllowed-next, IsPast-next, IsPast-prefix, IsPast-prefix_of_next}
 use Rattle.grid_job.proofs.reports.write_report.Goals as goal
 
 pub answer_to-requires : goal.answer_to-requires

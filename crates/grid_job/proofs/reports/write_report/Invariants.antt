@@ -1,6 +1,6 @@
 use Rattle.std.proofs.Common.{◌≡◌}
 use Rattle.grid_job.specs.InForce.{at_start}
-use Rattle.grid_job.proofs.ReportLemmas.{IsPast}
+use Rattle.grid_job.proofs.Reported.ReportLemmas.{IsPast}
 use Rattle.grid_job.proofs.reports.write_report.Given as goal
 
 -- answers to the commands so far are written, and nothing has failed

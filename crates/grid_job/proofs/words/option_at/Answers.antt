@@ -1,7 +1,7 @@
 -- The option in two words.
 use Rattle.std.proofs.Common.{map, string_bytes, Global, length, sym}
 use Rattle.std.proofs.lemmas.List.{length-map}
-use Rattle.grid_job.proofs.OptionLemmas.{same_words, two_words_at}
+use Rattle.grid_job.proofs.Outcomes.OptionLemmas.{same_words, two_words_at}
 use Rattle.grid_job.proofs.words.option_at.Goals as goal
 
 pub returns-clause-some : goal.returns-clause-some

@@ -1,6 +1,6 @@
 -- The options of the words after the first.
 use Rattle.std.proofs.Common.{map, string_bytes, Global}
-use Rattle.grid_job.proofs.OptionLemmas.{second_option}
+use Rattle.grid_job.proofs.Outcomes.OptionLemmas.{second_option}
 use Rattle.grid_job.proofs.words.two_options.Goals as goal
 
 pub returns-in_default-clause-none : goal.returns-in_default-clause-none

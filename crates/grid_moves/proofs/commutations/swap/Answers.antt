@@ -2,8 +2,8 @@
 use Rattle.std.proofs.Common.{ap, ◌∙◌, arith}
 use Rattle.torus_geom.specs.Marks.{size}
 use Rattle.torus_geom.proofs.TransposeLemmas.{length-transpose}
-use Rattle.grid_moves.proofs.CommutesAgain.{are_commuting-swapped}
-use Rattle.grid_moves.proofs.SwappedTwice.{swapped-swapped}
+use Rattle.grid_moves.proofs.Exchanged.CommutesAgain.{are_commuting-swapped}
+use Rattle.grid_moves.proofs.Exchanged.SwappedTwice.{swapped-swapped}
 use Rattle.grid_moves.proofs.commutations.swap.Goals as goal
 
 pub swapped_columns-requires-in-Rows : goal.swapped_columns-requires-in-Rows

@@ -2,7 +2,7 @@
 use Rattle.std.proofs.Common.{◌≡◌, sym, subst}
 use Rattle.torus_geom.specs.Marks.{Marks, IsGrid}
 use Rattle.grid_moves.specs.Moves.{swapped_columns}
-use Rattle.grid_moves.proofs.SwapGridLemmas.{swapped_marks, IsGrid-swapped_columns}
+use Rattle.grid_moves.proofs.Exchanged.SwapGridLemmas.{swapped_marks, IsGrid-swapped_columns}
 use Rattle.grid_moves.proofs.commutations.swapped_columns.Goals as goal
 
 -- the marks are those of the exchanged grid

@@ -1,5 +1,5 @@
 -- The columns so far have the turned marks.
-use Rattle.grid_moves.proofs.TurnLemmas.{HasTurned}
+use Rattle.grid_moves.proofs.Turned.TurnLemmas.{HasTurned}
 use Rattle.grid_moves.proofs.turns.turn.Given as goal
 
 abbrev pub invariant-loop-c : goal.invariant-loop-c

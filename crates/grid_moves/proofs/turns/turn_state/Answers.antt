@@ -2,8 +2,8 @@
 use Rattle.std.proofs.Common.{◌≡◌, length, take, slice_index, ap, sym, ◌∙◌, arith, rules, subst}
 use Rattle.state_rank.specs.States.{IsState}
 use Rattle.grid_moves.specs.Moves.{moved_row}
-use Rattle.grid_moves.proofs.TurnLemmas.{HasTurned-more}
-use Rattle.grid_moves.proofs.TurnedStates.{take-turned_state, IsState-turned_state, length-turned_state}
+use Rattle.grid_moves.proofs.Turned.TurnLemmas.{HasTurned-more}
+use Rattle.grid_moves.proofs.Turned.TurnedStates.{take-turned_state, IsState-turned_state, length-turned_state}
 use Rattle.grid_moves.proofs.turns.turn_state.Goals as goal
 
 pub loop-c-preserved : goal.loop-c-preserved

@@ -1,4 +1,4 @@
-use Rattle.homology_cert.proofs.CertifiedLemmas.{table_of_certificate}
+use Rattle.homology_cert.proofs.Certified.CertifiedLemmas.{table_of_certificate}
 use Rattle.homology_cert.proofs.checks.check_cert.Goals as goal
 
 pub returns-clause-table : goal.returns-clause-table

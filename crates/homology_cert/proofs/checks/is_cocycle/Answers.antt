@@ -4,7 +4,7 @@ use Rattle.f2_algebra.specs.Chain.{pairs_oddly}
 use Rattle.state_rank.specs.States.{factorial, unrank}
 use Rattle.torus_geom.specs.Marks.{size}
 use Rattle.torus_geom.specs.Border.{border_of_state}
-use Rattle.homology_cert.proofs.CheckLemmas.{list_all-values}
+use Rattle.homology_cert.proofs.Certified.CheckLemmas.{list_all-values}
 use Rattle.homology_cert.proofs.checks.is_cocycle.Goals as goal
 
 pub returns : goal.returns

@@ -1,6 +1,6 @@
 use Rattle.std.proofs.Common.{◌+◌, arith}
 use Rattle.homology_cert.specs.CertificateTests.{has_degree}
-use Rattle.homology_cert.proofs.CheckLemmas.{ascending-count, counted}
+use Rattle.homology_cert.proofs.Certified.CheckLemmas.{ascending-count, counted}
 use Rattle.homology_cert.proofs.checks.state_count_at.Goals as goal
 
 pub overflow_add-count : goal.overflow_add-count

@@ -3,7 +3,7 @@ use Rattle.f2_algebra.specs.Certificate.{StepPair}
 use Rattle.torus_geom.specs.Border.{border}
 use Rattle.homology_cert.specs.declared.verdicts.CertTest.{CertTest}
 use Rattle.homology_cert.specs.declared.verdicts.CertTest.TheVariants.{Degree, Probe}
-use Rattle.homology_cert.proofs.CheckLemmas.{is_probe-steps, second_fails, both_pass}
+use Rattle.homology_cert.proofs.Certified.CheckLemmas.{is_probe-steps, second_fails, both_pass}
 use Rattle.homology_cert.proofs.checks.step_pair_failure.Goals as goal
 
 pub returns-then-not-is_probe : goal.returns-then-not-is_probe

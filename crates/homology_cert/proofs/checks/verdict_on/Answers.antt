@@ -6,7 +6,7 @@ use Rattle.homology_cert.specs.CertificateTests.{first_failing, cell_questions, 
 use Rattle.homology_cert.specs.declared.verdicts.CertTest.{CertTest}
 use Rattle.homology_cert.specs.declared.verdicts.CertTest.TheVariants.{Missing}
 use Rattle.homology_cert.specs.declared.verdicts.CertVerdict.TheVariants.{No}
-use Rattle.homology_cert.proofs.CheckLemmas.{all_questions-next, passed_cells, verdict_of-no, verdict_of-yes, verdict_of-missing, or_later}
+use Rattle.homology_cert.proofs.Certified.CheckLemmas.{all_questions-next, passed_cells, verdict_of-no, verdict_of-yes, verdict_of-missing, or_later}
 use Rattle.homology_cert.proofs.checks.verdict_on.Goals as goal
 
 pub cell_failure-requires-clause-states : goal.cell_failure-requires-clause-states

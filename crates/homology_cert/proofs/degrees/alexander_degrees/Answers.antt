@@ -11,7 +11,7 @@ use Rattle.torus_geom.specs.Marks.{size}
 use Rattle.torus_geom.specs.Degrees.{maslov_o, alexander}
 use Rattle.homology_cert.specs.Inner.Ranks.{HasDegrees}
 use Rattle.sparse_complex.proofs.BuildLemmas.{visited-next}
-use Rattle.homology_cert.proofs.DegreeLemmas.{degrees-none, degrees-next}
+use Rattle.homology_cert.proofs.Homology.DegreeLemmas.{degrees-none, degrees-next}
 use Rattle.homology_cert.proofs.degrees.alexander_degrees.Goals as goal
 
 pub unrank-x-requires-clause-rank : goal.unrank-x-requires-clause-rank

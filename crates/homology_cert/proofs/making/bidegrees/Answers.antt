@@ -12,7 +12,7 @@ use Rattle.torus_geom.specs.Degrees.{maslov_o, alexander}
 use Rattle.sparse_complex.proofs.BuildLemmas.{visited-next}
 use Rattle.homology_cert.specs.Inner.Ranks.{degree_cmp}
 use Rattle.homology_cert.specs.Inner.Making.{HasBidegrees}
-use Rattle.homology_cert.proofs.MakingLemmas.{bidegrees-none, bidegrees-next}
+use Rattle.homology_cert.proofs.Made.MakingLemmas.{bidegrees-none, bidegrees-next}
 use Rattle.homology_cert.proofs.making.bidegrees.Goals as goal
 
 pub unrank-x-requires-clause-rank : goal.unrank-x-requires-clause-rank

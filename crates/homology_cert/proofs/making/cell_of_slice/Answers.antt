@@ -9,8 +9,8 @@ use Rattle.cancel.specs.Logs.{log_of}
 use Rattle.torus_geom.specs.GridComplex.{grid_complex}
 use Rattle.homology_cert.specs.CertificateTests.{has_degree}
 use Rattle.homology_cert.specs.Inner.Making.{cycle_pair, left_codes, steps_after}
-use Rattle.homology_cert.proofs.SliceRanks.{reduction_of}
-use Rattle.homology_cert.proofs.MakingLemmas.{made_cell}
+use Rattle.homology_cert.proofs.Homology.SliceRanks.{reduction_of}
+use Rattle.homology_cert.proofs.Made.MakingLemmas.{made_cell}
 use Rattle.homology_cert.proofs.making.cell_of_slice.Goals as goal
 
 pub steps_of-requires : goal.steps_of-requires

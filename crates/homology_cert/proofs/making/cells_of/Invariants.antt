@@ -1,7 +1,7 @@
 -- The cells so far were made, and their bidegrees and those ahead are all.
 use Rattle.std.proofs.Common.{◌≡◌, ◌++◌, All}
 use Rattle.homology_cert.specs.Inner.Making.{IsMade}
-use Rattle.homology_cert.proofs.MakingLemmas.{keys_of}
+use Rattle.homology_cert.proofs.Made.MakingLemmas.{keys_of}
 use Rattle.homology_cert.proofs.making.cells_of.Given as goal
 
 abbrev pub invariant-loop-degree : goal.invariant-loop-degree

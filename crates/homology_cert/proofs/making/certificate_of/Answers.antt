@@ -3,8 +3,8 @@ use Rattle.std.proofs.Common.{◌<◌, length, sym, ap, subst, ◌∙◌}
 use Rattle.homology_cert.specs.Certificates.{Certificate}
 use Rattle.homology_cert.specs.CertificateTests.{verdict_of}
 use Rattle.homology_cert.specs.CertificateText.{certificate_text}
-use Rattle.homology_cert.proofs.MadeLemmas.{made_passes}
-use Rattle.homology_cert.proofs.MakingLaws.{made_certificate, made_short}
+use Rattle.homology_cert.proofs.Made.MadeLemmas.{made_passes}
+use Rattle.homology_cert.proofs.Made.MakingLaws.{made_certificate, made_short}
 use Rattle.homology_cert.proofs.making.certificate_of.Goals as goal
 
 pub of-requires : goal.of-requires

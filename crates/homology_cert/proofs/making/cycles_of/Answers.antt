@@ -10,7 +10,7 @@ use Rattle.state_rank.specs.States.{factorial}
 use Rattle.torus_geom.specs.Marks.{size}
 use Rattle.homology_cert.specs.Inner.Making.{cycle_pair, degree_is}
 use Rattle.homology_cert.specs.declared.certificates.CyclePair.{CyclePair}
-use Rattle.homology_cert.proofs.MakingLemmas.{cycles-pushed, cycles-kept}
+use Rattle.homology_cert.proofs.Made.MakingLemmas.{cycles-pushed, cycles-kept}
 use Rattle.homology_cert.proofs.making.cycles_of.Goals as goal
 use Rattle.homology_cert.proofs.making.cycles_of.Goals.{then-is_left+in_ok-cycle+in_ok-cocycle+in_ok-push, else-is_left}
 

@@ -1,5 +1,5 @@
 -- Each grid has a certificate.
-use Rattle.homology_cert.proofs.MakingLaws.{exists_certificate}
+use Rattle.homology_cert.proofs.Made.MakingLaws.{exists_certificate}
 use Rattle.homology_cert.proofs.making.make_cert.Goals as goal
 
 pub returns-clause-some_certificate : goal.returns-clause-some_certificate

@@ -12,7 +12,7 @@ use Rattle.cancel.specs.declared.logs.LogEntry.{LogEntry}
 use Rattle.cancel.specs.Logs.{log_of, entry_of}
 use Rattle.homology_cert.specs.CertificateTests.{has_degree}
 use Rattle.homology_cert.specs.Inner.Making.{steps_after}
-use Rattle.homology_cert.proofs.MakingLemmas.{steps-pushed, steps-kept, sources-below}
+use Rattle.homology_cert.proofs.Made.MakingLemmas.{steps-pushed, steps-kept, sources-below}
 use Rattle.homology_cert.proofs.making.steps_of.Goals as goal
 use Rattle.homology_cert.proofs.making.steps_of.Goals.{then-has_degree+in_ok-step+in_ok-probe+in_ok-push, else-has_degree}
 

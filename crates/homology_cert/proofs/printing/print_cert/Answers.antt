@@ -3,7 +3,7 @@ use Rattle.std.specs.List.{flat_map}
 use Rattle.torus_geom.specs.Marks.{Marks, size}
 use Rattle.homology_cert.specs.Certificates.{Cell, HasPairStates}
 use Rattle.homology_cert.specs.CertificateText.{text_of_lines, head_lines, cell_lines}
-use Rattle.homology_cert.proofs.TextLemmas.{certificate_pieces}
+use Rattle.homology_cert.proofs.Texts.TextLemmas.{certificate_pieces}
 use Rattle.homology_cert.proofs.printing.print_cert.Goals as goal
 
 pub push_cells-requires : goal.push_cells-requires

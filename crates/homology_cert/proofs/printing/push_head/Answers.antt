@@ -2,7 +2,7 @@ use Rattle.std.proofs.Common.{ℕ, List, [], ◌∷◌, ◌++◌, ap, ap₂, ◌
 use Rattle.std.specs.Fmt.{decimal}
 use Rattle.torus_geom.specs.Marks.{size}
 use Rattle.homology_cert.specs.CertificateText.{marks_line}
-use Rattle.homology_cert.proofs.TextLemmas.{head_pieces}
+use Rattle.homology_cert.proofs.Texts.TextLemmas.{head_pieces}
 use Rattle.homology_cert.proofs.printing.push_head.Goals as goal
 
 -- piece after piece

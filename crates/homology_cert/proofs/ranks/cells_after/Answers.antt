@@ -2,8 +2,8 @@
 use Rattle.std.proofs.lemmas.Result.{IfOk-weaker}
 use Rattle.f2_algebra.specs.Slice.{slice_complex}
 use Rattle.homology_cert.specs.Inner.Ranks.{HasRanks}
-use Rattle.homology_cert.proofs.SliceRanks.{reduction_of}
-use Rattle.homology_cert.proofs.CellLemmas.{ranks_of_cells}
+use Rattle.homology_cert.proofs.Homology.SliceRanks.{reduction_of}
+use Rattle.homology_cert.proofs.Homology.CellLemmas.{ranks_of_cells}
 use Rattle.homology_cert.proofs.ranks.cells_after.Goals as goal
 
 pub returns : goal.returns

@@ -8,7 +8,7 @@ use Rattle.std.proofs.lemmas.Int.{to_z-of_z}
 use Rattle.std.proofs.lemmas.List.{take_more, length-take-le}
 use Rattle.sparse_complex.specs.Inner.Graph.{no_cell}
 use Rattle.homology_cert.specs.Inner.Ranks.{degree_cmp, rank_in, AreCounted}
-use Rattle.homology_cert.proofs.CountLemmas.{counted-none, counted-next, count_fits}
+use Rattle.homology_cert.proofs.Homology.CountLemmas.{counted-none, counted-next, count_fits}
 use Rattle.homology_cert.proofs.ranks.count_cells.Goals as goal
 
 pub loop-cell-init : goal.loop-cell-init

@@ -1,8 +1,8 @@
 use Rattle.std.proofs.Common.{◌≡◌, sym, ap, ◌∙◌, false}
 use Rattle.homology_cert.specs.Certificates.{comes_first}
 use Rattle.homology_cert.specs.Inner.Cells.{new_cell}
-use Rattle.homology_cert.proofs.NextLemmas.{next-in_cell, not_told, not_true}
-use Rattle.homology_cert.proofs.PlaceLemmas.{not_after}
+use Rattle.homology_cert.proofs.Texts.NextLemmas.{next-in_cell, not_told, not_true}
+use Rattle.homology_cert.proofs.Texts.PlaceLemmas.{not_after}
 use Rattle.homology_cert.proofs.reading.cell_place.Goals as goal
 
 pub returns-in_default : goal.returns-in_default

@@ -3,7 +3,7 @@ use Rattle.torus_geom.specs.Marks.{size}
 use Rattle.homology_cert.specs.Certificates.{AreStates}
 use Rattle.homology_cert.specs.CertificateText.{set_line}
 use Rattle.homology_cert.specs.declared.reading.Place.TheVariants.{InCell}
-use Rattle.homology_cert.proofs.ByteLemmas.{from_some}
+use Rattle.homology_cert.proofs.Texts.ByteLemmas.{from_some}
 use Rattle.homology_cert.proofs.reading.cycle_place.Goals as goal
 
 pub returns-in_ok-with_cycle-in-Some : goal.returns-in_ok-with_cycle-in-Some

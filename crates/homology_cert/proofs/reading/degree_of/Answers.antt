@@ -1,6 +1,6 @@
 use Rattle.std.proofs.Common.{◌∙◌, sym, ap, ◌++◌, ◌∷◌}
 use Rattle.std.specs.Fmt.{signed_decimal}
-use Rattle.homology_cert.proofs.ByteLemmas.{degree_words, no_space, degree_parts}
+use Rattle.homology_cert.proofs.Texts.ByteLemmas.{degree_words, no_space, degree_parts}
 use Rattle.homology_cert.proofs.reading.degree_of.Goals as goal
 
 pub returns-in_default-clause-none : goal.returns-in_default-clause-none

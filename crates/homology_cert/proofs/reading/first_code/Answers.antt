@@ -2,7 +2,7 @@ use Rattle.std.proofs.Common.{◌+◌, ◌∷◌, ◌++◌, arith, ◌∙◌, sy
 use Rattle.sparse_complex.proofs.BuildLemmas.{factorial_fits}
 use Rattle.state_rank.specs.States.{unrank, state_word}
 use Rattle.state_rank.proofs.RankLemmas.{IsBijection-unrank}
-use Rattle.homology_cert.proofs.ByteLemmas.{state_first, state_bytes, rest_whole}
+use Rattle.homology_cert.proofs.Texts.ByteLemmas.{state_first, state_bytes, rest_whole}
 use Rattle.homology_cert.proofs.reading.first_code.Goals as goal
 use Rattle.homology_cert.proofs.reading.first_code.Goals.{then-bytes-digits-via-then-bytes-digits, then-bytes-digits-via-else-bytes-digits+then-bytes-ne32}
 

@@ -1,6 +1,6 @@
 use Rattle.std.proofs.Common.{arith, ap, sym, ◌∙◌, length, take, drop, get_or, ◌∷◌, length-take}
-use Rattle.homology_cert.proofs.ByteLemmas.{rest_whole}
-use Rattle.homology_cert.proofs.MarkLemmas.{length-spaced, marks_line-spaced, marks_read, no_marks, first_and_rest}
+use Rattle.homology_cert.proofs.Texts.ByteLemmas.{rest_whole}
+use Rattle.homology_cert.proofs.Texts.MarkLemmas.{length-spaced, marks_line-spaced, marks_read, no_marks, first_and_rest}
 use Rattle.homology_cert.proofs.reading.marks_of.Goals as goal
 use Rattle.homology_cert.proofs.reading.marks_of.Goals.{then-line-columns-via-then-line-columns, then-line-columns-via-else-line-columns+then-line-letter}
 

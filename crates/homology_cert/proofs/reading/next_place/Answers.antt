@@ -1,5 +1,5 @@
 use Rattle.homology_cert.specs.declared.reading.Place.TheVariants.{XLine, NoCell, InCell, InCycle, InStep}
-use Rattle.homology_cert.proofs.NextLemmas.{at_place, at_place-ok, no_cells, next-x, next-no_cell, next-in_cycle, next-in_step}
+use Rattle.homology_cert.proofs.Texts.NextLemmas.{at_place, at_place-ok, no_cells, next-x, next-no_cell, next-in_cycle, next-in_step}
 use Rattle.homology_cert.proofs.reading.next_place.Goals as goal
 
 pub returns-in-XLine : goal.returns-in-XLine

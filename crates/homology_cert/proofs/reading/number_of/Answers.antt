@@ -1,6 +1,6 @@
 use Rattle.std.proofs.Common.{◌∙◌, sym, ap}
 use Rattle.std.specs.Result.{result_ok}
-use Rattle.homology_cert.proofs.ByteLemmas.{small_ascii, parsed, as_i32}
+use Rattle.homology_cert.proofs.Texts.ByteLemmas.{small_ascii, parsed, as_i32}
 use Rattle.homology_cert.proofs.reading.number_of.Goals as goal
 
 pub returns-in_default : goal.returns-in_default

@@ -3,7 +3,7 @@ use Rattle.std.proofs.lemmas.Bool.Decides.{nat_tests}
 use Rattle.torus_geom.specs.Marks.{size}
 use Rattle.homology_cert.specs.Certificates.{AreStates}
 use Rattle.homology_cert.specs.CertificateText.{set_line}
-use Rattle.homology_cert.proofs.ByteLemmas.{from_some, empty_list}
+use Rattle.homology_cert.proofs.Texts.ByteLemmas.{from_some, empty_list}
 use Rattle.homology_cert.proofs.reading.pair_place.Goals as goal
 
 pub returns-in-Some : goal.returns-in-Some

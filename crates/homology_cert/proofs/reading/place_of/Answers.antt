@@ -1,5 +1,5 @@
 use Rattle.std.proofs.Common.{arith}
-use Rattle.homology_cert.proofs.ByteLemmas.{free-take_more}
+use Rattle.homology_cert.proofs.Texts.ByteLemmas.{free-take_more}
 use Rattle.homology_cert.proofs.reading.place_of.Goals as goal
 
 pub loop-k-preserved : goal.loop-k-preserved

@@ -1,5 +1,5 @@
-use Rattle.homology_cert.proofs.ReadLemmas.{read_back, one_certificate, one_bad_line}
-use Rattle.homology_cert.proofs.DecisionLemmas.{some_answer}
+use Rattle.homology_cert.proofs.Texts.ReadLemmas.{read_back, one_certificate, one_bad_line}
+use Rattle.homology_cert.proofs.Texts.DecisionLemmas.{some_answer}
 use Rattle.homology_cert.proofs.reading.read_cert.Goals as goal
 
 pub returns-clause-read_back : goal.returns-clause-read_back

@@ -1,5 +1,5 @@
 use Rattle.std.proofs.Common.{arith}
-use Rattle.homology_cert.proofs.ByteLemmas.{state_word-none}
+use Rattle.homology_cert.proofs.Texts.ByteLemmas.{state_word-none}
 use Rattle.homology_cert.proofs.reading.read_digits.Goals as goal
 
 pub returns-in_default-clause-none : goal.returns-in_default-clause-none

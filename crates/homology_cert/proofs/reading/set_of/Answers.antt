@@ -4,8 +4,8 @@ use Rattle.f2_algebra.specs.Chain.{codes}
 use Rattle.state_rank.specs.States.{factorial}
 use Rattle.torus_geom.specs.Marks.{size}
 use Rattle.homology_cert.specs.CertificateText.{set_line}
-use Rattle.homology_cert.proofs.ByteLemmas.{no_bytes}
-use Rattle.homology_cert.proofs.SetLemmas.{IsReadSet, IsReadSet-next, IsReadSet-end, no_set-no_code, no_set-not_above}
+use Rattle.homology_cert.proofs.Texts.ByteLemmas.{no_bytes}
+use Rattle.homology_cert.proofs.Texts.SetLemmas.{IsReadSet, IsReadSet-next, IsReadSet-end, no_set-no_code, no_set-not_above}
 use Rattle.homology_cert.proofs.reading.set_of.Goals as goal
 
 pub returns-in_default-first_code-clause-none : goal.returns-in_default-first_code-clause-none

@@ -1,6 +1,6 @@
 -- what was read of the line
 use Rattle.std.proofs.Common.{length}
-use Rattle.homology_cert.proofs.SetLemmas.{IsReadSet}
+use Rattle.homology_cert.proofs.Texts.SetLemmas.{IsReadSet}
 use Rattle.homology_cert.proofs.reading.set_of.Given as goal
 
 abbrev pub invariant-loop-rest : goal.invariant-loop-rest

@@ -1,6 +1,6 @@
 use Rattle.std.proofs.Common.{◌-◌, ◌++◌, arith, sym, ap, ◌∙◌, length, get_or, refl}
 use Rattle.std.specs.Fmt.{decimal}
-use Rattle.homology_cert.proofs.ByteLemmas.{size_digits, size_of_digit}
+use Rattle.homology_cert.proofs.Texts.ByteLemmas.{size_digits, size_of_digit}
 use Rattle.homology_cert.proofs.reading.size_place.Goals as goal
 use Rattle.homology_cert.proofs.reading.size_place.Goals.{then-digits-ne1-via-then-digits-ne1, then-digits-ne1-via-else-digits-ne1+then-digits-lt50, then-digits-ne1-via-else-digits-ne1+else-digits-lt50+then-digits-gt54}
 

@@ -1,5 +1,5 @@
 use Rattle.std.proofs.Common.{arith, ap, ◌∙◌, length, ◌<◌, get_or, ◌*◌, ◌+◌}
-use Rattle.homology_cert.proofs.MarkLemmas.{length-spaced, get_or-space, get_or-digit}
+use Rattle.homology_cert.proofs.Texts.MarkLemmas.{length-spaced, get_or-space, get_or-digit}
 use Rattle.homology_cert.proofs.reading.spaced_digits.Goals as goal
 use Rattle.homology_cert.proofs.reading.spaced_digits.Goals.{then-bytes-c-ne32-via-then-bytes-c-ne32, then-bytes-c-ne32-via-else-bytes-c-ne32+then-bytes-c-lt48}
 

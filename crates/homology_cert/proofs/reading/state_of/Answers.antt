@@ -1,4 +1,4 @@
-use Rattle.homology_cert.proofs.ByteLemmas.{state_of-read}
+use Rattle.homology_cert.proofs.Texts.ByteLemmas.{state_of-read}
 use Rattle.homology_cert.proofs.reading.state_of.Goals as goal
 
 pub returns : goal.returns

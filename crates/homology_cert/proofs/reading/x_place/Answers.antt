@@ -1,7 +1,7 @@
 use Rattle.std.proofs.Common.{arith, ◌≡◌, Err, ap, sym, ◌∙◌, codes}
-use Rattle.homology_cert.proofs.LineLemmas.{marks_line-injective}
-use Rattle.homology_cert.proofs.PlaceLemmas.{small_rows}
-use Rattle.homology_cert.proofs.MarkLemmas.{not_apart}
+use Rattle.homology_cert.proofs.Texts.LineLemmas.{marks_line-injective}
+use Rattle.homology_cert.proofs.Texts.PlaceLemmas.{small_rows}
+use Rattle.homology_cert.proofs.Texts.MarkLemmas.{not_apart}
 use Rattle.homology_cert.proofs.reading.x_place.Goals as goal
 
 pub returns-in-Err-SameSquare : goal.returns-in-Err-SameSquare

@@ -1,6 +1,6 @@
 -- The laws of ranks and tables.
-use Rattle.homology_cert.proofs.SliceRanks.{one_homology_rank}
-use Rattle.homology_cert.proofs.LawLemmas.{some_homology_rank, one_homology_table}
+use Rattle.homology_cert.proofs.Homology.SliceRanks.{one_homology_rank}
+use Rattle.homology_cert.proofs.Homology.LawLemmas.{some_homology_rank, one_homology_table}
 use Rattle.homology_cert.proofs.tables.rank_table.Goals as goal
 
 pub returns-clause-some_rank : goal.returns-clause-some_rank

@@ -8,8 +8,8 @@ use Rattle.sparse_complex.specs.declared.slices.Cell.{Cell}
 use Rattle.torus_geom.specs.Homology.{IsHomologyTable}
 use Rattle.homology_cert.specs.Tables.{homology_row, HasSmallDegrees, HasSmallRank}
 use Rattle.homology_cert.specs.Inner.Ranks.{degree_cmp, HasRanks, AreCounted, AreRows}
-use Rattle.homology_cert.proofs.DegreeLemmas.{small-degrees}
-use Rattle.homology_cert.proofs.TableLemmas.{AreLeft, done-none, done-next, rows-of_ranks, rows-table, rows-small, rows-homology, IfSome-value}
+use Rattle.homology_cert.proofs.Homology.DegreeLemmas.{small-degrees}
+use Rattle.homology_cert.proofs.Homology.TableLemmas.{AreLeft, done-none, done-next, rows-of_ranks, rows-table, rows-small, rows-homology, IfSome-value}
 use Rattle.homology_cert.proofs.tables.table_of.Goals as goal
 
 pub loop-a-init : goal.loop-a-init

@@ -1,5 +1,5 @@
 -- The map has the ranks at all degrees but those that are left.
-use Rattle.homology_cert.proofs.TableLemmas.{AreLeft}
+use Rattle.homology_cert.proofs.Homology.TableLemmas.{AreLeft}
 use Rattle.homology_cert.proofs.tables.table_of.Given as goal
 
 abbrev pub invariant-loop-a : goal.invariant-loop-a

@@ -1,0 +1,4 @@
+pub mod ReportLemmas
+pub mod ChainLemmas
+pub mod ClassLemmas
+pub mod HatLemmas

@@ -1,0 +1,147 @@
+-- Each grid has a table, and a hat or none.
+use Rattle.std.proofs.Common.{◌≡◌, ℕ, ◌<◌, ◌≤◌, List, [], ◌∷◌, map, length, get_or, All, Contains, Option, Some, None, inl, inr, true, refl, sym, ap, subst, ◌∙◌, arith}
+use Rattle.std.specs.Prelude.{◌<ℤ◌}
+use Rattle.std.specs.Prelude.{MatchOption}
+use Rattle.std.proofs.lemmas.Int.{ints}
+use Rattle.std.proofs.lemmas.List.{get_or-map, length-map}
+use Rattle.std.proofs.lemmas.List.Elements.{Contains-get_or}
+use Rattle.std.proofs.lemmas.List.Sums.{length-filter, count_by-le-length}
+use Rattle.state_rank.specs.Bijection.{ascending}
+use Rattle.state_rank.proofs.OrderLemmas.{length-tabulate}
+use Rattle.hat_division.specs.Table.{comes_before, AreOrdered}
+use Rattle.hat_division.specs.Product.{IsQuotient}
+use Rattle.hat_division.specs.Inner.Products.{ArePositive}
+use Rattle.hat_division.specs.declared.tables.TableRow.{TableRow}
+use Rattle.hat_division.proofs.QuotientLemmas.{has_quotient}
+use Rattle.homology_cert.specs.Tables.{homology_row}
+use Rattle.homology_cert.proofs.Homology.ExistenceLemmas.{exists_homology_table}
+use Rattle.homology_cert.proofs.Homology.LawLemmas.{one_homology_table}
+use Rattle.report_text.specs.Lines.{table_lines, hat_lines}
+use Rattle.torus_geom.specs.Components.{is_first, components}
+use Rattle.torus_geom.specs.Homology.{IsHomologyTable, Row, StandsBefore}
+use Rattle.torus_geom.specs.Marks.{Marks, size, IsGrid}
+use Rattle.grid_job.specs.Hat.{hat_exponent, IsHat, IsHatText}
+use Rattle.grid_job.specs.Report.{IsTableText}
+
+-- ---- each grid has a table
+table_row : Row → TableRow
+table_row row = record { m = row.0; a = row.1; rank = row.2 }
+
+homology_rows : (rows : List Row) → map homology_row (map table_row rows) ≡ rows
+unfolding table_row
+homology_rows [] = refl
+homology_rows (row ∷ rows) = ap (λ rs. row ∷ rs) (homology_rows rows)
+
+table_rows : (rows : List TableRow) → map table_row (map homology_row rows) ≡ rows
+unfolding table_row
+table_rows [] = refl
+table_rows (row ∷ rows) = ap (λ rs. row ∷ rs) (table_rows rows)
+
+pub exists_rows : (g : Marks) → IsGrid g → (rows : List TableRow) × IsHomologyTable g (map homology_row rows)
+exists_rows g grid =
+    let found = exists_homology_table g grid in
+    (map table_row found.0, subst (IsHomologyTable g) (sym (homology_rows found.0)) found.1)
+
+pub exists_table : (g : Marks) → IsGrid g → (text : List ℕ) × IsTableText g text
+exists_table g grid =
+    let found = exists_rows g grid in
+    (table_lines found.0, record { rows = found.0; table = found.1; lines = refl })
+
+-- and no other
+one_table : (g : Marks) (rows others : List TableRow) → IsHomologyTable g (map homology_row rows)
+    → IsHomologyTable g (map homology_row others) → rows ≡ others
+one_table g rows others table other =
+    sym (table_rows rows)
+    ∙ ap (map table_row) (one_homology_table g (map homology_row rows) (map homology_row others) table other)
+    ∙ table_rows others
+
+-- ---- its rows are in order, with ranks above 0
+comes_first : (p q : TableRow) → StandsBefore (homology_row p) (homology_row q) → comes_before p q ≡ true
+comes_first p q (inl higher) = above p q higher
+  where
+    above : (p q : TableRow) → q.a <ℤ p.a → comes_before p q ≡ true
+    above p q h = grind (arith, ints)
+comes_first p q (inr level) = beside p q level.0 level.1
+  where
+    beside : (p q : TableRow) → q.a ≡ p.a → q.m <ℤ p.m → comes_before p q ≡ true
+    beside p q e h = grind (arith, ints)
+
+module _ (g : Marks) (rows : List TableRow) (table : IsHomologyTable g (map homology_row rows)) where
+  at_row : (k : ℕ) (d : TableRow) → k < length rows
+      → get_or (map homology_row rows) k (homology_row d) ≡ homology_row (get_or rows k d)
+  at_row k d l = get_or-map homology_row rows k d (homology_row d) l
+
+  longer : (k : ℕ) → k < length rows → k < length (map homology_row rows)
+  longer k l = omega (arith, l, length-map rows homology_row)
+
+  in_order : AreOrdered rows
+  in_order i j d l within =
+      let pair = table.ordered i j (homology_row d) l (longer j within) in
+      let first =
+      subst (λ r. StandsBefore r (get_or (map homology_row rows) j (homology_row d)))
+      (at_row i d (omega (arith, l, within))) pair in
+      comes_first (get_or rows i d) (get_or rows j d)
+      (subst (StandsBefore (homology_row (get_or rows i d))) (at_row j d within) first)
+
+  above_zero : All (λ (row : TableRow). 1 ≤ row.rank) rows
+  above_zero k d l =
+      let row = get_or rows k d in
+      let inside : Contains (map homology_row rows) (homology_row row) =
+      subst (Contains (map homology_row rows)) (at_row k d l)
+      (Contains-get_or (map homology_row rows) k (homology_row d) (longer k l)) in
+      omega (arith, ((table.complete row.m row.a row.rank).0 inside).0)
+
+  ArePositive-homology : ArePositive rows
+  ArePositive-homology = record { ordered = in_order; positive = above_zero }
+
+-- ---- the exponent
+-- there are at most as many components as columns
+pub components-le : (g : Marks) → components g ≤ size g
+unfolding components
+components-le g =
+    omega (
+      arith,
+      length-filter (is_first g) (ascending (size g)),
+      count_by-le-length (is_first g) (ascending (size g)),
+      length-tabulate (size g) (λ (c : ℕ). c),
+    )
+
+-- ---- each grid has a hat or has none
+IsHat-quotient : (g : Marks) (rows q : List TableRow) → IsHomologyTable g (map homology_row rows)
+    → IsQuotient (hat_exponent g) rows q → IsHat g q
+IsHat-quotient g rows q table quotient = record { rows = rows; table = table; quotient = quotient }
+
+quotient-IsHat : (g : Marks) (rows q : List TableRow) → IsHomologyTable g (map homology_row rows) → IsHat g q
+    → IsQuotient (hat_exponent g) rows q
+quotient-IsHat g rows q table hat =
+    subst (λ r. IsQuotient (hat_exponent g) r q) (one_table g hat.rows rows hat.table table) hat.quotient
+
+pub exists_hat_text : (g : Marks) → IsGrid g → (text : List ℕ) × IsHatText g text
+exists_hat_text g grid =
+    let found = exists_rows g grid in
+    elim (has_quotient (hat_exponent g) found.0 (ArePositive-homology g found.0 found.1)) [
+      | inl q ↦ (
+        hat_lines (hat_exponent g) (Some q.0),
+        record { hat = Some q.0; told = IsHat-quotient g found.0 q.0 found.1 q.1; lines = refl },
+      )
+      | inr none ↦ (
+        hat_lines (hat_exponent g) None,
+        record { hat = None; told = λ q hat. none q (quotient-IsHat g found.0 q found.1 hat); lines = refl },
+      )
+    ]
+
+-- the lines of the quotient by the exponent of the grid, or of none, are those of the hat
+pub IsHatText-quotient : (g : Marks) (k : ℕ) (rows : List TableRow) (found : Option (List TableRow)) (text : List ℕ)
+    → k ≡ hat_exponent g → IsHomologyTable g (map homology_row rows)
+    → MatchOption found ((q : List TableRow) → IsQuotient k rows q → ⊥) (λ q. IsQuotient k rows q)
+    → text ≡ hat_lines k found → IsHatText g text
+IsHatText-quotient g k rows None text exponent table told lines = record {
+  hat = None;
+  told = λ q hat. told q (subst (λ n. IsQuotient n rows q) (sym exponent) (quotient-IsHat g rows q table hat));
+  lines = lines ∙ ap (λ n. hat_lines n None) exponent;
+}
+IsHatText-quotient g k rows (Some q) text exponent table told lines = record {
+  hat = Some q;
+  told = IsHat-quotient g rows q table (subst (λ n. IsQuotient n rows q) exponent told);
+  lines = lines ∙ ap (λ n. hat_lines n (Some q)) exponent;
+}

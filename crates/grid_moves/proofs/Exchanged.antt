@@ -1,0 +1,4 @@
+pub mod CommutesAgain
+pub mod SwapGridLemmas
+pub mod SwappedTwice
+pub mod TransposedGrids

@@ -1,0 +1,11 @@
+pub mod ComponentLemmas
+pub mod CycleCounts
+pub mod CarriedChains
+pub mod StateChains
+pub mod Shifts
+pub mod Reindexing
+pub mod TurnLemmas
+pub mod TurnedBorders
+pub mod TurnedDegrees
+pub mod TurnedStates
+pub mod TurnedSteps

@@ -1,0 +1,7 @@
+pub mod SliceRanks
+pub mod CellLemmas
+pub mod CountLemmas
+pub mod DegreeLemmas
+pub mod TableLemmas
+pub mod LawLemmas
+pub mod ExistenceLemmas

@@ -1,0 +1,408 @@
+-- The table of a grid: from the map of its ranks to rows in order. Each Alexander degree of a state is done
+-- in turn; at the others no state stands, so each rank there is 0.
+use Rattle.std.proofs.Common.{◌≡◌, ℕ, ◌-◌, ◌<◌, ◌^◌, ℤ, pos, neg_ℤ, ◌≤ℤ◌, Bool, true, false, List, [], ◌∷◌, map, reverse, length, get_or, All, AllPairs, Contains, IsTrue, Option, Some, None, if◌then◌else◌, ◌⊎◌, inl, inr, refl, sym, ap, subst, ◌∙◌, arith}
+use Rattle.std.specs.Prelude.{◌<ℤ◌, int_lt, is_some}
+use Rattle.std.specs.List.{AllByRecursion}
+use Rattle.std.specs.List.Sorted.{IsStrictlySortedBy}
+use Rattle.std.specs.Map.{keys_of, lookup}
+use Rattle.std.specs.Option.{unwrap_or, IfSome}
+use Rattle.std.specs.Ordering.{int_cmp, int_eq, is_lt, ordering_then}
+use Rattle.std.specs.declared.cmp.Ordering.{Ordering}
+use Rattle.std.specs.declared.cmp.Ordering.TheVariants.{Less, Equal, Greater}
+use Rattle.std.specs.BTreeMap as tree
+use Rattle.std.specs.BTreeSet.{BTreeSet}
+use Rattle.std.proofs.lemmas.Bool.{cases_Bool, false≢true, ltb-true}
+use Rattle.std.proofs.lemmas.Bool.Decides.{Decides-int_eq}
+use Rattle.std.proofs.lemmas.Cmp.{int_cmp_total, int_ranked, tied_itself}
+use Rattle.std.proofs.lemmas.Int.{ints}
+use Rattle.std.proofs.lemmas.List.{length-map, length-reverse, get_or-map, get_or-reverse}
+use Rattle.std.proofs.lemmas.List.Elements.{All-nil, Contains-get_or}
+use Rattle.std.proofs.lemmas.Map.Lookups.{exact_signed}
+use Rattle.std.proofs.lemmas.Map.Views.{btree_map_get_iff, btree_set_contains_iff}
+use Rattle.f2_algebra.specs.Chain.{Chain, holds, nothing, ◌⊕◌}
+use Rattle.f2_algebra.specs.Complex.{Complex, IsRank}
+use Rattle.f2_algebra.proofs.Cancelling.LogLemmas.{none_where}
+use Rattle.f2_algebra.proofs.Ranks.RankLemmas.{degree-nothing}
+use Rattle.f2_algebra.proofs.Cancelling.Cancellation.{border-nothing, same_some}
+use Rattle.f2_algebra.proofs.Chains.Sets.{same_chain, holds-nothing}
+use Rattle.f2_algebra.proofs.Chains.Sums.{add_self}
+use Rattle.state_rank.specs.States.{factorial, unrank}
+use Rattle.state_rank.proofs.MemberLemmas.{member_cases, member_tail, no_member, Contains-map, member_of_map, pairs_cons}
+use Rattle.torus_geom.specs.Marks.{Marks, size}
+use Rattle.torus_geom.specs.Degrees.{alexander, bidegree}
+use Rattle.torus_geom.specs.GridComplex.{grid_complex}
+use Rattle.torus_geom.specs.Homology.{IsHomologyRank, IsHomologyTable, Row, StandsBefore}
+use Rattle.sparse_complex.specs.declared.slices.Cell.{Cell}
+use Rattle.hat_division.specs.Table.{comes_before, IsTable}
+use Rattle.hat_division.specs.declared.tables.TableRow.{TableRow}
+use Rattle.gradings.specs.Degrees.{IsSmallDegree}
+use Rattle.homology_cert.specs.Tables.{homology_row, HasSmallDegrees}
+use Rattle.homology_cert.specs.Inner.Ranks.{degree_cmp, Ranks, rank_in, row_of, AreSmall, HasHomology, HasDegrees, HasRanks, AreCounted, IsTold, IsDone, AreReversed, AreRows}
+use Rattle.homology_cert.proofs.Homology.CountLemmas.{degree_cmp_total, exact_degrees, told-counted, told-other}
+use Rattle.homology_cert.proofs.Homology.SliceRanks.{one_homology_rank}
+
+-- ---- degrees that no state has
+no_marks : (ps : List Bool) → length ps ≡ 0 → ps ≡ []
+no_marks [] e = refl
+no_marks (p ∷ ps) e = absurd (omega arith)
+
+module _ {G : Type 0} (C : Complex G) (m : G) (none : (s : ℕ) → C.degree s ≡ Some m → ⊥) where
+  no_chain : (z : Chain) → ((s : ℕ) → holds z s ≡ true → C.degree s ≡ Some m) → z ≡ nothing
+  no_chain z of = same_chain z nothing (λ q. none_where (holds z q) (λ h. none q (of q h)) ∙ sym (holds-nothing q))
+
+  -- in a degree with no cell the rank is 0
+  pub rank-no_cell : IsRank C m 0
+  rank-no_cell = (
+    [],
+    record {
+      cycles = All-nil _;
+      one_subset = λ z c.
+          let empty = no_chain z c.0 in (
+            [],
+            (
+              refl,
+              (
+                nothing,
+                degree-nothing C (C.up m),
+                border-nothing C ∙ sym (ap (λ y. y ⊕ nothing) empty ∙ add_self nothing),
+              ),
+            ),
+            λ ps f. no_marks ps f.0,
+          );
+    },
+    refl,
+  )
+
+-- the degree of a state, and of no other code
+pub state_degree : (g : Marks) (s : ℕ) (b : Bool) (d : ℤ × ℤ)
+    → (if b then Some (bidegree g (unrank (size g) s)) else None) ≡ Some d
+    → (b ≡ true) × (bidegree g (unrank (size g) s) ≡ d)
+state_degree g s true d e = (refl, same_some _ _ e)
+state_degree g s false d e = absurd (false≢true (ap is_some e))
+
+-- a row of the table is at the degree of some state: it is at no degree that no state has
+pub no_homology : (g : Marks) (row : TableRow)
+    → ((s : ℕ) → s < factorial (size g) → bidegree g (unrank (size g) s) ≡ (row.m, row.a) → ⊥) → HasHomology g row → ⊥
+no_homology g row none held =
+    let empty : IsHomologyRank g row.m row.a 0 = rank-no_cell (grid_complex g) (row.m, row.a) (λ s e.
+    let told = state_degree g s _ (row.m, row.a) e in
+    none s (ltb-true s (factorial (size g)) told.0) told.1) in
+    let zero_rank = one_homology_rank g row.m row.a row.rank 0 held.rank empty in
+    let positive = held.positive in
+    omega (arith, zero_rank, positive)
+
+too_high : (d : ℤ) → int_lt (pos 1000) d ≡ true → IsSmallDegree d → ⊥
+too_high d h s = let k = s.high in grind (arith, ints)
+
+too_low : (d : ℤ) → int_lt d (neg_ℤ (pos 1000)) ≡ true → IsSmallDegree d → ⊥
+too_low d h s = let k = s.low in grind (arith, ints)
+
+not_low : (d : ℤ) → int_lt d (neg_ℤ (pos 1000)) ≡ false → neg_ℤ (pos 1000) ≤ℤ d
+not_low d h = grind (arith, ints)
+
+not_high : (d : ℤ) → int_lt (pos 1000) d ≡ false → d ≤ℤ pos 1000
+not_high d h = grind (arith, ints)
+
+-- a degree is small or not
+small_or_not : (d : ℤ) → IsSmallDegree d ⊎ (IsSmallDegree d → ⊥)
+small_or_not d = elim (cases_Bool (int_lt (pos 1000) d)) [
+  | inl h ↦ inr (too_high d h)
+  | inr h ↦ elim (cases_Bool (int_lt d (neg_ℤ (pos 1000)))) [
+    | inl k ↦ inr (too_low d k)
+    | inr k ↦ inl (record { low = not_low d k; high = not_high d h })
+  ]
+]
+
+-- the degrees of a row of the table are small
+pub small_degrees : (g : Marks) → AreSmall g → (row : TableRow) → HasHomology g row → HasSmallDegrees row
+small_degrees g small row held = record {
+  maslov = elim (small_or_not row.m) [
+    | inl is ↦ is
+    | inr is_not ↦
+        absurd (no_homology g row (λ s l e. is_not (subst IsSmallDegree (ap (λ d. d.0) e) (small.maslov s l))) held)
+  ];
+  alexander = elim (small_or_not row.a) [
+    | inl is ↦ is
+    | inr is_not ↦
+        absurd (no_homology g row (λ s l e. is_not (subst IsSmallDegree (ap (λ d. d.1) e)
+        (small.alexander s l))) held)
+  ];
+}
+
+-- ---- the Alexander degrees, one by one
+-- before the first, the map has nothing, and the ranks at degrees that no state has are 0
+pub done-none : (g : Marks) (degrees : BTreeSet ℤ) (ranks : Ranks) → tree.IsEmpty ranks
+    → HasDegrees g (factorial (size g)) degrees → IsDone g degrees.keys ranks
+done-none g degrees ranks empty has = record {
+  done = λ a unseen. record {
+    told = λ m. subst (IsHomologyRank g m a) (sym (nothing_at a m)) (rank-no_cell (grid_complex g) (m, a) (λ s e.
+        let told = state_degree g s _ (m, a) e in
+        unseen (seen a s (ltb-true s (factorial (size g)) told.0) (ap (λ (d : ℤ × ℤ). d.1) told.1))));
+    small = λ m. subst (λ k. k < 2 ^ 32) (sym (nothing_at a m)) (omega arith);
+  };
+  fresh = λ a m waiting. no_value a m;
+  positive = λ a m. subst (λ o. IfSome o (λ d. 0 < d)) (sym (no_value a m)) tt;
+}
+  where
+    no_value : (a m : ℤ) → tree.get degree_cmp ranks (a, m) ≡ None
+    no_value a m = ap (λ es. lookup (tree.is_at (degree_cmp (a, m))) es) empty
+
+    nothing_at : (a m : ℤ) → rank_in ranks a m ≡ 0
+    nothing_at a m = ap (λ o. unwrap_or o 0) (no_value a m)
+
+    seen : (a : ℤ) (s : ℕ) → s < factorial (size g) → alexander g (unrank (size g) s) ≡ a → Contains degrees.keys a
+    seen a s l e =
+        subst (λ b. Contains degrees.keys b) e
+        ((btree_set_contains_iff int_cmp_total exact_signed degrees (alexander g (unrank (size g) s))).0
+        (has.found s l))
+
+not_later : (a : ℤ) (left : List ℤ) → AllByRecursion (λ b. int_cmp a b ≡ Less) left → Contains left a → ⊥
+not_later a [] h inside = no_member a inside
+not_later a (b ∷ left) h inside = elim (member_cases b left a inside) [
+  | inl is ↦
+      false≢true (sym (ap is_lt (tied_itself int_cmp_total a)) ∙ ap (λ c. is_lt (int_cmp a c)) (sym is)
+      ∙ ap is_lt h.0)
+  | inr later ↦ not_later a left h.1 later
+]
+
+-- the degrees that are left, in order
+abbrev pub AreLeft : Marks → List ℤ → Ranks → Type 0
+AreLeft g left ranks = IsStrictlySortedBy int_cmp left × IsDone g left ranks
+
+-- the next degree is done
+pub done-next : (g : Marks) (a : ℤ) (left : List ℤ) (cells : List Cell) (old new : Ranks) → HasRanks g a cells
+    → AreCounted a cells old new → AreLeft g (a ∷ left) old → AreLeft g left new
+unfolding IsStrictlySortedBy
+done-next g a left cells old new has counted so_far = (
+  so_far.0.1,
+  record {
+    done = λ b gone. elim (same_or_not b) [
+      | inl is ↦ subst (IsTold g new) (sym is) (told-counted g a cells old new has counted)
+      | inr other ↦
+          told-other g a b cells old new other counted
+          (so_far.1.done b (λ inside. elim (member_cases a left b inside) [
+            | inl is ↦ other (sym is)
+            | inr later ↦ gone later
+          ]))
+    ];
+    fresh = λ b m waiting.
+        counted.others b m (λ is. not_later a left so_far.0.0 (subst (λ c. Contains left c) is waiting))
+        ∙ so_far.1.fresh b m (member_tail a left b waiting);
+    positive = counted.positive;
+  },
+)
+  where
+    same_or_not : (b : ℤ) → (b ≡ a) ⊎ (b ≡ a → ⊥)
+    same_or_not b = elim (cases_Bool (int_eq b a)) [
+      | inl h ↦ inl ((Decides-int_eq b a).0 h)
+      | inr h ↦ inr (λ e. false≢true (sym h ∙ (Decides-int_eq b a).1 e))
+    ]
+
+-- what holds of the value of an option
+pub IfSome-value : {X : Type 0} (P : X → Type 0) (o : Option X) (x : X) → o ≡ Some x → IfSome o P → P x
+IfSome-value {X = X} P o x e h = let Q = λ (y : Option X). IfSome y P in subst Q e h
+
+-- ---- from the map to rows
+before-higher : (p q : TableRow) → q.a <ℤ p.a → comes_before p q ≡ true
+before-higher p q h = grind (arith, ints)
+
+before-level : (p q : TableRow) → q.a ≡ p.a → q.m <ℤ p.m → comes_before p q ≡ true
+before-level p q e h = grind (arith, ints)
+
+-- a lower key has the later row
+later_row : (e f : (ℤ × ℤ) × ℕ) → degree_cmp e.0 f.0 ≡ Less → comes_before (row_of f) (row_of e) ≡ true
+later_row e f less = by (int_cmp e.0.0 f.0.0) refl less
+  where
+    by : (o : Ordering) → o ≡ int_cmp e.0.0 f.0.0 → ordering_then o (int_cmp e.0.1 f.0.1) ≡ Less
+        → comes_before (row_of f) (row_of e) ≡ true
+    by Less is h = before-higher (row_of f) (row_of e) (int_ranked e.0.0 f.0.0 Less is)
+    by Equal is h =
+        before-level (row_of f) (row_of e) (int_ranked e.0.0 f.0.0 Equal is) (int_ranked e.0.1 f.0.1 Less (sym h))
+    by Greater is h = absurd (false≢true (ap is_lt h))
+
+-- all keys after one are above it
+all_later : (e : (ℤ × ℤ) × ℕ) (es : List ((ℤ × ℤ) × ℕ)) → AllByRecursion (λ q. degree_cmp e.0 q ≡ Less) (keys_of es)
+    → (row : TableRow) → Contains (map row_of es) row → IsTrue (comes_before row (row_of e))
+all_later e [] h row inside = absurd (no_member row inside)
+all_later e (f ∷ es) h row inside = elim (member_cases (row_of f) (map row_of es) row inside) [
+  | inl is ↦ subst (λ r. IsTrue (comes_before r (row_of e))) is (later_row e f h.0)
+  | inr later ↦ all_later e es h.1 row later
+]
+
+-- the rows of a map stand in the other order
+rows-ascend : (es : List ((ℤ × ℤ) × ℕ)) → IsStrictlySortedBy degree_cmp (keys_of es)
+    → AllPairs (λ p q. IsTrue (comes_before q p)) (map row_of es)
+unfolding IsStrictlySortedBy
+rows-ascend [] s = λ i j d l m. absurd (omega arith)
+rows-ascend (e ∷ es) s =
+    pairs_cons (λ p q. IsTrue (comes_before q p)) (row_of e) (map row_of es) (all_later e es s.0) (rows-ascend es s.1)
+
+-- a list that was reversed
+pub AreReversed-reverse : (xs ys : List TableRow) → ys ≡ reverse xs → AreReversed xs ys
+AreReversed-reverse xs ys e = record {
+  long = ap length e ∙ length-reverse xs;
+  places = λ k d l. ap (λ zs. get_or zs k d) e ∙ get_or-reverse xs k d l;
+}
+
+-- what stands in the other order is in order
+module _ (xs ys : List TableRow) (r : AreReversed xs ys) where
+  turned : AllPairs (λ p q. IsTrue (comes_before q p)) xs → AllPairs (λ p q. IsTrue (comes_before p q)) ys
+  turned pairs i j d below within =
+      let long = r.long in
+      let in_j : j < length xs = omega arith in
+      let in_i : i < length xs = omega arith in
+      subst (λ (t : TableRow × TableRow). IsTrue (comes_before t.0 t.1))
+      (λ k. (sym (r.places i d in_i) k, sym (r.places j d in_j) k))
+      (pairs (length xs - 1 - j) (length xs - 1 - i) d (omega arith) (omega arith))
+
+  member_turned : (row : TableRow) → Contains ys row → Contains xs row
+  member_turned row inside =
+      let (k, low, is) = inside in
+      let long = r.long in
+      let in_xs : k < length xs = omega arith in
+      (length xs - 1 - k, omega arith, sym (r.places k row in_xs) ∙ is)
+
+  member_back : (row : TableRow) → Contains xs row → Contains ys row
+  member_back row inside =
+      let (k, low, is) = inside in
+      let long = r.long in
+      let at : length xs - 1 - k < length xs = omega arith in
+      let same : length xs - 1 - (length xs - 1 - k) ≡ k = omega arith in
+      (length xs - 1 - k, omega arith, r.places (length xs - 1 - k) row at ∙ ap (λ n. get_or xs n row) same ∙ is)
+
+-- the rows of a map that has all ranks are those of the table
+pub rows-of_ranks : (g : Marks) (ranks : Ranks) (rows : List TableRow) → tree.IsOrdered degree_cmp ranks
+    → IsDone g [] ranks → AreReversed (map row_of ranks.entries) rows → AreRows g rows
+rows-of_ranks g ranks rows ordered all r = record {
+  ordered = turned (map row_of ranks.entries) rows r (rows-ascend ranks.entries ordered);
+  complete =
+      λ row. (
+        λ inside. holds row (member_turned (map row_of ranks.entries) rows r row inside),
+        λ held. member_back (map row_of ranks.entries) rows r row (stands row held),
+      );
+  ranks = λ k d l.
+      let row = get_or rows k d in
+      let told = holds row (member_turned (map row_of ranks.entries) rows r row (Contains-get_or rows k d l)) in
+      subst (λ n. n < 2 ^ 32) (one_homology_rank g row.m row.a _ _ ((everywhere row.a).told row.m) told.rank)
+      ((everywhere row.a).small row.m);
+}
+  where
+    everywhere : (a : ℤ) → IsTold g ranks a
+    everywhere a = all.done a (λ m. no_member a m)
+
+    holds : (row : TableRow) → Contains (map row_of ranks.entries) row → HasHomology g row
+    holds row inside =
+        let (e, stood, is) = member_of_map row_of ranks.entries row inside in
+        let found : tree.get degree_cmp ranks e.0 ≡ Some e.1 =
+        (btree_map_get_iff degree_cmp_total exact_degrees ranks ordered e.0 e.1).1 stood in
+        subst (HasHomology g) is (record {
+          positive = IfSome-value (λ d. 0 < d) (tree.get degree_cmp ranks e.0) e.1 found (all.positive e.0.0 e.0.1);
+          rank = subst (IsHomologyRank g e.0.1 e.0.0) (ap (λ o. unwrap_or o 0) found) ((everywhere e.0.0).told e.0.1);
+        })
+
+    stands : (row : TableRow) → HasHomology g row → Contains (map row_of ranks.entries) row
+    stands row held =
+        let same : rank_in ranks row.a row.m ≡ row.rank =
+        one_homology_rank g row.m row.a _ _ ((everywhere row.a).told row.m) held.rank in
+        let found : tree.get degree_cmp ranks (row.a, row.m) ≡ Some row.rank =
+        value (tree.get degree_cmp ranks (row.a, row.m)) row.rank same held.positive in
+        Contains-map row_of ranks.entries ((row.a, row.m), row.rank)
+        ((btree_map_get_iff degree_cmp_total exact_degrees ranks ordered (row.a, row.m) row.rank).0 found)
+      where
+        value : (o : Option ℕ) (d : ℕ) → unwrap_or o 0 ≡ d → 0 < d → o ≡ Some d
+        value None d e l = absurd (omega arith)
+        value (Some k) d e l = ap Some e
+
+-- ---- the order of integers
+lt-from_test : (x y : ℤ) → int_lt x y ≡ true → x <ℤ y
+lt-from_test x y h = grind (arith, ints)
+
+eq-from_tests : (x y : ℤ) → int_lt x y ≡ false → int_lt y x ≡ false → x ≡ y
+eq-from_tests x y h k = grind (arith, ints)
+
+-- of two integers one is less, or they are the same
+order_of : (x y : ℤ) → (x ≡ y) ⊎ ((x <ℤ y) ⊎ (y <ℤ x))
+order_of x y = elim (cases_Bool (int_lt x y)) [
+  | inl h ↦ inr (inl (lt-from_test x y h))
+  | inr h ↦ elim (cases_Bool (int_lt y x)) [
+    | inl k ↦ inr (inr (lt-from_test y x k))
+    | inr k ↦ inl (eq-from_tests x y h k)
+  ]
+]
+
+-- ---- the whole table
+stands_before : (p q : TableRow) → comes_before p q ≡ true → StandsBefore (homology_row p) (homology_row q)
+stands_before p q h = elim (order_of q.a p.a) [
+  | inl same ↦ inr (same, level p q h same)
+  | inr other ↦ elim other [
+    | inl less ↦ inl less
+    | inr more ↦ absurd (not_more p q h more)
+  ]
+]
+  where
+    level : (p q : TableRow) → comes_before p q ≡ true → q.a ≡ p.a → q.m <ℤ p.m
+    level p q h e = grind (arith, ints)
+
+    not_more : (p q : TableRow) → comes_before p q ≡ true → p.a <ℤ q.a → ⊥
+    not_more p q h m = grind (arith, ints)
+
+-- a row of three numbers
+table_row : Row → TableRow
+table_row r = record { m = r.0; a = r.1; rank = r.2 }
+
+module _ (g : Marks) (small : AreSmall g) (rows : List TableRow) (all : AreRows g rows) where
+  holds_homology : (k : ℕ) (d : TableRow) → k < length rows → HasHomology g (get_or rows k d)
+  holds_homology k d l = (all.complete (get_or rows k d)).0 (Contains-get_or rows k d l)
+
+  -- the rows are those of a table
+  pub rows-table : IsTable rows
+  rows-table = record {
+    ordered = all.ordered;
+    ranks = λ k d l.
+        let positive = (holds_homology k d l).positive in
+        let low_rank = all.ranks k d l in
+        record { positive = omega (arith, positive); bounded = omega (arith, low_rank) };
+  }
+
+  -- their degrees are small
+  pub rows-small : All HasSmallDegrees rows
+  rows-small k d l = small_degrees g small (get_or rows k d) (holds_homology k d l)
+
+  at_map : (k : ℕ) (r : Row) → k < length rows
+      → get_or (map homology_row rows) k r ≡ homology_row (get_or rows k (table_row r))
+  at_map k r l = get_or-map homology_row rows k (table_row r) r l
+
+  shorter : (k : ℕ) → k < length (map homology_row rows) → k < length rows
+  shorter k l = omega (arith, l, length-map rows homology_row)
+
+  longer : (k : ℕ) → k < length rows → k < length (map homology_row rows)
+  longer k l = omega (arith, l, length-map rows homology_row)
+
+  -- they are the homology table of the grid
+  pub rows-homology : IsHomologyTable g (map homology_row rows)
+  unfolding table_row
+  rows-homology = record {
+    ordered = λ i j d l within.
+        let j_in = shorter j within in
+        let i_in : i < length rows = omega (arith, l, j_in) in
+        let before =
+        stands_before (get_or rows i (table_row d)) (get_or rows j (table_row d))
+        (all.ordered i j (table_row d) l j_in) in
+        subst (λ p. StandsBefore p (get_or (map homology_row rows) j d)) (sym (at_map i d i_in))
+        (subst (λ q. StandsBefore (homology_row (get_or rows i (table_row d))) q) (sym (at_map j d j_in)) before);
+    complete = λ m a d. (
+      λ inside.
+          let k_in = shorter inside.0 inside.1 in
+          let same : homology_row (get_or rows inside.0 (table_row (m, a, d))) ≡ (m, a, d) =
+          sym (at_map inside.0 (m, a, d) k_in) ∙ inside.2 in
+          let held = holds_homology inside.0 (table_row (m, a, d)) k_in in (
+            subst (λ e. 0 < e) (ap (λ r. r.2) same) held.positive,
+            subst (λ r. IsHomologyRank g r.0 r.1 r.2) same held.rank,
+          ),
+      λ told.
+          let row = table_row (m, a, d) in
+          let held : HasHomology g row = record { positive = told.0; rank = told.1 } in
+          let inside = (all.complete row).1 held in
+          (inside.0, longer inside.0 inside.1, at_map inside.0 (m, a, d) inside.1 ∙ ap homology_row inside.2),
+    );
+  }

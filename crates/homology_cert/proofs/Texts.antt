@@ -1,0 +1,11 @@
+pub mod TextLemmas
+pub mod ByteLemmas
+pub mod LineLemmas
+pub mod MarkLemmas
+pub mod SetLemmas
+pub mod PlaceLemmas
+pub mod PathLemmas
+pub mod CompletionLemmas
+pub mod ReadLemmas
+pub mod NextLemmas
+pub mod DecisionLemmas
