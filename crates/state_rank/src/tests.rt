@@ -1,4 +1,5 @@
 use crate::{State, state_count};
+use std::test::Fail;
 
 #[test]
 fn ranks(rt: HostRuntime) {
@@ -58,4 +59,19 @@ fn all_states_in_order(rt: HostRuntime) {
     }
     assert!(rt; !state.advance());
     assert_eq!(rt; state.rows(), [4, 3, 2, 1, 0].as_slice());
+}
+
+#[test]
+fn words(rt: HostRuntime) -> Result<(), Fail> {
+    let state = State::of(&[1, 2, 0, 3]).unwrap_or_default();
+    let mut text = Vec::new(rt.alloc());
+    state.push_word(&mut text)?;
+    assert_eq!(rt; text.as_slice(), b"1203".as_slice());
+    assert_eq!(rt; State::of_word(&text), Some(state));
+    // too short, too long, a row twice, a row too high, no digit
+    let cases: [&str; 6] = ["", "0", "0123456789", "00", "02", "0a"];
+    for word in cases {
+        assert!(rt; State::of_word(word.as_bytes()).is_none(), "at {word}");
+    }
+    Ok(())
 }
