@@ -4,21 +4,36 @@
     python3 examples/grids.py arcs 0,3 1,4 2,0 3,1 4,2   for each page, from the left, the levels that its arc joins
     python3 examples/grids.py braid 1,-2,1,-2            letters: i, or -i for the inverse, by its lower strand
 
+Brackets and spaces may stand anywhere, as in '[[4,1],[5,2],[1,3],[2,4],[3,5]]' or '{1, -2, 1, -2}'. Levels count from 0,
+or from 1 if no arc joins level 0.
+
 The grid of an arc presentation with n pages has n columns. That of a braid is made smaller by destabilisations and
-commutations, chosen at random from a fixed seed; the program takes at most nine columns. In the braid 1 the lower
-strand passes over the upper one as both run to the right, so that 1,1,1 is the left-handed trefoil.
+commutations, chosen at random from a fixed seed. In the braid 1 the lower strand passes over the upper one as both run
+to the right, so that 1,1,1 is the left-handed trefoil. What makes no grid, or one with more columns than the program
+takes, is refused in one line, with status 1.
 """
 import random
+import re
 import sys
 
 COMMANDS = ["front", "hat", "class +", "class -"]
+MAX_COLUMNS = 9
 
 
-def of_arcs(arcs):
+def refuse(why):
+    sys.exit(f"grids.py: {why}")
+
+
+def of_arcs(numbers):
     """The rows of O and X: each component is walked from an arc's first level to its second."""
-    size = len(arcs)
+    if not numbers or len(numbers) % 2:
+        refuse("an arc joins two levels")
+    base, size = min(1, *numbers), len(numbers) // 2
+    arcs = [(a - base, b - base) for a, b in zip(numbers[::2], numbers[1::2])]
     if sorted(level for arc in arcs for level in arc) != sorted([*range(size)] * 2):
-        sys.exit("each level from 0 on is to be joined by two arcs")
+        refuse(f"each of the {size} levels, counted from 0 or from 1, is to be joined by two arcs")
+    if any(a == b for a, b in arcs):
+        refuse("an arc joins a level to itself")
     o, x = [None] * size, [None] * size
     for start in range(size):
         column, level = start, arcs[start][0]
@@ -32,6 +47,12 @@ def of_arcs(arcs):
 
 def of_braid(letters):
     """The rows of O and X, one column for each letter and two for each strand."""
+    if not letters:
+        refuse("the braid has no letters")
+    if 0 in letters:
+        refuse("0 is no letter of a braid")
+    if len(letters) + 2 * max(map(abs, letters)) > 200:
+        refuse("the braid has too many letters or strands")
     strands = max(map(abs, letters)) + 1
     rows = [*range(strands)]  # all rows so far, from the bottom
     at = [*range(strands)]  # the rows of the strands, from the bottom
@@ -98,11 +119,14 @@ def document(o, x, comment):
 def main():
     if len(sys.argv) < 3 or sys.argv[1] not in ("arcs", "braid"):
         sys.exit(__doc__)
-    if sys.argv[1] == "arcs":
-        o, x = of_arcs([tuple(map(int, it.split(","))) for it in sys.argv[2:]])
-    else:
-        o, x = smaller(*of_braid([int(it) for it in sys.argv[2].split(",")]))
-    print(document(o, x, " ".join(sys.argv[1:])))
+    words = " ".join(" ".join(sys.argv[2:]).split())
+    if re.sub(r"[-+]?[0-9]+", "", words).strip(" ,;()[]{}"):
+        refuse(f"there is more than whole numbers, commas and brackets in {words}")
+    numbers = [int(it) for it in re.findall(r"[-+]?[0-9]+", words)]
+    o, x = of_arcs(numbers) if sys.argv[1] == "arcs" else smaller(*of_braid(numbers))
+    if len(o) > MAX_COLUMNS:
+        refuse(f"the grid has {len(o)} columns, and the program takes at most {MAX_COLUMNS}")
+    print(document(o, x, f"{sys.argv[1]} {words}"))
 
 
 if __name__ == "__main__":
