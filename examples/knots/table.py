@@ -1,27 +1,36 @@
 #!/usr/bin/env python3
-"""Writes docs/KNOTS.md to standard output: a table of the documents of this folder, from what the program prints.
+"""Makes the documents of this folder from braids, and docs/KNOTS.md from what the program prints for them.
 
-    python3 examples/knots/table.py > docs/KNOTS.md
+    python3 examples/knots/table.py > docs/KNOTS.md    the page; the program is ./gridhom, or the first argument
+    python3 examples/knots/table.py documents          writes each FILE.txt and FILE.out of knots.tsv
 
-The program is ./gridhom at the top of the repository, or the one that the first argument names.
+The grid of a document is what examples/grids.py makes of the braid of its row: moves that keep the link have made it
+smaller. So it is of the closed braid, and not of its mirror image.
 """
+import importlib.machinery
+import importlib.util
 import os
 import subprocess
 import sys
 
 HERE = os.path.dirname(os.path.abspath(__file__))
+PROGRAM = os.path.join(HERE, "..", "..", "gridhom")
 
 HEAD = """# Knots
 
-What the program prints for the documents of [examples/knots](../examples/knots/). The page is written by
-[examples/knots/table.py](../examples/knots/table.py), and no line of it by hand. A row M A D of a hat is the term
-D q^M t^A here. The ranks are those of the hat knot Floer homology of the knot or link that the grid is a diagram of,
-with the vertical strands over, and the front is of the mirror image ([README](../README.md)). Each grid is of the
-closed braid that the last column gives, or of its mirror image. All have alternating diagrams, so that the polynomial
-there and the signature give the hat. The hats in [examples/knots/knots.tsv](../examples/knots/knots.tsv) are computed
-from these and not by this program, and they are the same.
+What the program prints for the documents of [examples/knots](../examples/knots/).
+[examples/knots/table.py](../examples/knots/table.py) writes the page, and no line of it is written by hand.
 
-| name | size, O, X | tb | rot | hat | total rank | x+ | x- | known from |
+- **Which of a knot and its mirror image**: each grid is of the closed braid in the last column, with the vertical
+  strands over. It was made from the braid by moves that keep the link, and the answer was not looked at. In a braid 1
+  is the letter in which the lower strand passes over the upper one as both run to the right, so that 1,1,1 is the
+  left-handed trefoil.
+- The hat is that of the link itself, and a row M A D of it is the term D q^M t^A here. The front, tb, rot, x+ and x-
+  are those of a Legendrian link of the **mirror image** ([README](../README.md#conventions)).
+- The hats in [examples/knots/knots.tsv](../examples/knots/knots.tsv) are those of the literature, and the program
+  prints the same. The last four knots are not alternating: no polynomial with a signature decides their hats.
+
+| name | size, O, X | tb | rot | hat | total rank | x+ | x- | closed braid, and what its hat follows from |
 |---|---|---|---|---|---|---|---|---|"""
 
 
@@ -81,8 +90,33 @@ def page(reports):
     return "\n".join([HEAD, *[line_of(it, document(it["file"]), reports[it["file"]]) for it in literature()]]) + "\n"
 
 
+def grids():
+    """The module examples/grids.py."""
+    loader = importlib.machinery.SourceFileLoader("grids", os.path.join(HERE, "..", "grids.py"))
+    module = importlib.util.module_from_spec(importlib.util.spec_from_loader("grids", loader))
+    loader.exec_module(module)
+    return module
+
+
+def made_document(row):
+    """The document of a row of knots.tsv, from its braid."""
+    made = grids()
+    letters = [int(it) for it in row["braid"].split()[0].split(",")]
+    comment = f"{row['name'][0].upper()}{row['name'][1:]}: the closed braid {row['braid']}."
+    return made.document(*made.smaller(*made.of_braid(letters)), comment) + "\n"
+
+
+def write_documents():
+    for row in literature():
+        for end, text in (("txt", made_document(row)), ("out", report_of(PROGRAM, made_document(row)))):
+            with open(f"{HERE}/{row['file']}.{end}", "w", encoding="utf-8") as file:
+                file.write(text)
+
+
 def main():
-    program = sys.argv[1] if len(sys.argv) > 1 else os.path.join(HERE, "..", "..", "gridhom")
+    if sys.argv[1:] == ["documents"]:
+        return write_documents()
+    program = sys.argv[1] if len(sys.argv) > 1 else PROGRAM
     reports = {it["file"]: report_of(program, document(it["file"])) for it in literature()}
     print(page(reports), end="")
 
