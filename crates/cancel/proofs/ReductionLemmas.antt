@@ -13,7 +13,7 @@ use Rattle.f2_algebra.specs.Slice.{Slice, slice_complex, degree_in, targets_in, 
 use Rattle.f2_algebra.proofs.Chains.Sets.{any-is, same_chain, holds-nothing, holds-of_codes, holds-where_code, cardinality, cardinality-without}
 use Rattle.f2_algebra.proofs.Chains.Tables.{same}
 use Rattle.cancel.specs.declared.logs.LogEntry.{LogEntry}
-use Rattle.cancel.specs.Logs.{entry_of, log_of, HasEachOnce, IsLeftOf}
+use Rattle.cancel.specs.Logs.{entry_of, log_of, HasEachOnce, IsPartlyCancelled}
 
 -- ---- one more entry
 -- a log that stands, with an entry of what is left after it, stands
@@ -58,9 +58,9 @@ LeadsTo-push first now next entries e so_far fits once left = record {
     alone (suc k) d l = absurd (omega arith)
 
 -- what is left when a log breaks off
-pub LeadsTo_IsLeftOf : (first now next : Slice) (entries : List LogEntry) → LeadsTo first now entries → next ≡ now
-    → IsLeftOf first next
-LeadsTo_IsLeftOf first now next entries so_far same = record {
+pub LeadsTo_IsPartlyCancelled : (first now next : Slice) (entries : List LogEntry) → LeadsTo first now entries → next ≡ now
+    → IsPartlyCancelled first next
+LeadsTo_IsPartlyCancelled first now next entries so_far same = record {
   log = log_of entries;
   stands = so_far.stands;
   is_after = ap slice_complex same ∙ so_far.is_after;

@@ -2,7 +2,7 @@
 --     entry_of e         the entry with the sets of its lists
 --     log_of entries     the log of these entries
 --     HasEachOnce e      no source of the entry stands twice, and no target
---     IsLeftOf old new   new is what cancelling the entries of some log in order has left of old
+--     IsPartlyCancelled old new   new is what cancelling the entries of some log in order has left of old
 use Rattle.std.specs.Prelude.{◌≡◌, ◌≢◌, List, map}
 use Rattle.std.specs.List.{AllPairs}
 use Rattle.f2_algebra.specs.Chain.{of_codes}
@@ -20,7 +20,7 @@ pub record HasEachOnce (e : LogEntry) : Type 0 where
   pub sources : AllPairs (λ b c. b ≢ c) e.sources.now
   pub targets : AllPairs (λ b c. b ≢ c) e.targets.now
 
-pub record IsLeftOf (old new : Slice) : Type 0 where
+pub record IsPartlyCancelled (old new : Slice) : Type 0 where
   pub log : List Entry
   pub stands : IsLog (slice_complex old) log
   pub is_after : slice_complex new ≡ after (slice_complex old) log

@@ -7,7 +7,7 @@ ghost use Rattle.f2_algebra.specs.Cancel.{Entry, IsEntry, IsLog, cancelled};
 ghost use Rattle.f2_algebra.specs.Slice.{slice_complex, IsReduced};
 ghost use Rattle.f2_algebra.specs.Laws.{LogLaws};
 ghost use Rattle.sparse_complex.specs.Slices.{ListsOnce};
-ghost use Rattle.cancel.specs.Logs.{entry_of, log_of, HasEachOnce, IsLeftOf};
+ghost use Rattle.cancel.specs.Logs.{entry_of, log_of, HasEachOnce, IsPartlyCancelled};
 
 use crate::logs::{CancelLog, LogEntry};
 use bumpalo::Bump;
@@ -32,7 +32,7 @@ pub fn reduce<'a>(
 ) -> Result<CancelLog<'a>, NoMemory>
     ensures reduced { IfOk result (λ log. IsReduced slice.old.slice slice.new.slice (log_of log)) }
     ensures once { IfOk result (λ log. All HasEachOnce log) }
-    ensures left { OnErr result (IsLeftOf slice.old.slice slice.new.slice) }
+    ensures left { OnErr result (IsPartlyCancelled slice.old.slice slice.new.slice) }
 
     // Each log that stands so has the laws of a log, whatever the call answers.
     ensures laws { (C : Complex ℤ) (log : List Entry) → IsComplex C → IsLog C log → LogLaws C log }
@@ -48,7 +48,7 @@ fn cancel_all<'a>(
 ) -> Result<CancelLog<'a>, NoMemory>
     ensures reduced { IfOk result (λ log. IsReduced slice.old.slice slice.new.slice (log_of log)) }
     ensures once { IfOk result (λ log. All HasEachOnce log) }
-    ensures left { OnErr result (IsLeftOf slice.old.slice slice.new.slice) }
+    ensures left { OnErr result (IsPartlyCancelled slice.old.slice slice.new.slice) }
 {
     let mut entries = Vec::new(bump);
     let mut codes = Vec::new(alloc);

@@ -1,3 +1,4 @@
+pub mod DimensionLemmas
 pub mod Pigeonhole
 pub mod RankLemmas
 pub mod Existence

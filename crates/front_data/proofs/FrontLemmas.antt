@@ -13,7 +13,8 @@ use Rattle.torus_geom.specs.Counts.{one_if, sum_below}
 use Rattle.torus_geom.specs.Marks.{Marks, size, IsGrid}
 use Rattle.torus_geom.specs.Range.{in_range}
 use Rattle.torus_geom.specs.Rectangle.{leads, is_same, is_empty, is_unmarked}
-use Rattle.torus_geom.specs.Border.{is_step, border_of_state}
+use Rattle.torus_geom.specs.Border.{is_step}
+use Rattle.torus_geom.specs.Inner.CodeBorder.{border_of_state}
 use Rattle.torus_geom.specs.Degrees.{maslov_o}
 use Rattle.torus_geom.specs.Front.{is_north_east_x, is_north_east_o, is_south_west_x, is_south_west_o, north_east, south_west, thurston_bennequin, writhe, doubled_rotation, rotation, plus_state, minus_state}
 use Rattle.torus_geom.specs.Range.{one_up, one_down}

@@ -1,7 +1,7 @@
 //! The Legendrian grid states x+ and x-.
 ghost use Rattle.std.specs.Prelude.{◌≡◌, ◌<◌, pos, ◌+ℤ◌, ◌-ℤ◌};
 ghost use Rattle.f2_algebra.specs.Chain.{nothing};
-ghost use Rattle.torus_geom.specs.Border.{border_of_state};
+ghost use Rattle.torus_geom.specs.Inner.CodeBorder.{border_of_state};
 ghost use Rattle.torus_geom.specs.Degrees.{maslov_o};
 ghost use Rattle.torus_geom.specs.Front.{thurston_bennequin, rotation, plus_state as plus_state_of, minus_state as minus_state_of};
 

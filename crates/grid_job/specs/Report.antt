@@ -8,10 +8,10 @@ use Rattle.std.specs.Prelude.{◌≡◌, List, ℕ, [], ◌∷◌, ◌++◌, map
 use Rattle.hat_division.specs.declared.tables.TableRow.{TableRow}
 use Rattle.homology_cert.specs.Tables.{homology_row}
 use Rattle.report_text.specs.Lines.{front_line, set_line, table_lines}
-use Rattle.torus_geom.specs.Border.{border_of_state}
+use Rattle.torus_geom.specs.Inner.CodeBorder.{border_of_state}
 use Rattle.torus_geom.specs.Components.{components}
 use Rattle.torus_geom.specs.Front.{thurston_bennequin, rotation}
-use Rattle.torus_geom.specs.Homology.{IsHomologyTable}
+use Rattle.torus_geom.specs.Inner.CodeHomology.{IsHomologyTable}
 use Rattle.torus_geom.specs.Marks.{Marks, size}
 use Rattle.grid_text.specs.Script.{GridScript}
 use Rattle.grid_text.specs.declared.commands.Command.{Command}

@@ -4,7 +4,7 @@ ghost use Rattle.std.specs.Io.KnownBytes.{Appends};
 ghost use Rattle.grid_ports.specs.Bytes.{AppendsPrefix};
 ghost use Rattle.grid_ports.specs.Faults.{count_up};
 ghost use Rattle.report_text.specs.Lines.{set_line as set_line_of};
-ghost use Rattle.torus_geom.specs.Border.{border_of_state as border_of};
+ghost use Rattle.torus_geom.specs.Inner.CodeBorder.{border_of_state as border_of};
 ghost use Rattle.torus_geom.specs.Marks.{size};
 ghost use Rattle.grid_text.specs.Commands.{IsAllowed};
 ghost use Rattle.grid_text.specs.Script.{AreAllowed};

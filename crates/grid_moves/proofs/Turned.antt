@@ -1,7 +1,7 @@
 pub mod ComponentLemmas
 pub mod CycleCounts
 pub mod CarriedChains
-pub mod StateChains
+pub mod CarriedStates
 pub mod Shifts
 pub mod Reindexing
 pub mod TurnLemmas

@@ -2,11 +2,12 @@
 ghost use Rattle.std.specs.Prelude.{◌≡◌, ℕ, List, ◌<◌, length, slice_index};
 ghost use Rattle.f2_algebra.specs.Chain.{Chain};
 ghost use Rattle.state_rank.specs.States.{IsState};
-ghost use Rattle.torus_geom.specs.Border.{border};
+ghost use Rattle.torus_geom.specs.Inner.CodeBorder.{border};
 ghost use Rattle.torus_geom.specs.Components.{components};
 ghost use Rattle.torus_geom.specs.Degrees.{maslov_o, alexander};
 ghost use Rattle.torus_geom.specs.Marks.{Marks, IsGrid, size};
-ghost use Rattle.grid_moves.specs.Carried.{turned_state as turned_state_of, turned_chain};
+ghost use Rattle.grid_moves.specs.Carried.{turned_state as turned_state_of};
+ghost use Rattle.grid_moves.specs.Inner.CodeCarried.{turned_chain};
 ghost use Rattle.grid_moves.specs.Moves.{source_column as source_column_of, moved_row as moved_row_of, turned};
 
 use state_rank::{ROOM, State};

@@ -43,7 +43,7 @@ use Rattle.state_rank.specs.States.{factorial, unrank}
 use Rattle.torus_geom.specs.Counts.{all_below}
 use Rattle.torus_geom.specs.Marks.{Marks, size}
 use Rattle.torus_geom.specs.Degrees.{bidegree}
-use Rattle.torus_geom.specs.Border.{border_of_state, border}
+use Rattle.torus_geom.specs.Inner.CodeBorder.{border_of_state, border}
 use Rattle.torus_geom.specs.Homology.{Row}
 use Rattle.homology_cert.specs.Certificates.{Cell, Certificate, entry_count}
 use Rattle.homology_cert.specs.declared.verdicts.CertTest.{CertTest}

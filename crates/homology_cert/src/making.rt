@@ -1,11 +1,11 @@
 //! Making certificates.
 ghost use Rattle.std.specs.Prelude.{◌≡◌, ◌≤◌, ◌<◌, [], length, map, IfOk};
-ghost use Rattle.f2_algebra.specs.Bigraded.{at_second};
+ghost use Rattle.f2_algebra.specs.Bigraded.{at_alexander};
 ghost use Rattle.f2_algebra.specs.Cancel.{IsLog};
 ghost use Rattle.f2_algebra.specs.Slice.{slice_complex};
 ghost use Rattle.cancel.specs.Logs.{log_of};
 ghost use Rattle.state_rank.specs.States.{factorial};
-ghost use Rattle.torus_geom.specs.GridComplex.{grid_complex};
+ghost use Rattle.torus_geom.specs.Inner.GridComplex.{grid_complex};
 ghost use Rattle.torus_geom.specs.Marks.{Marks, size, IsGrid};
 ghost use Rattle.homology_cert.specs.CertificateLimits.{max_certified_size, max_certificate};
 ghost use Rattle.homology_cert.specs.Certificates.{Certificate, IsCertificate};
@@ -107,7 +107,7 @@ fn cell_of_slice(
     mut slice: AlexSlice,
 ) -> Result<CertCell, NoMemory>
     requires state { HasState g.now (m, a) }
-    requires built { slice_complex slice.slice ≡ at_second a (grid_complex g.now) }
+    requires built { slice_complex slice.slice ≡ at_alexander a (grid_complex g.now) }
     ensures { IfOk result (λ cell. IsMade g.now cell × (cell.at ≡ (m, a))) }
 {
     let _size = g.size();
@@ -163,7 +163,7 @@ fn steps_of(
     a: i32,
     log: &CancelLog,
 ) -> Result<Vec<StepPair>, NoMemory>
-    requires { IsLog (at_second a (grid_complex g.now)) (log_of log.now) }
+    requires { IsLog (at_alexander a (grid_complex g.now)) (log_of log.now) }
     ensures { IfOk result (λ pairs. pairs.items ≡ steps_after (has_degree_of g.now (m, a)) [] (log_of log.now)) }
 {
     let _size = g.size();

@@ -1,9 +1,9 @@
 //! Ranks by bidegree.
 ghost use Rattle.std.specs.Prelude.{◌≡◌, ◌^◌, ◌<◌, ℤ, length, map, None, IfOk, OnOk, IfSome};
 ghost use Rattle.std.specs.BTreeMap as tree;
-ghost use Rattle.f2_algebra.specs.Bigraded.{at_second};
+ghost use Rattle.f2_algebra.specs.Bigraded.{at_alexander};
 ghost use Rattle.f2_algebra.specs.Slice.{slice_complex};
-ghost use Rattle.torus_geom.specs.GridComplex.{grid_complex};
+ghost use Rattle.torus_geom.specs.Inner.GridComplex.{grid_complex};
 ghost use Rattle.homology_cert.specs.Inner.Ranks.{degree_cmp, row_of, HasRanks, AreCounted, AreReversed};
 
 use bumpalo::Bump;
@@ -28,7 +28,7 @@ pub(crate) fn cells_left(alloc: Global, g: &Grid, a: i32) -> Result<Vec<Cell>, N
 
 // The cells that are left of a slice after all its arrows were cancelled.
 fn cells_after(alloc: Global, g: &Grid, a: i32, mut slice: AlexSlice) -> Result<Vec<Cell>, NoMemory>
-    requires built { slice_complex slice.slice ≡ at_second a (grid_complex g.now) }
+    requires built { slice_complex slice.slice ≡ at_alexander a (grid_complex g.now) }
     ensures { IfOk result (λ cells. HasRanks g.now a cells.items) }
 {
     let _size = g.size();

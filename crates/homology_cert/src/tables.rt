@@ -1,6 +1,7 @@
 //! Tables of ranks.
 ghost use Rattle.std.specs.Prelude.{◌≡◌, ◌<◌, ◌^◌, ℕ, ℤ, List, map, All, IfOk};
-ghost use Rattle.torus_geom.specs.Homology.{Row, IsHomologyRank, IsHomologyTable};
+ghost use Rattle.torus_geom.specs.Homology.{Row};
+ghost use Rattle.torus_geom.specs.Inner.CodeHomology.{IsHomologyRank, IsHomologyTable};
 ghost use Rattle.homology_cert.specs.Tables.{homology_row, HasSmallDegrees, HasSmallRank};
 
 use crate::degrees::alexander_degrees;

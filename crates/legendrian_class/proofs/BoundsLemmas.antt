@@ -13,7 +13,7 @@ use Rattle.grid_moves.specs.declared.commutations.Axis.{Axis}
 use Rattle.pentagon_map.proofs.FrontStates.ByAxis.{image-minus_state, image-plus_state}
 use Rattle.pentagon_map.proofs.Rows.ImageByRows.{image-border}
 use Rattle.pentagon_map.proofs.Targets.LoopLemmas.{image-below}
-use Rattle.pentagon_map.specs.Pentagon.{image}
+use Rattle.pentagon_map.specs.Inner.CodeImages.{image}
 use Rattle.pentagon_map.specs.declared.Corner.{Corner}
 use Rattle.pentagon_map.specs.declared.Corner.TheVariants.{Over, Under}
 use Rattle.legendrian_class.specs.Bounds.{Bounds, minus_chain, plus_chain}

@@ -10,7 +10,8 @@ use Rattle.torus_geom.specs.Marks.{Marks, size}
 use Rattle.grid_moves.proofs.Turned.CarriedChains.{AreInverse-back, holds-carried, moved-below, moved-past, moved-undone, renamed-sum}
 use Rattle.grid_moves.proofs.Turned.TurnLemmas.{length-turned_rows}
 use Rattle.grid_moves.proofs.Turned.TurnedStates.{opposite, turned_AreInverse}
-use Rattle.grid_moves.specs.Carried.{carried, moved, turned_chain, turned_state}
+use Rattle.grid_moves.specs.Inner.CodeCarried.{carried, moved, turned_chain}
+use Rattle.grid_moves.specs.Carried.{turned_state}
 use Rattle.grid_moves.specs.Moves.{turned}
 use Rattle.grid_moves.specs.declared.turns.Side.{Side}
 use Rattle.legendrian_class.specs.States.{HasStates}

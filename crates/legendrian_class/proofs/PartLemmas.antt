@@ -9,19 +9,19 @@ use Rattle.f2_algebra.specs.Chain.{Chain, holds, codes, nothing, single, ◌⊕�
 use Rattle.f2_algebra.specs.Complex.{Complex, arrow, border, IsComplex, AllCells}
 use Rattle.f2_algebra.specs.Cancel.{Entry, IsLog, after, rest, pull, correction}
 use Rattle.f2_algebra.specs.Slice.{Slice, slice_complex, IsReduced}
-use Rattle.f2_algebra.specs.Bigraded.{first_at, at_second}
+use Rattle.f2_algebra.specs.Bigraded.{maslov_if, at_alexander}
 use Rattle.f2_algebra.specs.Verdict.{IsNullBy, IsAliveBy}
 use Rattle.f2_algebra.proofs.Chains.Tables.{◌⊻◌, same}
 use Rattle.f2_algebra.proofs.Chains.Sets.{same_chain, holds-nothing, holds-add, holds-where_code, weight, weight-same, weight-none, weight-where, xor-true}
 use Rattle.f2_algebra.proofs.Chains.Sums.{add_comm, add_assoc, add_self, add-nothing, add_back, holds-sum_over}
 use Rattle.f2_algebra.proofs.Cancelling.Cancellation.{border-add, border-nothing}
 use Rattle.f2_algebra.proofs.Cancelling.LogLemmas.{none_where, correction-by}
-use Rattle.f2_algebra.proofs.Ranks.Bigraded.{with_second, at_second_IsPartOf}
+use Rattle.f2_algebra.proofs.Ranks.Bigraded.{with_second, at_alexander_IsPartOf}
 use Rattle.f2_algebra.proofs.Certificates.Verdict.{null_by_correction, alive_by_pull}
 use Rattle.f2_algebra.proofs.Certificates.VerdictParts.{null_of_part, alive_of_part, null_sum, alive_sum}
 use Rattle.state_rank.specs.States.{factorial}
 use Rattle.torus_geom.specs.Marks.{Marks, size, IsGrid}
-use Rattle.torus_geom.specs.GridComplex.{grid_complex}
+use Rattle.torus_geom.specs.Inner.GridComplex.{grid_complex}
 use Rattle.rectangles.proofs.Law.GridComplexLemmas.{grid_complex_rules}
 use Rattle.sparse_complex.proofs.GridPartLemmas.{part_rules, degree-cell, degree-other}
 use Rattle.legendrian_class.specs.States.{HasStates}
@@ -52,11 +52,11 @@ module _ (C : Complex ℤ) (old new : Slice) (log : List Entry) (z : Chain) (bui
 -- ---- the part at an Alexander degree
 module _ (g : Marks) (a : ℤ) where
   abbrev slice : Complex ℤ
-  slice = at_second a (grid_complex g)
+  slice = at_alexander a (grid_complex g)
 
   -- a state is a cell of the slice exactly where it has the degree
   pub cell-degree : (s : ℕ) → s < factorial (size g)
-      → is_some ((at_second a (grid_complex g)).degree s) ≡ has_alexander g a s
+      → is_some ((at_alexander a (grid_complex g)).degree s) ≡ has_alexander g a s
   cell-degree s below = elim (cases_Bool (has_alexander g a s)) [
     | inl is ↦ ap is_some (degree-cell g a s below ((Decides-int_eq (alexander_at g s) a).0 is)) ∙ sym is
     | inr is_not ↦
@@ -69,7 +69,7 @@ module _ (g : Marks) (a : ℤ) where
     below_at s h = each_code (λ code. code < factorial (size g)) z states s h
 
     -- the part is a chain of cells of the slice
-    pub part-cells : AllCells (at_second a (grid_complex g)) (where_code (has_alexander g a) z)
+    pub part-cells : AllCells (at_alexander a (grid_complex g)) (where_code (has_alexander g a) z)
     part-cells s h =
         let (in_z, is) =
         and_parts (holds z s) (has_alexander g a s) (sym (holds-where_code (has_alexander g a) z s) ∙ h) in
@@ -85,11 +85,11 @@ module _ (g : Marks) (a : ℤ) where
         → is_some (slice.degree s) ≡ true
     leaves_cell s t live h =
         let (d, above, below) = rules_of.lowers s t h in
-        let at : first_at a (Some d) ≡ slice.degree t = ap (first_at a) (sym below) in
-        second d (int_eq d.1 a) refl (ap is_some at ∙ live) (ap (first_at a) above)
+        let at : maslov_if a (Some d) ≡ slice.degree t = ap (maslov_if a) (sym below) in
+        second d (int_eq d.1 a) refl (ap is_some at ∙ live) (ap (maslov_if a) above)
       where
         second : (d : ℤ × ℤ) (b : Bool) → int_eq d.1 a ≡ b → is_some (cond b (Some d.0) None) ≡ true
-            → slice.degree s ≡ first_at a (Some ((grid_complex g).up d)) → is_some (slice.degree s) ≡ true
+            → slice.degree s ≡ maslov_if a (Some ((grid_complex g).up d)) → is_some (slice.degree s) ≡ true
         second d true e l at_s = ap is_some (at_s ∙ ap (λ b. cond b (Some ((grid_complex g).up d).0) None) e)
         second d false e l at_s = absurd (false≢true l)
 
@@ -112,22 +112,22 @@ module _ (g : Marks) (a : ℤ) where
 
     -- the part of a cycle is a cycle of the slice
     pub part-cycle : border (grid_complex g) z ≡ nothing
-        → border (at_second a (grid_complex g)) (where_code (has_alexander g a) z) ≡ nothing
+        → border (at_alexander a (grid_complex g)) (where_code (has_alexander g a) z) ≡ nothing
     part-cycle cycle = same_chain _ nothing (λ t.
         holds-sum_over (where_code (has_alexander g a) z) slice.targets t
         ∙ weight-where (has_alexander g a) (λ s. arrow slice s t) z
         ∙ even t
         ∙ sym (holds-nothing t))
       where
-        even : (t : ℕ) → weight (λ s. has_alexander g a s && arrow (at_second a (grid_complex g)) s t) z ≡ false
-        even t = elim (cases_Bool (is_some ((at_second a (grid_complex g)).degree t))) [
+        even : (t : ℕ) → weight (λ s. has_alexander g a s && arrow (at_alexander a (grid_complex g)) s t) z ≡ false
+        even t = elim (cases_Bool (is_some ((at_alexander a (grid_complex g)).degree t))) [
           | inl live ↦
-              weight-same (λ s. has_alexander g a s && arrow (at_second a (grid_complex g)) s t)
+              weight-same (λ s. has_alexander g a s && arrow (at_alexander a (grid_complex g)) s t)
               (λ s. arrow (grid_complex g) s t) z (λ s h. one_arrow s t h live)
               ∙ sym (holds-sum_over z (grid_complex g).targets t)
               ∙ ap (λ c. holds c t) cycle ∙ holds-nothing t
           | inr dead ↦
-              weight-same (λ s. has_alexander g a s && arrow (at_second a (grid_complex g)) s t) (λ s. false) z
+              weight-same (λ s. has_alexander g a s && arrow (at_alexander a (grid_complex g)) s t) (λ s. false) z
               (λ s _. none_elsewhere s t dead)
               ∙ weight-none z
         ]
@@ -170,14 +170,14 @@ module _ (g : Marks) (grid : IsGrid g) (z : Chain) (states : HasStates g z) (a :
   part_in_z s h = and_parts (holds z s) (has_alexander g a s) (sym (in_part s) ∙ h)
 
   -- a part that is alive keeps the whole alive
-  pub alive-whole : border (grid_complex g) z ≡ nothing → (f : Chain) → IsAliveBy (at_second a (grid_complex g)) part f
+  pub alive-whole : border (grid_complex g) z ≡ nothing → (f : Chain) → IsAliveBy (at_alexander a (grid_complex g)) part f
       → IsAliveBy (grid_complex g) z f
   alive-whole cycle f alive =
       let C = grid_complex g in
-      let cells : AllCells (at_second a C) part =
-      subst (AllCells (at_second a C)) (sym is_part) (part-cells g a grid z states) in
+      let cells : AllCells (at_alexander a C) part =
+      subst (AllCells (at_alexander a C)) (sym is_part) (part-cells g a grid z states) in
       let there : IsAliveBy C part f =
-      alive_of_part C (with_second a) (at_second a C) (at_second_IsPartOf a C refl)
+      alive_of_part C (with_second a) (at_alexander a C) (at_alexander_IsPartOf a C refl)
       (grid_complex_rules g grid) part f cells alive in
       let (m, of, _) = alive.degree in
       subst (λ c. IsAliveBy C c f) (ap (λ c. part ⊕ c) (add_comm z part) ∙ add_back part z)
@@ -203,7 +203,7 @@ module _ (g : Marks) (grid : IsGrid g) (z : Chain) (states : HasStates g z) (a :
         but.closed code s held in_z (sym at_code ∙ sym (degree_of s is))
 
     -- a null part joins those before it
-    pub null-next : (b : Chain) → IsNullBy (at_second a (grid_complex g)) part b
+    pub null-next : (b : Chain) → IsNullBy (at_alexander a (grid_complex g)) part b
         → IsNullBut g z (left ⊕ part) (bound ⊕ b)
     null-next b null =
         let C = grid_complex g in
@@ -224,7 +224,7 @@ module _ (g : Marks) (grid : IsGrid g) (z : Chain) (states : HasStates g z) (a :
               subst (λ c. IsNullBy C c (bound ⊕ b)) (add_assoc z left part)
               (null_sum C (z ⊕ left) part bound b
               (λ s h p. in_both z left s (part_in_z s p).0 (part_in_left s p) h)
-              but.null (null_of_part C (with_second a) (at_second a C) (at_second_IsPartOf a C refl) part b null));
+              but.null (null_of_part C (with_second a) (at_alexander a C) (at_alexander_IsPartOf a C refl) part b null));
         }
 
     -- and less is left

@@ -17,7 +17,8 @@ use Rattle.grid_moves.proofs.Turned.TurnLemmas.{IsGrid-turned, length-turned_row
 use Rattle.grid_moves.proofs.Turned.TurnedBorders.{border-turned}
 use Rattle.grid_moves.proofs.Turned.TurnedStates.{IsBijection-turned_state, opposite, turned_AreInverse, turned_state-back}
 use Rattle.grid_moves.proofs.Turned.TurnedSteps.{at_target, state-at_target}
-use Rattle.grid_moves.specs.Carried.{target_column, turned_chain, turned_state}
+use Rattle.grid_moves.specs.Carried.{target_column, turned_state}
+use Rattle.grid_moves.specs.Inner.CodeCarried.{turned_chain}
 use Rattle.grid_moves.specs.Moves.{moved_row, turned, turned_rows}
 use Rattle.grid_moves.specs.declared.turns.Side.{Side}
 use Rattle.pentagon_map.proofs.FrontStates.PlusState.{IsBijection-plus_state, length-plus_state, plus_state-at}

@@ -11,9 +11,9 @@ use Rattle.f2_algebra.proofs.Cancelling.Cancellation.{same_some}
 use Rattle.f2_algebra.proofs.Certificates.Verdict.{even_with_borders, exists_verdict}
 use Rattle.state_rank.specs.States.{factorial, unrank}
 use Rattle.torus_geom.specs.Marks.{Marks, size, IsGrid}
-use Rattle.torus_geom.specs.Border.{border_of_state, border}
+use Rattle.torus_geom.specs.Inner.CodeBorder.{border_of_state, border}
 use Rattle.torus_geom.specs.Degrees.{bidegree}
-use Rattle.torus_geom.specs.GridComplex.{grid_complex}
+use Rattle.torus_geom.specs.Inner.GridComplex.{grid_complex}
 use Rattle.rectangles.proofs.Square.BorderLemmas.{border-border, border-grid_complex, border-below}
 use Rattle.rectangles.proofs.Law.GridComplexLemmas.{grid_complex_rules}
 use Rattle.legendrian_class.specs.declared.verdicts.ClassVerdict.TheVariants as verdict

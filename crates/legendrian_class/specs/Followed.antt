@@ -10,11 +10,11 @@ use Rattle.std.specs.Coded.{Coded, code_by, coded×, coded_list, coded_ℕ}
 use Rattle.std.specs.FinSet as finite_set
 use Rattle.f2_algebra.specs.Chain.{Chain, nothing}
 use Rattle.torus_geom.specs.Marks.{Marks, size}
-use Rattle.grid_moves.specs.Carried.{turned_chain}
+use Rattle.grid_moves.specs.Inner.CodeCarried.{turned_chain}
 use Rattle.grid_moves.specs.Moves.{swapped, turned}
 use Rattle.grid_moves.specs.declared.commutations.Axis.{Axis}
 use Rattle.grid_moves.specs.declared.turns.Side.{Side}
-use Rattle.pentagon_map.specs.Pentagon.{image}
+use Rattle.pentagon_map.specs.Inner.CodeImages.{image}
 use Rattle.pentagon_map.specs.declared.Corner.{Corner}
 
 pub record Followed : Type 0 where

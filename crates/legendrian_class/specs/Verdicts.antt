@@ -24,7 +24,7 @@ use Rattle.f2_algebra.specs.Chain.{Chain, holds, nothing, pairs_oddly}
 use Rattle.state_rank.specs.States.{factorial, unrank}
 use Rattle.torus_geom.specs.Marks.{Marks, size}
 use Rattle.torus_geom.specs.Degrees.{maslov_o, alexander}
-use Rattle.torus_geom.specs.Border.{border_of_state, border}
+use Rattle.torus_geom.specs.Inner.CodeBorder.{border_of_state, border}
 pub use Rattle.legendrian_class.specs.States.{HasStates}
 use Rattle.legendrian_class.specs.declared.verdicts.ClassVerdict.{ClassVerdict}
 use Rattle.legendrian_class.specs.declared.verdicts.ClassVerdict.TheVariants.{NotCycle, Null, Alive}

@@ -4,7 +4,7 @@ ghost use Rattle.f2_algebra.specs.Chain.{codes as codes_of};
 ghost use Rattle.state_rank.specs.Bijection.{IsSize};
 ghost use Rattle.state_rank.specs.States.{factorial};
 ghost use Rattle.torus_geom.specs.Marks.{size};
-ghost use Rattle.grid_moves.specs.Carried.{turned_chain};
+ghost use Rattle.grid_moves.specs.Inner.CodeCarried.{turned_chain};
 ghost use Rattle.grid_moves.specs.Moves.{are_commuting, swapped, turned};
 ghost use Rattle.legendrian_class.specs.Bounds.{Bounds, minus_chain, plus_chain};
 ghost use Rattle.legendrian_class.specs.Followed.{after_commutation, after_turn, at_start};

@@ -2,11 +2,11 @@
 ghost use Rattle.std.specs.Prelude.{◌≡◌, ◌<◌, IfOk, IfSome, IsNone};
 ghost use Rattle.f2_algebra.specs.Chain.{nothing, where_code};
 ghost use Rattle.f2_algebra.specs.Complex.{AllCells, border as border_in};
-ghost use Rattle.f2_algebra.specs.Bigraded.{at_second};
+ghost use Rattle.f2_algebra.specs.Bigraded.{at_alexander};
 ghost use Rattle.state_rank.specs.Bijection.{IsSize};
 ghost use Rattle.state_rank.specs.States.{factorial};
 ghost use Rattle.torus_geom.specs.Marks.{size};
-ghost use Rattle.torus_geom.specs.GridComplex.{grid_complex};
+ghost use Rattle.torus_geom.specs.Inner.GridComplex.{grid_complex};
 ghost use Rattle.legendrian_class.specs.States.{HasStates};
 ghost use Rattle.legendrian_class.specs.Inner.Parts.{IsLeast, has_alexander, IsPartVerdict};
 
@@ -68,9 +68,9 @@ pub(crate) fn part_verdict(
     a: i32,
     part: &Chain,
 ) -> Result<PartVerdict, NoMemory>
-    requires cells { AllCells (at_second a (grid_complex g.now)) part.now }
-    requires cycle { border_in (at_second a (grid_complex g.now)) part.now ≡ nothing }
-    ensures { IfOk result (IsPartVerdict (at_second a (grid_complex g.now)) part.now) }
+    requires cells { AllCells (at_alexander a (grid_complex g.now)) part.now }
+    requires cycle { border_in (at_alexander a (grid_complex g.now)) part.now ≡ nothing }
+    ensures { IfOk result (IsPartVerdict (at_alexander a (grid_complex g.now)) part.now) }
 {
     let _size = g.size();
     let mut slice = AlexSlice::build(alloc, g, a)?;

@@ -1,7 +1,7 @@
 //! Verdicts of chains.
 ghost use Rattle.std.specs.Prelude.{◌≡◌, IfOk};
 ghost use Rattle.f2_algebra.specs.Chain.{Chain as Codes, nothing};
-ghost use Rattle.torus_geom.specs.Border.{border as border_of};
+ghost use Rattle.torus_geom.specs.Inner.CodeBorder.{border as border_of};
 ghost use Rattle.legendrian_class.specs.Verdicts.{HasStates, IsVerdict, HasVerdict, HasOneVerdict};
 
 use crate::parts::{PartVerdict, first_code, part_at, part_verdict};

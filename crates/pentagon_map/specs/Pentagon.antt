@@ -24,25 +24,27 @@
 -- ends at the new circle, above it at the old one. So it would hold the mark of a row of R that it meets
 -- below the crossing, and of a row of L that it meets above it.
 --
---     has_mark_from g d j k            column d has a mark in the rows from j up to k
---     crossing_row g c corner          w: for `Over` the first row of R met on the way up from L, for `Under`
---                                      the last row of L met on the way up from R
+--     has_mark_in_rows g d low high    column d has a mark in the rows from low up to high
+--     crossing_row g c corner          w: for `Over` the first row of R met on the way up from L, for `Under` the last
+--                                      row of L met on the way up from R
+--     is_on_circle c r                 the left or the right of r is circle c
+--     has_row n r w                    row w is in r
 --     is_unmarked_beside g c r         no column of r other than c - 1 and c has a mark in a row of r
+--     is_right_unmarked_below g c w r  column c has no mark from the low row of r up to w: r meets no row of R there
+--     is_left_unmarked_above g c w r   column c - 1 has no mark above w below the high row of r: it meets no row of L
+--     is_pentagonal g c w r            all five: r has the crossing in row w as its fifth corner, and is unmarked
 --     is_pentagon g c w x y r          r is a pentagon from the state x to the state y, of the crossing in row w
---     column_image g c corner x        the states to which an odd number of pentagons lead from the state x
---     image_of_state axis g c corner x the image of x, for columns or for rows: for rows x is transposed, the columns
---                                      of the transposed grid are exchanged, and the image is transposed back
---     image axis g c corner z          the sum of the images of the states of z
-use Rattle.std.specs.Prelude.{ℕ, Bool, ◌&&◌, ◌||◌, not, ◌==◌, nat_lt, List, length, slice_index, if◌then◌else◌}
-use Rattle.std.specs.List.{filter}
-use Rattle.f2_algebra.specs.Chain.{Chain, sum_over, is_odd}
-use Rattle.state_rank.specs.States.{unrank, transpose}
-use Rattle.torus_geom.specs.Border.{states_where}
+--     column_image g c corner z        the states y for which the number of pairs of a state x in z and a pentagon from
+--                                      x to y is odd
+--     image axis g c corner z          the same for columns; for rows the grid and z are transposed, and the image of
+--                                      that across columns is transposed back
+use Rattle.std.specs.Prelude.{ℕ, Bool, ◌&&◌, ◌||◌, not, ◌==◌, nat_lt, List, slice_index, if◌then◌else◌}
+use Rattle.torus_geom.specs.Chains.{Chain, reached}
 use Rattle.torus_geom.specs.Counts.{all_below}
 use Rattle.torus_geom.specs.Range.{one_up, one_down}
 use Rattle.torus_geom.specs.Marks.{Marks, size}
 use Rattle.torus_geom.specs.Range.{offset, in_range}
-use Rattle.torus_geom.specs.Rectangle.{leads, is_empty, rectangles}
+use Rattle.torus_geom.specs.Rectangle.{leads, is_empty}
 use Rattle.torus_geom.specs.Transposed.{transposed}
 use Rattle.torus_geom.specs.declared.rects.Rect.{Rect}
 use Rattle.grid_moves.specs.Carried.{transposed_chain}
@@ -66,35 +68,40 @@ crossing_row g c Under =
     last_met (size g) (slice_index g.o c) (slice_index g.o (one_down (size g) c))
     (slice_index g.x (one_down (size g) c))
 
-abbrev pub has_mark_from : Marks → ℕ → ℕ → ℕ → Bool
-has_mark_from g d j k = in_range (size g) j k (slice_index g.o d) || in_range (size g) j k (slice_index g.x d)
+abbrev pub has_mark_in_rows : Marks → ℕ → ℕ → ℕ → Bool
+has_mark_in_rows g d low high =
+    in_range (size g) low high (slice_index g.o d) || in_range (size g) low high (slice_index g.x d)
+
+abbrev pub is_on_circle : ℕ → Rect → Bool
+is_on_circle c r = r.left == c || r.right == c
+
+abbrev pub has_row : ℕ → Rect → ℕ → Bool
+has_row n r w = in_range n r.low r.high w
 
 abbrev pub is_unmarked_beside : Marks → ℕ → Rect → Bool
 is_unmarked_beside g c r =
     all_below (size g) (λ d. (d == one_down (size g) c || d == c)
-    || not (in_range (size g) r.left r.right d && has_mark_from g d r.low r.high))
+    || not (in_range (size g) r.left r.right d && has_mark_in_rows g d r.low r.high))
 
--- It is on circle c, and has row w; no other column has a mark in it; no row of R is from its low row up to
--- w, and no row of L above w below its high row. A range from a row up to itself is empty.
+-- a range from a row up to itself is empty
+abbrev pub is_right_unmarked_below : Marks → ℕ → ℕ → Rect → Bool
+is_right_unmarked_below g c w r = not (has_mark_in_rows g c r.low w)
+
+abbrev pub is_left_unmarked_above : Marks → ℕ → ℕ → Rect → Bool
+is_left_unmarked_above g c w r = not (has_mark_in_rows g (one_down (size g) c) (one_up (size g) w) r.high)
+
 abbrev pub is_pentagonal : Marks → ℕ → ℕ → Rect → Bool
 is_pentagonal g c w r =
-    (r.left == c || r.right == c)
-    && (in_range (size g) r.low r.high w
-    && (is_unmarked_beside g c r
-    && (not (has_mark_from g c r.low w) && not (has_mark_from g (one_down (size g) c) (one_up (size g) w) r.high))))
+    is_on_circle c r && (has_row (size g) r w && (is_unmarked_beside g c r
+    && (is_right_unmarked_below g c w r && is_left_unmarked_above g c w r)))
 
 abbrev pub is_pentagon : Marks → ℕ → ℕ → List ℕ → List ℕ → Rect → Bool
 is_pentagon g c w x y r = leads r x y && (is_empty x r && is_pentagonal g c w r)
 
--- the image of a state across columns
-unfoldable pub column_image : Marks → ℕ → Corner → List ℕ → Chain
-column_image g c corner x =
-    states_where (size g) (λ y. is_odd (length (filter (is_pentagon g c (crossing_row g c corner) x y)
-    (rectangles (size g)))))
+abbrev pub column_image : Marks → ℕ → Corner → Chain → Chain
+column_image g c corner z = reached (size g) (is_pentagon g c (crossing_row g c corner)) z
 
-abbrev pub image_of_state : Axis → Marks → ℕ → Corner → List ℕ → Chain
-image_of_state Cols g c corner x = column_image g c corner x
-image_of_state Rows g c corner x = transposed_chain (size g) (column_image (transposed g) c corner (transpose x))
-
-unfoldable pub image : Axis → Marks → ℕ → Corner → Chain → Chain
-image axis g c corner z = sum_over z (λ code. image_of_state axis g c corner (unrank (size g) code))
+abbrev pub image : Axis → Marks → ℕ → Corner → Chain → Chain
+image Cols g c corner z = column_image g c corner z
+image Rows g c corner z =
+    transposed_chain (size g) (column_image (transposed g) c corner (transposed_chain (size g) z))

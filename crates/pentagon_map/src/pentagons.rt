@@ -6,12 +6,12 @@ ghost use Rattle.torus_geom.specs.Range.{one_up as one_up_of, one_down as one_do
 ghost use Rattle.torus_geom.specs.Marks.{size, IsGrid};
 ghost use Rattle.torus_geom.specs.Range.{offset as offset_of, in_range as in_range_of};
 ghost use Rattle.torus_geom.specs.Rectangle.{IsProper};
-ghost use Rattle.pentagon_map.specs.Pentagon.{crossing_row as crossing_row_of, has_mark_from as has_mark_from_of, is_unmarked_beside as is_unmarked_beside_of, is_pentagonal as is_pentagonal_of};
+ghost use Rattle.pentagon_map.specs.Pentagon.{crossing_row as crossing_row_of, has_mark_in_rows as has_mark_in_rows_of, is_on_circle, has_row, is_right_unmarked_below, is_left_unmarked_above, is_unmarked_beside as is_unmarked_beside_of, is_pentagonal as is_pentagonal_of};
 ghost use Rattle.pentagon_map.specs.Inner.Exchanges.{is_pentagon_at as is_pentagon_at_of, is_odd_circle};
 
 use crate::Corner;
-use state_rank::{MAX_SIZE, State};
-use torus_geom::{Grid, Rect, is_empty, one_down, one_up};
+use state_rank::State;
+use torus_geom::{Grid, Rect, in_range, is_empty, offset, one_down, one_up};
 
 // The row of the crossing that pentagons have as their corner.
 pub(crate) fn crossing_row(g: &Grid, c: u8, corner: Corner) -> u8
@@ -29,7 +29,6 @@ pub(crate) fn crossing_row(g: &Grid, c: u8, corner: Corner) -> u8
 
 // Of the rows `j` and `k` the one that is met first on the way up from `i`.
 fn first_met(n: u8, i: u8, j: u8, k: u8) -> u8
-    requires size { n ≤ MAX_SIZE }
     requires i_below { i < n }
     requires j_below { j < n }
     requires k_below { k < n }
@@ -45,7 +44,6 @@ fn first_met(n: u8, i: u8, j: u8, k: u8) -> u8
 
 // Of the rows `j` and `k` the one that is met last.
 fn last_met(n: u8, i: u8, j: u8, k: u8) -> u8
-    requires size { n ≤ MAX_SIZE }
     requires i_below { i < n }
     requires j_below { j < n }
     requires k_below { k < n }
@@ -109,16 +107,15 @@ fn crosses(g: &Grid, c: u8, w: u8, r: &Rect) -> bool
     requires c_below { c < size g.now }
     requires w_below { w < size g.now }
     requires proper { IsProper (size g.now) r.now }
-    ensures { result ≡ ((r.now.left == c || r.now.right == c)
-        && (in_range_of (size g.now) r.now.low r.now.high w
-        && (not (has_mark_from_of g.now c r.now.low w)
-        && not (has_mark_from_of g.now (one_down_of (size g.now) c) (one_up_of (size g.now) w) r.now.high)))) }
+    ensures { result ≡ (is_on_circle c r.now
+        && (has_row (size g.now) r.now w
+        && (is_right_unmarked_below g.now c w r.now && is_left_unmarked_above g.now c w r.now))) }
 {
     let n = g.size();
     (r.left == c || r.right == c)
         && in_range(n, r.low, r.high, w)
-        && !has_mark_from(g, c, r.low, w)
-        && !has_mark_from(g, one_down(n, c), one_up(n, w), r.high)
+        && !has_mark_in_rows(g, c, r.low, w)
+        && !has_mark_in_rows(g, one_down(n, c), one_up(n, w), r.high)
 }
 
 // Whether no column of `r` other than `c - 1` and `c` has a mark in a row of `r`.
@@ -142,43 +139,22 @@ fn is_in_the_way(g: &Grid, c: u8, r: &Rect, d: u8) -> bool
     requires proper { IsProper (size g.now) r.now }
     ensures { result ≡ not ((d == one_down_of (size g.now) c || d == c)
         || not (in_range_of (size g.now) r.now.left r.now.right d
-        && has_mark_from_of g.now d r.now.low r.now.high)) }
+        && has_mark_in_rows_of g.now d r.now.low r.now.high)) }
 {
     let n = g.size();
     d != one_down(n, c)
         && d != c
         && in_range(n, r.left, r.right, d)
-        && has_mark_from(g, d, r.low, r.high)
+        && has_mark_in_rows(g, d, r.low, r.high)
 }
 
-// Whether column `d` has a mark in the rows from `j` up to `k`.
-fn has_mark_from(g: &Grid, d: u8, j: u8, k: u8) -> bool
+// Whether column `d` has a mark in the rows from `low` up to `high`; there is no row from a row up to itself.
+fn has_mark_in_rows(g: &Grid, d: u8, low: u8, high: u8) -> bool
     requires d_below { d < size g.now }
-    requires j_below { j < size g.now }
-    requires k_below { k < size g.now }
-    ensures { result ≡ has_mark_from_of g.now d j k }
+    requires low_below { low < size g.now }
+    requires high_below { high < size g.now }
+    ensures { result ≡ has_mark_in_rows_of g.now d low high }
 {
     let n = g.size();
-    in_range(n, j, k, g.o(d)) || in_range(n, j, k, g.x(d))
-}
-
-// Whether `i` is met on the way up from `a`, `a` included, before `b`; there is none such where `a` is `b`.
-fn in_range(n: u8, a: u8, b: u8, i: u8) -> bool
-    requires size { n ≤ MAX_SIZE }
-    requires a_below { a < n }
-    requires b_below { b < n }
-    requires i_below { i < n }
-    ensures { result ≡ in_range_of n a b i }
-{
-    offset(n, a, i) < offset(n, a, b)
-}
-
-// How many steps up it is from `a` to `i`.
-fn offset(n: u8, a: u8, i: u8) -> u8
-    requires size { n ≤ MAX_SIZE }
-    requires a_below { a < n }
-    requires i_below { i < n }
-    ensures { result ≡ offset_of n a i }
-{
-    if a <= i { i - a } else { i + n - a }
+    low != high && (in_range(n, low, high, g.o(d)) || in_range(n, low, high, g.x(d)))
 }

@@ -1,3 +1,4 @@
 pub mod Square
+pub mod Homology
 pub mod Sweep
 pub mod Law

@@ -5,7 +5,7 @@ ghost use Rattle.f2_algebra.specs.Chain.{Chain as Codes, holds, codes as codes_o
 ghost use Rattle.state_rank.specs.States.{IsState, rank, factorial};
 ghost use Rattle.torus_geom.specs.Marks.{size};
 ghost use Rattle.torus_geom.specs.Degrees.{maslov_o, alexander};
-ghost use Rattle.torus_geom.specs.Border.{border_of_state as border_of, border as border_of_chain};
+ghost use Rattle.torus_geom.specs.Inner.CodeBorder.{border_of_state as border_of, border as border_of_chain};
 
 use crate::target_states::targets;
 use f2_chain::{Builder, Chain};

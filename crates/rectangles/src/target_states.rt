@@ -11,7 +11,7 @@ ghost use Rattle.smallvec.specs.SmallVec.{HasRoomFor};
 ghost use Rattle.f2_algebra.specs.Chain.{codes};
 ghost use Rattle.state_rank.specs.Bijection.{ascending, numbers};
 ghost use Rattle.state_rank.specs.States.{IsState, rank, transpose};
-ghost use Rattle.torus_geom.specs.Border.{border_of_state};
+ghost use Rattle.torus_geom.specs.Inner.CodeBorder.{border_of_state};
 ghost use Rattle.torus_geom.specs.Marks.{size, IsGrid};
 ghost use Rattle.torus_geom.specs.Degrees.{maslov_o, alexander};
 ghost use Rattle.torus_geom.specs.Range.{offset as offset_of};

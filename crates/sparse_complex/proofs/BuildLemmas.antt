@@ -15,10 +15,10 @@ use Rattle.f2_algebra.proofs.Chains.Sets.{any-append, holds-codes, IsApart, IsAp
 use Rattle.state_rank.specs.declared.TheConstants.{MAX_SIZE}
 use Rattle.state_rank.specs.States.{rank, unrank, factorial}
 use Rattle.f2_algebra.specs.Chain.{holds, codes}
-use Rattle.f2_algebra.specs.Bigraded.{at_second}
+use Rattle.f2_algebra.specs.Bigraded.{at_alexander}
 use Rattle.torus_geom.specs.Marks.{Marks, size, IsGrid}
-use Rattle.torus_geom.specs.Border.{border_of_state}
-use Rattle.torus_geom.specs.GridComplex.{grid_complex}
+use Rattle.torus_geom.specs.Inner.CodeBorder.{border_of_state}
+use Rattle.torus_geom.specs.Inner.GridComplex.{grid_complex}
 use Rattle.state_rank.proofs.LehmerLemmas.{factorial_grows}
 use Rattle.state_rank.proofs.RankLemmas.{length-unrank, rank-unrank}
 use Rattle.sparse_complex.specs.declared.links.Links.{Links}
@@ -545,17 +545,17 @@ not-before (y ∷ ys) (suc i) d l a =
 
 -- ---- the arrows of a cell of a grid
 module _ (g : Marks) (a : ℤ) (grid : IsGrid g) (cells : List Cell)
-    (s : AreCells (at_second a (grid_complex g)) (factorial (size g)) cells) (keys : List ℕ) (k : AreKeys keys cells)
+    (s : AreCells (at_alexander a (grid_complex g)) (factorial (size g)) cells) (keys : List ℕ) (k : AreKeys keys cells)
     (key : ℕ) (l : key < length cells)
     (items : List (List ℕ)) (x : List ℕ) (x_is : x ≡ unrank (size g) (code_at cells key))
     (border : map rank items ≡ codes (border_of_state g x)) where
   -- the states are the targets
-  pub all-targets : (t : ℕ) → among t (map rank items) ≡ arrow (at_second a (grid_complex g)) (code_at cells key) t
+  pub all-targets : (t : ℕ) → among t (map rank items) ≡ arrow (at_alexander a (grid_complex g)) (code_at cells key) t
   all-targets t =
       ap (among t) border ∙ sym (holds-codes (border_of_state g x) t) ∙ ap (λ y. holds (border_of_state g y) t) x_is
       ∙ ap (λ z. holds z t) (sym (targets-live g a (code_at cells key)
-      (code-below (at_second a (grid_complex g)) (factorial (size g)) cells s key l)
-      (ap is_some (degree-at (at_second a (grid_complex g)) (factorial (size g)) cells s key l))))
+      (code-below (at_alexander a (grid_complex g)) (factorial (size g)) cells s key l)
+      (ap is_some (degree-at (at_alexander a (grid_complex g)) (factorial (size g)) cells s key l))))
 
   distinct-items : AreDistinct (map rank items)
   distinct-items =
@@ -564,10 +564,10 @@ module _ (g : Marks) (a : ℤ) (grid : IsGrid g) (cells : List Cell)
   -- each is live
   pub target-live : (i : ℕ) (d : List ℕ) → i < length items → is_live keys (rank (get_or items i d)) ≡ true
   target-live i d m =
-      let h : arrow (at_second a (grid_complex g)) (code_at cells key) (rank (get_or items i d)) ≡ true =
+      let h : arrow (at_alexander a (grid_complex g)) (code_at cells key) (rank (get_or items i d)) ≡ true =
       sym (all-targets (rank (get_or items i d))) ∙ in-all items i d m in
       let (deg, up, down) = (part_rules g a grid).lowers (code_at cells key) (rank (get_or items i d)) h in
-      cell-live (at_second a (grid_complex g)) (factorial (size g)) (part_rules g a grid) refl
+      cell-live (at_alexander a (grid_complex g)) (factorial (size g)) (part_rules g a grid) refl
       (no_cell_past g a) cells s keys k (rank (get_or items i d)) (ap is_some down)
 
   -- and comes once

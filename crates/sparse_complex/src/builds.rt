@@ -1,10 +1,10 @@
 //! Building the slice of a grid at one Alexander degree.
 ghost use Rattle.std.specs.Prelude.{◌≡◌, ◌≤◌, ◌<◌, ◌+◌, length, IfOk, OnOk};
-ghost use Rattle.f2_algebra.specs.Bigraded.{at_second};
+ghost use Rattle.f2_algebra.specs.Bigraded.{at_alexander};
 ghost use Rattle.f2_algebra.specs.Slice.{slice_complex};
 ghost use Rattle.state_rank.specs.States.{factorial, unrank};
 ghost use Rattle.torus_geom.specs.Marks.{size};
-ghost use Rattle.torus_geom.specs.GridComplex.{grid_complex};
+ghost use Rattle.torus_geom.specs.Inner.GridComplex.{grid_complex};
 ghost use Rattle.sparse_complex.specs.Inner.Graph.{code_at, width};
 ghost use Rattle.sparse_complex.specs.Inner.Built.{AreCells, AreKeys, AreLinksBelow};
 
@@ -30,7 +30,7 @@ impl AlexSlice {
     ///
     /// `NoMemory` if the allocator refuses.
     pub fn build(alloc: Global, g: &Grid, a: i32) -> Result<AlexSlice, NoMemory>
-        ensures { IfOk result (λ s. slice_complex s.slice ≡ at_second a (grid_complex g.now)) }
+        ensures { IfOk result (λ s. slice_complex s.slice ≡ at_alexander a (grid_complex g.now)) }
     {
         let _size = g.size();
         let cells = cells_of(alloc, g, a)?;
@@ -43,7 +43,7 @@ impl AlexSlice {
 // The cells of the degree `a`, by Maslov degree, and by code among those of one degree.
 fn cells_of(alloc: Global, g: &Grid, a: i32) -> Result<Vec<Cell>, NoMemory>
     ensures { IfOk result (λ cells.
-        AreCells (at_second a (grid_complex g.now)) (factorial (size g.now)) cells.items) }
+        AreCells (at_alexander a (grid_complex g.now)) (factorial (size g.now)) cells.items) }
 {
     let tables = DegreeTables::of(g);
     let mut cells = Vec::new(alloc);
@@ -66,8 +66,8 @@ fn push_cell(
 ) -> Result<(), NoMemory>
     requires rank { code < factorial (size tables.now) }
     requires state { x.now ≡ unrank (size tables.now) code }
-    requires below { AreCells (at_second a (grid_complex tables.now)) code cells.old.items }
-    ensures { OnOk result (AreCells (at_second a (grid_complex tables.now)) (code + 1) cells.new.items) }
+    requires below { AreCells (at_alexander a (grid_complex tables.now)) code cells.old.items }
+    ensures { OnOk result (AreCells (at_alexander a (grid_complex tables.now)) (code + 1) cells.new.items) }
 {
     if tables.alexander(x) != a {
         return Ok(());
@@ -81,7 +81,7 @@ fn push_cell(
 
 // The key of each code: its place among the cells.
 fn keys_of(alloc: Global, g: &Grid, a: i32, cells: &[Cell]) -> Result<Vec<u32>, NoMemory>
-    requires { AreCells (at_second a (grid_complex g.now)) (factorial (size g.now)) cells.now }
+    requires { AreCells (at_alexander a (grid_complex g.now)) (factorial (size g.now)) cells.now }
     ensures { IfOk result (λ keys. AreKeys keys.items cells.now) }
 {
     let mut keys = vec![in alloc; NO_KEY; state_count(g.size()) as usize]?;
@@ -99,10 +99,10 @@ fn links_of(
     keys: &[u32],
     cells: &[Cell],
 ) -> Result<Links, NoMemory>
-    requires cells { AreCells (at_second a (grid_complex g.now)) (factorial (size g.now)) cells.now }
+    requires cells { AreCells (at_alexander a (grid_complex g.now)) (factorial (size g.now)) cells.now }
     requires keys { AreKeys keys.now cells.now }
     ensures { IfOk result (λ links.
-        AreLinksBelow (at_second a (grid_complex g.now)) cells.now (length cells.now) links) }
+        AreLinksBelow (at_alexander a (grid_complex g.now)) cells.now (length cells.now) links) }
 {
     let mut links = Links::new(alloc, cells.len())?;
     for key in 0..cells.len() {
@@ -121,11 +121,11 @@ fn push_arrows(
     cells: &[Cell],
     links: &mut Links,
 ) -> Result<(), NoMemory>
-    requires cells { AreCells (at_second a (grid_complex g.now)) (factorial (size g.now)) cells.now }
+    requires cells { AreCells (at_alexander a (grid_complex g.now)) (factorial (size g.now)) cells.now }
     requires keys { AreKeys keys.now cells.now }
     requires key { key < length cells.now }
-    requires below { AreLinksBelow (at_second a (grid_complex g.now)) cells.now key links.old }
-    ensures { OnOk result (AreLinksBelow (at_second a (grid_complex g.now)) cells.now (key + 1) links.new) }
+    requires below { AreLinksBelow (at_alexander a (grid_complex g.now)) cells.now key links.old }
+    ensures { OnOk result (AreLinksBelow (at_alexander a (grid_complex g.now)) cells.now (key + 1) links.new) }
 {
     let x = State::unrank(g.size(), cells[key].code);
     let states = targets(alloc, g, &x);

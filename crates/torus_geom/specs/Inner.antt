@@ -1,1 +1,4 @@
 pub mod Stored
+pub mod CodeBorder
+pub mod GridComplex
+pub mod CodeHomology

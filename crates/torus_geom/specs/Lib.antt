@@ -5,8 +5,9 @@ pub mod Transposed
 pub mod Components
 pub mod Range
 pub mod Rectangle
+pub mod Chains
+pub mod Codes
 pub mod Border
 pub mod Degrees
 pub mod Front
-pub mod GridComplex
 pub mod Homology

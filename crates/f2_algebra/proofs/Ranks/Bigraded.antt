@@ -7,7 +7,7 @@ use Rattle.std.specs.Ordering.{int_eq}
 use Rattle.f2_algebra.specs.Chain.{nothing}
 use Rattle.f2_algebra.specs.Complex.{Complex, IsComplex, IsRank}
 use Rattle.f2_algebra.specs.Part.{IsPartOf}
-use Rattle.f2_algebra.specs.Bigraded.{up_m, first_at, at_second}
+use Rattle.f2_algebra.specs.Bigraded.{up_m, maslov_if, at_alexander}
 use Rattle.f2_algebra.proofs.Cancelling.Cancellation.{same_some}
 use Rattle.f2_algebra.proofs.Ranks.Part.{rank_of_part, rank_to_part, part_IsComplex}
 
@@ -37,9 +37,9 @@ some_if : (b : Bool) (m n : ℤ) → cond b (Some m) None ≡ Some n → (b ≡ 
 some_if true m n e = (refl, same_some m n e)
 some_if false m n e = absurd (false≢true (ap is_some e))
 
-first_at-is : (a : ℤ) (d : Option (ℤ × ℤ)) (m : ℤ) → (first_at a d ≡ Some m) ↔ (d ≡ Some (m, a))
-first_at-is a None m = (λ e. absurd (false≢true (ap is_some e)), λ e. absurd (false≢true (ap is_some e)))
-first_at-is a (Some d) m = (
+maslov_if-is : (a : ℤ) (d : Option (ℤ × ℤ)) (m : ℤ) → (maslov_if a d ≡ Some m) ↔ (d ≡ Some (m, a))
+maslov_if-is a None m = (λ e. absurd (false≢true (ap is_some e)), λ e. absurd (false≢true (ap is_some e)))
+maslov_if-is a (Some d) m = (
   λ e. let (at, same) = some_if (int_eq d.1 a) d.0 m e in let last = (Decides-int_eq d.1 a).0 at in
       λ i. Some (same i, last i),
   λ e. let same : d ≡ (m, a) = same_some d (m, a) e in
@@ -52,23 +52,23 @@ module _ (a : ℤ) (C : Complex (ℤ × ℤ)) (up : C.up ≡ up_m) where
   no_value (Some m) h = absurd (h m refl)
 
   -- the cells at a second degree are a part of the complex
-  pub at_second_IsPartOf : IsPartOf C (with_second a) (at_second a C)
-  at_second_IsPartOf = record {
+  pub at_alexander_IsPartOf : IsPartOf C (with_second a) (at_alexander a C)
+  at_alexander_IsPartOf = record {
     embed_one = λ m n e. ap (λ p. p.0) e;
     embed_up = λ m. sym (ap (λ u. u (m, a)) up);
     embed_down = λ m d e. let h : (m, a) ≡ up_m d = e ∙ ap (λ u. u d) up in (d.0, λ i. (d.0, (h i).1));
-    degrees = λ s m. first_at-is a (C.degree s) m;
+    degrees = λ s m. maslov_if-is a (C.degree s) m;
     targets = λ s m e. ap (λ b. cond b (C.targets s) nothing) (ap is_some e);
-    no_targets = λ s none. ap (λ b. cond b (C.targets s) nothing) (no_value (first_at a (C.degree s)) none);
+    no_targets = λ s none. ap (λ b. cond b (C.targets s) nothing) (no_value (maslov_if a (C.degree s)) none);
   }
 
   -- they are a complex of their own
-  pub at_second_IsComplex : IsComplex C → IsComplex (at_second a C)
-  at_second_IsComplex laws = part_IsComplex C (with_second a) (at_second a C) at_second_IsPartOf laws
+  pub at_alexander_IsComplex : IsComplex C → IsComplex (at_alexander a C)
+  at_alexander_IsComplex laws = part_IsComplex C (with_second a) (at_alexander a C) at_alexander_IsPartOf laws
 
   -- its ranks are those of the whole at that second degree
-  pub rank_at_second : (m : ℤ) (d : ℕ) → IsRank (at_second a C) m d ↔ IsRank C (m, a) d
-  rank_at_second m d = (
-    rank_of_part C (with_second a) (at_second a C) at_second_IsPartOf m d,
-    rank_to_part C (with_second a) (at_second a C) at_second_IsPartOf m d,
+  pub rank_at_alexander : (m : ℤ) (d : ℕ) → IsRank (at_alexander a C) m d ↔ IsRank C (m, a) d
+  rank_at_alexander m d = (
+    rank_of_part C (with_second a) (at_alexander a C) at_alexander_IsPartOf m d,
+    rank_to_part C (with_second a) (at_alexander a C) at_alexander_IsPartOf m d,
   )

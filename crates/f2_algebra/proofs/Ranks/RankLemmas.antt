@@ -4,8 +4,9 @@ use Rattle.std.proofs.lemmas.Bool.{eqb-true, eq-eqb, true≢false, false≢true,
 use Rattle.std.specs.List.{items_where_true}
 use Rattle.std.proofs.lemmas.List.{length-map}
 use Rattle.std.proofs.lemmas.List.Elements.{All-head, All-tail, All-map, All-nil, All-cons}
-use Rattle.f2_algebra.specs.Chain.{Chain, holds, codes, nothing, single, ◌⊕◌, total}
-use Rattle.f2_algebra.specs.Complex.{Complex, border, IsComplex, AllOfDegree, AllCells, IsCycle, IsBoundary, IsFilledBy, IsBasis, IsRank}
+use Rattle.f2_algebra.specs.Chain.{Chain, holds, codes, nothing, single, ◌⊕◌, chain_sums, total}
+use Rattle.f2_algebra.specs.Complex.{Complex, border, IsComplex, AllOfDegree, AllCells, IsCycle, IsBoundary, IsRank}
+use Rattle.f2_algebra.specs.Dimension.{Represents, IsBasis}
 use Rattle.f2_algebra.specs.Certificate.{IsAllCells}
 use Rattle.f2_algebra.specs.Cancel.{Entry, IsLog, after, rest, lift}
 use Rattle.f2_algebra.proofs.Chains.Tables.{◌⊻◌}
@@ -45,7 +46,7 @@ cycle-picked C m (false ∷ ps) (h ∷ hs) all = cycle-picked C m ps hs (All-tai
 boundary-swap : {G : Type 0} (C : Complex G) (m : G) (z w : Chain) → IsBoundary C m (z ⊕ w) → IsBoundary C m (w ⊕ z)
 boundary-swap C m z w b = (b.0, b.1, b.2 ∙ add_comm z w)
 
-module _ {G : Type 0} (C : Complex G) (m : G) (hs gs : List Chain) (h : IsBasis C m hs) (g : IsBasis C m gs) where
+module _ {G : Type 0} (C : Complex G) (m : G) (hs gs : List Chain) (h : IsBasis chain_sums (IsCycle C m) (IsBoundary C m) hs) (g : IsBasis chain_sums (IsCycle C m) (IsBoundary C m) gs) where
   sum_of : List Chain → List Bool → Chain
   sum_of fs ps = total (items_where_true ps fs)
 
@@ -56,12 +57,12 @@ module _ {G : Type 0} (C : Complex G) (m : G) (hs gs : List Chain) (h : IsBasis 
   partner : List Bool → List Bool
   partner ps = (g.one_subset (sum_of hs ps) (cycle_h ps)).0
 
-  partner-fills : (ps : List Bool) → IsFilledBy C m gs (sum_of hs ps) (partner ps)
+  partner-fills : (ps : List Bool) → Represents chain_sums (IsBoundary C m) gs (sum_of hs ps) (partner ps)
   unfolding partner
   partner-fills ps = (g.one_subset (sum_of hs ps) (cycle_h ps)).1
 
   -- what the partner's sum is filled by
-  back : (ps qs : List Bool) → length ps ≡ length hs → partner ps ≡ qs → IsFilledBy C m hs (sum_of gs qs) ps
+  back : (ps qs : List Bool) → length ps ≡ length hs → partner ps ≡ qs → Represents chain_sums (IsBoundary C m) hs (sum_of gs qs) ps
   unfolding sum_of
   back ps qs l same = (
     l,
@@ -238,7 +239,7 @@ module _ {G : Type 0} (C : Complex G) (laws : IsComplex C) (log : List Entry) (s
   chosen_cells : (ps : List Bool) → AllCells (after C log) (chosen ps (codes cells))
   chosen_cells ps q h = ap is_some (is_cell q (chosen-in ps (codes cells) q h))
 
-  unique : (z : Chain) → IsCycle C m z → (ps : List Bool) → IsFilledBy C m (map lifted (codes cells)) z ps
+  unique : (z : Chain) → IsCycle C m z → (ps : List Bool) → Represents chain_sums (IsBoundary C m) (map lifted (codes cells)) z ps
       → ps ≡ picks_of z
   unfolding picks_of
   unique z c ps (l, (w, _, bounds)) =
@@ -255,7 +256,7 @@ module _ {G : Type 0} (C : Complex G) (laws : IsComplex C) (log : List Entry) (s
       ∙ ap (λ u. map (holds u) xs) (sym (same_of_sum (rest log z) (chosen ps xs) no_rest))
 
   -- where no arrow is left, the lifts of the cells of a degree are a basis
-  pub basis_of_log : IsBasis C m (map lifted (codes cells))
+  pub basis_of_log : IsBasis chain_sums (IsCycle C m) (IsBoundary C m) (map lifted (codes cells))
   unfolding picks_of
   basis_of_log = record {
     cycles = All-map (IsCycle C m) lifted (codes cells) (all_of _ (codes cells) cycle_lifted);

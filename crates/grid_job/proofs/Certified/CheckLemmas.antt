@@ -1,6 +1,6 @@
 -- The verdict of a certificate, and the outcomes of `check`.
 use Rattle.std.proofs.Common.{◌≡◌, ℕ, ◌≤◌, List, length, codes, Option, refl, sym, subst, inr}
-use Rattle.torus_geom.specs.Homology.{IsHomologyTable}
+use Rattle.torus_geom.specs.Inner.CodeHomology.{IsHomologyTable}
 use Rattle.homology_cert.specs.Certificates.{Certificate, IsCertificate}
 use Rattle.homology_cert.specs.CertificateTests.{verdict_of, certified_rows}
 use Rattle.homology_cert.specs.CertificateText.{certificate_text, IsFirstBadLine}

@@ -4,7 +4,7 @@ use Rattle.std.specs.List.{sum_by}
 use Rattle.f2_algebra.specs.Chain.{Chain}
 use Rattle.state_rank.specs.Bijection.{IsSize}
 use Rattle.torus_geom.specs.Front.{thurston_bennequin, rotation}
-use Rattle.torus_geom.specs.Homology.{IsHomologyTable}
+use Rattle.torus_geom.specs.Inner.CodeHomology.{IsHomologyTable}
 use Rattle.torus_geom.specs.Marks.{Marks, IsGrid}
 use Rattle.hat_division.specs.declared.tables.TableRow.{TableRow}
 use Rattle.homology_cert.specs.Tables.{homology_row}

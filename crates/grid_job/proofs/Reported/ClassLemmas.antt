@@ -9,7 +9,7 @@ use Rattle.f2_algebra.proofs.Chains.Sums.{sum_over-single}
 use Rattle.state_rank.specs.Bijection.{IsBijection}
 use Rattle.state_rank.specs.States.{rank, unrank, factorial}
 use Rattle.state_rank.proofs.RankLemmas.{rank-below, unrank-rank}
-use Rattle.torus_geom.specs.Border.{border_of_state, border}
+use Rattle.torus_geom.specs.Inner.CodeBorder.{border_of_state, border}
 use Rattle.torus_geom.specs.Marks.{Marks, size, IsGrid}
 use Rattle.front_data.proofs.FrontLemmas.{plus_state-state, border_of_state-plus_state, border_of_state-minus_state}
 use Rattle.grid_text.specs.declared.commands.Sign.{Sign}

@@ -18,7 +18,8 @@ use Rattle.homology_cert.proofs.Homology.ExistenceLemmas.{exists_homology_table}
 use Rattle.homology_cert.proofs.Homology.LawLemmas.{one_homology_table}
 use Rattle.report_text.specs.Lines.{table_lines, hat_lines}
 use Rattle.torus_geom.specs.Components.{is_first, components}
-use Rattle.torus_geom.specs.Homology.{IsHomologyTable, Row, StandsBefore}
+use Rattle.torus_geom.specs.Inner.CodeHomology.{IsHomologyTable}
+use Rattle.torus_geom.specs.Homology.{Row, StandsBefore}
 use Rattle.torus_geom.specs.Marks.{Marks, size, IsGrid}
 use Rattle.grid_job.specs.Hat.{hat_exponent, IsHat, IsHatText}
 use Rattle.grid_job.specs.Report.{IsTableText}

@@ -14,7 +14,7 @@ use Rattle.state_rank.proofs.OrderLemmas.{length-states}
 use Rattle.state_rank.proofs.RankLemmas.{IsBijection-unrank, rank-below, rank-unrank, unrank-rank}
 use Rattle.state_rank.specs.Bijection.{IsBijection}
 use Rattle.state_rank.specs.States.{factorial, rank, states, unrank}
-use Rattle.grid_moves.specs.Carried.{carried, moved}
+use Rattle.grid_moves.specs.Inner.CodeCarried.{carried, moved}
 
 -- equations that imply each other are tested alike
 pub eqb_alike : (a b c d : ℕ) → (a ≡ b → c ≡ d) → (c ≡ d → a ≡ b) → eqb a b ≡ eqb c d

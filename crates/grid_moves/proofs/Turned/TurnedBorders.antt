@@ -7,15 +7,17 @@ use Rattle.state_rank.specs.States.{factorial, rank, unrank}
 use Rattle.std.specs.List.{filter}
 use Rattle.std.proofs.Common.{length}
 use Rattle.torus_geom.proofs.Circles.RectangleLemmas.{border_of_state-no_step}
-use Rattle.torus_geom.specs.Border.{border, border_of_state, is_step}
+use Rattle.torus_geom.specs.Inner.CodeBorder.{border, border_of_state}
+use Rattle.torus_geom.specs.Border.{is_step}
 use Rattle.torus_geom.specs.Marks.{IsGrid, Marks, size}
 use Rattle.torus_geom.specs.Rectangle.{rectangles}
 use Rattle.grid_moves.proofs.Turned.CarriedChains.{IsOfStates, sum_over-carried}
-use Rattle.grid_moves.proofs.Turned.StateChains.{holds-states_where, states_where-below}
+use Rattle.torus_geom.proofs.Chains.StateChains.{holds-states_where, states_where-below}
 use Rattle.grid_moves.proofs.Turned.TurnLemmas.{length-turned_rows}
 use Rattle.grid_moves.proofs.Turned.TurnedStates.{IsBijection-turned_state, opposite, turned_AreInverse}
 use Rattle.grid_moves.proofs.Turned.TurnedSteps.{odd_steps-turned}
-use Rattle.grid_moves.specs.Carried.{turned_chain, turned_state}
+use Rattle.grid_moves.specs.Inner.CodeCarried.{turned_chain}
+use Rattle.grid_moves.specs.Carried.{turned_state}
 use Rattle.grid_moves.specs.Moves.{turned}
 use Rattle.grid_moves.specs.declared.turns.Side.{Side}
 

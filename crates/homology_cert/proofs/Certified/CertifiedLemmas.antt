@@ -34,9 +34,10 @@ use Rattle.state_rank.proofs.OrderLemmas.{Contains-ascending, member_of_ascendin
 use Rattle.state_rank.proofs.MemberLemmas.{member_cases, no_member, Contains-map, member_of_map, Contains-filter, member_of_filter, pairs_map, pairs_filter, count-same, pairs_weaker}
 use Rattle.torus_geom.specs.Marks.{Marks, size, IsGrid}
 use Rattle.torus_geom.specs.Degrees.{bidegree}
-use Rattle.torus_geom.specs.Border.{border_of_state, border}
-use Rattle.torus_geom.specs.GridComplex.{grid_complex}
-use Rattle.torus_geom.specs.Homology.{Row, StandsBefore, IsHomologyTable, IsHomologyRank}
+use Rattle.torus_geom.specs.Inner.CodeBorder.{border_of_state, border}
+use Rattle.torus_geom.specs.Inner.GridComplex.{grid_complex}
+use Rattle.torus_geom.specs.Homology.{Row, StandsBefore}
+use Rattle.torus_geom.specs.Inner.CodeHomology.{IsHomologyTable, IsHomologyRank}
 use Rattle.torus_geom.proofs.Sums.AllBelowLemmas.{at_all_below}
 use Rattle.rectangles.proofs.Square.BorderLemmas.{border-grid_complex}
 use Rattle.rectangles.proofs.Law.GridComplexLemmas.{grid_complex_rules}

@@ -13,7 +13,7 @@ use Rattle.torus_geom.specs.Counts.{all_below}
 use Rattle.torus_geom.proofs.Sums.TabulateLemmas.{tabulate-suc, length-filter-ascending}
 use Rattle.torus_geom.specs.Marks.{Marks}
 use Rattle.homology_cert.specs.Certificates.{Cell, Certificate, entry_count}
-use Rattle.torus_geom.specs.Border.{border}
+use Rattle.torus_geom.specs.Inner.CodeBorder.{border}
 use Rattle.homology_cert.specs.CertificateTests.{Question, first_failing, cycle_pair_questions, cycle_questions, step_pair_questions, step_questions, cell_questions, all_questions, questions, none_missing, verdict_of_first, verdict_of}
 use Rattle.homology_cert.specs.Inner.Checks.{step_borders, at_entry}
 use Rattle.homology_cert.specs.declared.verdicts.CertTest.{CertTest}

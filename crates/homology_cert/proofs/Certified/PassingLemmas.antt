@@ -17,7 +17,7 @@ use Rattle.f2_algebra.proofs.Certificates.LogCertificate.{Pairwise, every_both}
 use Rattle.state_rank.proofs.MemberLemmas.{member_cases, member_head, no_member}
 use Rattle.std.proofs.lemmas.List.Elements.{Contains-append_left, Contains-append_right}
 use Rattle.torus_geom.specs.Marks.{Marks}
-use Rattle.torus_geom.specs.Border.{border}
+use Rattle.torus_geom.specs.Inner.CodeBorder.{border}
 use Rattle.homology_cert.specs.Certificates.{Cell, Certificate}
 use Rattle.homology_cert.specs.CertificateTests.{Question, all_have, one_below, count_passes, is_cocycle, is_empty, cycle_pair_questions, cycle_questions, step_pair_questions, step_questions, cell_questions, all_questions, none_missing, questions, first_failing, verdict_of_first, verdict_of}
 use Rattle.homology_cert.specs.declared.verdicts.CertTest.{CertTest}

@@ -16,7 +16,7 @@ use Rattle.f2_algebra.proofs.Chains.Sets.{any, holds-of_codes, IsApart, cardinal
 use Rattle.state_rank.specs.States.{factorial}
 use Rattle.state_rank.proofs.MemberLemmas.{Contains-map, member_of_map, Contains-filter, member_of_filter, pairs_head, pairs_tail, pairs_map, pairs_filter}
 use Rattle.torus_geom.specs.Marks.{Marks, size, IsGrid}
-use Rattle.torus_geom.specs.Homology.{IsHomologyRank}
+use Rattle.torus_geom.specs.Inner.CodeHomology.{IsHomologyRank}
 use Rattle.sparse_complex.specs.declared.slices.Cell.{Cell}
 use Rattle.sparse_complex.specs.Slices.{ListsCells}
 use Rattle.sparse_complex.specs.Inner.Graph.{no_cell}

@@ -14,7 +14,7 @@ use Rattle.std.proofs.lemmas.Map.Lookups.{CmpEqualImpliesEq, exact_signed}
 use Rattle.f2_algebra.proofs.Cancelling.LogLemmas.{none_where}
 use Rattle.sparse_complex.specs.declared.slices.Cell.{Cell}
 use Rattle.torus_geom.specs.Marks.{Marks}
-use Rattle.torus_geom.specs.Homology.{IsHomologyRank}
+use Rattle.torus_geom.specs.Inner.CodeHomology.{IsHomologyRank}
 use Rattle.homology_cert.specs.Inner.Ranks.{degree_cmp, Ranks, rank_in, degree_count, HasRanks, AreCounted, IsTold}
 
 -- ---- the order of the keys
@@ -32,8 +32,8 @@ pub exact_degrees : CmpEqualImpliesEq degree_cmp
 exact_degrees p q e =
     let (first, second) = both_equal (int_cmp p.0 q.0) (int_cmp p.1 q.1) e in
     let at_first = exact_signed p.0 q.0 first in
-    let at_second = exact_signed p.1 q.1 second in
-    λ i. (at_first i, at_second i)
+    let at_alexander = exact_signed p.1 q.1 second in
+    λ i. (at_first i, at_alexander i)
 
 is_equal : (o : Ordering) → is_eq o ≡ true → o ≡ Equal
 is_equal Less e = absurd (false≢true e)

@@ -12,7 +12,8 @@ use Rattle.state_rank.proofs.MemberLemmas.{no_member, member_head, member_cases,
 use Rattle.state_rank.proofs.OrderLemmas.{Contains-ascending, ascending_rises}
 use Rattle.torus_geom.specs.Marks.{Marks, size, IsGrid}
 use Rattle.torus_geom.specs.Degrees.{maslov_o, alexander}
-use Rattle.torus_geom.specs.Homology.{IsHomologyRank, IsHomologyTable, Row, StandsBefore}
+use Rattle.torus_geom.specs.Inner.CodeHomology.{IsHomologyRank, IsHomologyTable}
+use Rattle.torus_geom.specs.Homology.{Row, StandsBefore}
 use Rattle.homology_cert.proofs.Homology.SliceRanks.{one_homology_rank}
 use Rattle.homology_cert.proofs.Homology.TableLemmas.{no_homology}
 use Rattle.homology_cert.proofs.Homology.LawLemmas.{some_homology_rank}

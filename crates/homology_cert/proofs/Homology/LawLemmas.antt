@@ -10,8 +10,9 @@ use Rattle.state_rank.specs.States.{factorial, unrank}
 use Rattle.state_rank.proofs.MemberLemmas.{member_cases, member_head, member_tail, no_member, pairs_head, pairs_tail}
 use Rattle.torus_geom.specs.Marks.{Marks, size, IsGrid}
 use Rattle.torus_geom.specs.Degrees.{bidegree}
-use Rattle.torus_geom.specs.GridComplex.{grid_complex}
-use Rattle.torus_geom.specs.Homology.{IsHomologyRank, IsHomologyTable, Row, StandsBefore}
+use Rattle.torus_geom.specs.Inner.GridComplex.{grid_complex}
+use Rattle.torus_geom.specs.Inner.CodeHomology.{IsHomologyRank, IsHomologyTable}
+use Rattle.torus_geom.specs.Homology.{Row, StandsBefore}
 use Rattle.rectangles.proofs.Law.GridComplexLemmas.{grid_complex_rules}
 
 -- ---- each bidegree has a rank

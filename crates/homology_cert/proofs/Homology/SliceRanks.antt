@@ -6,20 +6,20 @@ use Rattle.f2_algebra.specs.Complex.{Complex, IsComplex}
 use Rattle.f2_algebra.specs.Cancel.{Entry, IsLog, after}
 use Rattle.f2_algebra.specs.Certificate.{IsAllCells}
 use Rattle.f2_algebra.specs.Slice.{Slice, slice_complex, IsReduced}
-use Rattle.f2_algebra.specs.Bigraded.{first_at, at_second}
+use Rattle.f2_algebra.specs.Bigraded.{maslov_if, at_alexander}
 use Rattle.f2_algebra.proofs.Cancelling.LogLemmas.{live_at_first}
 use Rattle.f2_algebra.proofs.Ranks.RankLemmas.{rank_of_log, one_rank}
-use Rattle.f2_algebra.proofs.Ranks.Bigraded.{at_second_IsComplex, rank_at_second}
+use Rattle.f2_algebra.proofs.Ranks.Bigraded.{at_alexander_IsComplex, rank_at_alexander}
 use Rattle.state_rank.specs.States.{factorial, unrank}
 use Rattle.torus_geom.specs.Marks.{Marks, size, IsGrid}
 use Rattle.torus_geom.specs.Degrees.{bidegree}
-use Rattle.torus_geom.specs.GridComplex.{grid_complex}
-use Rattle.torus_geom.specs.Homology.{IsHomologyRank}
+use Rattle.torus_geom.specs.Inner.GridComplex.{grid_complex}
+use Rattle.torus_geom.specs.Inner.CodeHomology.{IsHomologyRank}
 use Rattle.rectangles.proofs.Law.GridComplexLemmas.{grid_complex_rules}
 
 -- the slice of the grid at a
 abbrev pub slice_of : Marks → ℤ → Complex ℤ
-slice_of g a = at_second a (grid_complex g)
+slice_of g a = at_alexander a (grid_complex g)
 
 -- a log of the slice at a that leaves no arrow, and what it leaves
 pub record IsReduction (g : Marks) (a : ℤ) (left : Complex ℤ) (log : List Entry) : Type 0 where
@@ -28,7 +28,7 @@ pub record IsReduction (g : Marks) (a : ℤ) (left : Complex ℤ) (log : List En
   pub no_arrow : (s : ℕ) → left.targets s ≡ nothing
 
 below_bound : (g : Marks) (a : ℤ) (s : ℕ) (b : Bool)
-    → is_some (first_at a (if b then Some (bidegree g (unrank (size g) s)) else None)) ≡ true → b ≡ true
+    → is_some (maslov_if a (if b then Some (bidegree g (unrank (size g) s)) else None)) ≡ true → b ≡ true
 below_bound g a s true h = refl
 below_bound g a s false h = absurd (false≢true h)
 
@@ -38,7 +38,7 @@ slice-below g a s h = ltb-true s (factorial (size g)) (below_bound g a s _ h)
 
 module _ (g : Marks) (grid : IsGrid g) (a : ℤ) where
   rules : IsComplex (slice_of g a)
-  rules = at_second_IsComplex a (grid_complex g) refl (grid_complex_rules g grid)
+  rules = at_alexander_IsComplex a (grid_complex g) refl (grid_complex_rules g grid)
 
   -- what is left was there before, with its degree
   pub left-slice : (left : Complex ℤ) (log : List Entry) → IsReduction g a left log → (s : ℕ)
@@ -57,7 +57,7 @@ module _ (g : Marks) (grid : IsGrid g) (a : ℤ) where
   rank_of_reduction left log r m cells all =
       let all_after = subst (λ C. IsAllCells C m cells) r.is_after all in
       let bare = λ (s : ℕ). sym (ap (λ C. C.targets s) r.is_after) ∙ r.no_arrow s in
-      (rank_at_second a (grid_complex g) refl m (length (codes cells))).0
+      (rank_at_alexander a (grid_complex g) refl m (length (codes cells))).0
       (rank_of_log (slice_of g a) rules log r.stands bare m cells all_after)
 
 -- a slice that was built and reduced

@@ -30,8 +30,9 @@ use Rattle.state_rank.specs.States.{factorial, unrank}
 use Rattle.state_rank.proofs.MemberLemmas.{member_cases, member_tail, no_member, Contains-map, member_of_map, pairs_cons}
 use Rattle.torus_geom.specs.Marks.{Marks, size}
 use Rattle.torus_geom.specs.Degrees.{alexander, bidegree}
-use Rattle.torus_geom.specs.GridComplex.{grid_complex}
-use Rattle.torus_geom.specs.Homology.{IsHomologyRank, IsHomologyTable, Row, StandsBefore}
+use Rattle.torus_geom.specs.Inner.GridComplex.{grid_complex}
+use Rattle.torus_geom.specs.Inner.CodeHomology.{IsHomologyRank, IsHomologyTable}
+use Rattle.torus_geom.specs.Homology.{Row, StandsBefore}
 use Rattle.sparse_complex.specs.declared.slices.Cell.{Cell}
 use Rattle.hat_division.specs.Table.{comes_before, IsTable}
 use Rattle.hat_division.specs.declared.tables.TableRow.{TableRow}

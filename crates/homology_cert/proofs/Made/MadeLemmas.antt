@@ -23,7 +23,7 @@ use Rattle.f2_algebra.proofs.Chains.Sets.{any, any-filter, same_chain, holds-not
 use Rattle.f2_algebra.proofs.Chains.Lists.{codes-of_codes}
 use Rattle.f2_algebra.proofs.Cancelling.Cancellation.{same_some}
 use Rattle.f2_algebra.proofs.Cancelling.LogLemmas.{none_where}
-use Rattle.f2_algebra.proofs.Ranks.Bigraded.{at_second_IsComplex, at_second_IsPartOf}
+use Rattle.f2_algebra.proofs.Ranks.Bigraded.{at_alexander_IsComplex, at_alexander_IsPartOf}
 use Rattle.f2_algebra.proofs.Certificates.Span.{Every}
 use Rattle.f2_algebra.proofs.Certificates.Certificate.{every, all_from, every_weaker}
 use Rattle.f2_algebra.proofs.Certificates.LogCertificate.{IsTest, step_pairs, step_pairs_after, step_pairs-after, step_pairs_pass, cycle_pairs_pass}
@@ -35,7 +35,7 @@ use Rattle.state_rank.proofs.OrderLemmas.{Contains-ascending, ascending_rises}
 use Rattle.state_rank.proofs.RankLemmas.{IsBijection-unrank}
 use Rattle.torus_geom.specs.Marks.{Marks, size, IsGrid}
 use Rattle.torus_geom.specs.Degrees.{bidegree}
-use Rattle.torus_geom.specs.GridComplex.{grid_complex}
+use Rattle.torus_geom.specs.Inner.GridComplex.{grid_complex}
 use Rattle.torus_geom.proofs.Sums.AllBelowLemmas.{at_all_below}
 use Rattle.rectangles.proofs.Law.GridComplexLemmas.{grid_complex_rules}
 use Rattle.gradings.proofs.TableLemmas.{maslov_small, alexander_small}
@@ -80,7 +80,7 @@ module _ (g : Marks) (grid : IsGrid g) (a : ℤ) where
 
   -- it keeps the rules of a complex
   rules : IsComplex S
-  rules = at_second_IsComplex a (grid_complex g) refl (grid_complex_rules g grid)
+  rules = at_alexander_IsComplex a (grid_complex g) refl (grid_complex_rules g grid)
 
   -- the states of a degree
   abbrev states_at : ℤ → Chain
@@ -90,7 +90,7 @@ module _ (g : Marks) (grid : IsGrid g) (a : ℤ) where
   are_states : (m : ℤ) → IsAllCells S m (states_at m)
   are_states m s =
       let all = (cells_at g grid (m, a)).1 s in
-      let same = (at_second_IsPartOf a (grid_complex g) refl).degrees s m in
+      let same = (at_alexander_IsPartOf a (grid_complex g) refl).degrees s m in
       (λ h. same.1 (all.0 h), λ e. all.1 (same.0 e))
 
   -- and as many as are counted

@@ -11,7 +11,7 @@ use Rattle.std.proofs.lemmas.Int.{ints}
 use Rattle.std.proofs.lemmas.List.Elements.{Contains-get_or}
 use Rattle.f2_algebra.specs.Cancel.{after}
 use Rattle.f2_algebra.proofs.Ranks.Existence.{Reduced, reduce}
-use Rattle.f2_algebra.proofs.Ranks.Bigraded.{at_second_IsComplex}
+use Rattle.f2_algebra.proofs.Ranks.Bigraded.{at_alexander_IsComplex}
 use Rattle.f2_algebra.proofs.Certificates.Span.{Every}
 use Rattle.f2_algebra.proofs.Certificates.Certificate.{every, all_from, every_weaker}
 use Rattle.cancel.proofs.ListLemmas.{any-member}
@@ -22,7 +22,7 @@ use Rattle.state_rank.proofs.OrderLemmas.{Contains-ascending, member_of_ascendin
 use Rattle.state_rank.proofs.RankLemmas.{IsBijection-unrank}
 use Rattle.torus_geom.specs.Marks.{Marks, size, IsGrid}
 use Rattle.torus_geom.specs.Degrees.{bidegree}
-use Rattle.torus_geom.specs.GridComplex.{grid_complex}
+use Rattle.torus_geom.specs.Inner.GridComplex.{grid_complex}
 use Rattle.torus_geom.proofs.Sums.AllBelowLemmas.{all_below-true}
 use Rattle.rectangles.proofs.Law.GridComplexLemmas.{grid_complex_rules}
 use Rattle.gradings.proofs.TableLemmas.{maslov_small, alexander_small}
@@ -85,7 +85,7 @@ module _ (g : Marks) (grid : IsGrid g) (small : size g ≤ 6) (cells : List Cell
 module _ (g : Marks) (grid : IsGrid g) where
   -- a log of the slice that leaves no arrow
   reduced : (a : ℤ) → Reduced (slice_of g a)
-  reduced a = reduce (slice_of g a) (at_second_IsComplex a (grid_complex g) refl (grid_complex_rules g grid))
+  reduced a = reduce (slice_of g a) (at_alexander_IsComplex a (grid_complex g) refl (grid_complex_rules g grid))
       (ascending (factorial (size g)))
       (λ s live. any-member (ascending (factorial (size g))) s
       (Contains-ascending (factorial (size g)) s (slice-below g a s live)))

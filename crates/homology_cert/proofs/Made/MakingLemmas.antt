@@ -22,7 +22,7 @@ use Rattle.f2_algebra.specs.Certificate.{CyclePair, StepPair}
 use Rattle.f2_algebra.specs.Slice.{Slice, slice_complex, IsReduced}
 use Rattle.f2_algebra.proofs.Cancelling.Cancellation.{cancelled_IsComplex}
 use Rattle.f2_algebra.proofs.Cancelling.LogLemmas.{live_below}
-use Rattle.f2_algebra.proofs.Ranks.Bigraded.{at_second_IsComplex}
+use Rattle.f2_algebra.proofs.Ranks.Bigraded.{at_alexander_IsComplex}
 use Rattle.cancel.specs.declared.logs.LogEntry.{LogEntry}
 use Rattle.cancel.specs.Logs.{entry_of, log_of}
 use Rattle.state_rank.specs.Bijection.{ascending}
@@ -30,7 +30,7 @@ use Rattle.state_rank.specs.States.{factorial, unrank}
 use Rattle.state_rank.proofs.MemberLemmas.{no_member, member_head, member_cases, member_of_map, pairs_cons}
 use Rattle.torus_geom.specs.Marks.{Marks, size, IsGrid}
 use Rattle.torus_geom.specs.Degrees.{bidegree}
-use Rattle.torus_geom.specs.GridComplex.{grid_complex}
+use Rattle.torus_geom.specs.Inner.GridComplex.{grid_complex}
 use Rattle.torus_geom.proofs.Sums.TabulateLemmas.{tabulate-suc}
 use Rattle.torus_geom.proofs.Sums.AllBelowLemmas.{all_below-true}
 use Rattle.rectangles.proofs.Law.GridComplexLemmas.{grid_complex_rules}
@@ -129,7 +129,7 @@ pub sources-below : (g : Marks) → IsGrid g → (a : ℤ) (entries : List LogEn
     → (k : ℕ) (d : LogEntry) → k < length entries → (get_or entries k d).x < factorial (size g)
 sources-below g grid a entries stands k d within =
     slice-below g a (get_or entries k d).x (sources-live (slice_of g a)
-    (at_second_IsComplex a (grid_complex g) refl (grid_complex_rules g grid)) entries stands k d within)
+    (at_alexander_IsComplex a (grid_complex g) refl (grid_complex_rules g grid)) entries stands k d within)
 
 -- ---- bidegrees
 -- before the first state there is none

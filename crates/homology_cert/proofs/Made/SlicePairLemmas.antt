@@ -13,7 +13,7 @@ use Rattle.f2_algebra.proofs.Chains.Sets.{any, holds-codes, pairs_oddly-weight, 
 use Rattle.f2_algebra.proofs.Chains.Lists.{codes-of_codes, All-codes}
 use Rattle.f2_algebra.proofs.Cancelling.Cancellation.{same_some}
 use Rattle.f2_algebra.proofs.Cancelling.LogLemmas.{none_where}
-use Rattle.f2_algebra.proofs.Ranks.Bigraded.{at_second_IsPartOf, with_second}
+use Rattle.f2_algebra.proofs.Ranks.Bigraded.{at_alexander_IsPartOf, with_second}
 use Rattle.f2_algebra.proofs.Ranks.Part.{of_part, border-part, cycle_of_part}
 use Rattle.f2_algebra.proofs.Certificates.Span.{Every}
 use Rattle.f2_algebra.proofs.Certificates.Certificate.{every}
@@ -21,8 +21,8 @@ use Rattle.f2_algebra.proofs.Certificates.LogCertificate.{IsTest, pairwise, Pair
 use Rattle.state_rank.specs.States.{factorial, unrank}
 use Rattle.torus_geom.specs.Marks.{Marks, size, IsGrid}
 use Rattle.torus_geom.specs.Degrees.{bidegree}
-use Rattle.torus_geom.specs.Border.{border_of_state, border}
-use Rattle.torus_geom.specs.GridComplex.{grid_complex}
+use Rattle.torus_geom.specs.Inner.CodeBorder.{border_of_state, border}
+use Rattle.torus_geom.specs.Inner.GridComplex.{grid_complex}
 use Rattle.torus_geom.proofs.Sums.AllBelowLemmas.{all_below-true}
 use Rattle.rectangles.proofs.Square.BorderLemmas.{border-grid_complex}
 use Rattle.rectangles.proofs.Law.GridComplexLemmas.{grid_complex_rules}
@@ -89,7 +89,7 @@ module _ (g : Marks) (grid : IsGrid g) (m a : ℤ) where
 
   -- the slice is a part of the complex
   part : IsPartOf G (with_second a) S
-  part = at_second_IsPartOf a G refl
+  part = at_alexander_IsPartOf a G refl
 
   -- which keeps the two rules
   rules : IsComplex G

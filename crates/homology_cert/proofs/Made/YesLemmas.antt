@@ -8,7 +8,7 @@ use Rattle.f2_algebra.proofs.Certificates.Span.{Every}
 use Rattle.f2_algebra.proofs.Certificates.Certificate.{every_append, every_weaker}
 use Rattle.f2_algebra.proofs.Certificates.LogCertificate.{Pairwise}
 use Rattle.torus_geom.specs.Marks.{Marks}
-use Rattle.torus_geom.specs.Border.{border}
+use Rattle.torus_geom.specs.Inner.CodeBorder.{border}
 use Rattle.homology_cert.specs.Certificates.{Cell, Certificate}
 use Rattle.homology_cert.specs.CertificateTests.{Question, cycle_pair_questions, cycle_questions, step_pair_questions, step_questions, cell_questions, all_questions, none_missing, questions, first_failing, verdict_of_first, verdict_of}
 use Rattle.homology_cert.specs.declared.verdicts.CertTest.{CertTest}

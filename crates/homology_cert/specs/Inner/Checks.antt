@@ -10,7 +10,7 @@ use Rattle.f2_algebra.specs.Certificate.{StepPair}
 use Rattle.state_rank.specs.Bijection.{ascending}
 use Rattle.state_rank.specs.States.{factorial, unrank}
 use Rattle.torus_geom.specs.Marks.{Marks, size}
-use Rattle.torus_geom.specs.Border.{border_of_state, border}
+use Rattle.torus_geom.specs.Inner.CodeBorder.{border_of_state, border}
 use Rattle.homology_cert.specs.declared.verdicts.CertTest.{CertTest}
 
 abbrev pub AreBorders : Marks → List Chain → Type 0

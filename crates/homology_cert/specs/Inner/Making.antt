@@ -21,14 +21,14 @@ use Rattle.std.specs.BTreeSet.{BTreeSet}
 use Rattle.f2_algebra.specs.Chain.{nothing, single}
 use Rattle.f2_algebra.specs.Complex.{Complex}
 use Rattle.f2_algebra.specs.Cancel.{Entry, IsLog, after, lift, pull}
-use Rattle.f2_algebra.specs.Bigraded.{at_second}
+use Rattle.f2_algebra.specs.Bigraded.{at_alexander}
 use Rattle.f2_algebra.specs.Certificate.{CyclePair, StepPair}
 use Rattle.state_rank.specs.Bijection.{ascending}
 use Rattle.state_rank.specs.States.{factorial, unrank}
 use Rattle.torus_geom.specs.Counts.{all_below}
 use Rattle.torus_geom.specs.Marks.{Marks, size}
 use Rattle.torus_geom.specs.Degrees.{bidegree}
-use Rattle.torus_geom.specs.GridComplex.{grid_complex}
+use Rattle.torus_geom.specs.Inner.GridComplex.{grid_complex}
 use Rattle.homology_cert.specs.Certificates.{Cell, comes_first}
 use Rattle.homology_cert.specs.CertificateTests.{has_degree}
 use Rattle.homology_cert.specs.Inner.Ranks.{degree_cmp}
@@ -68,8 +68,8 @@ pub record IsMade (g : Marks) (cell : Cell) : Type 0 where
   pub is_state : bidegree g (unrank (size g) state) ≡ cell.at
   pub log : List Entry
   pub left : Complex ℤ
-  pub stands : IsLog (at_second cell.at.1 (grid_complex g)) log
-  pub is_after : left ≡ after (at_second cell.at.1 (grid_complex g)) log
+  pub stands : IsLog (at_alexander cell.at.1 (grid_complex g)) log
+  pub is_after : left ≡ after (at_alexander cell.at.1 (grid_complex g)) log
   pub no_arrow : (s : ℕ) → left.targets s ≡ nothing
   pub cycles : cell.cycles ≡ map (cycle_pair log) (left_codes g left cell.at.0)
   pub steps : cell.steps ≡ steps_after (has_degree g cell.at) [] log

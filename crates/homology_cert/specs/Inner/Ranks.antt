@@ -28,7 +28,7 @@ use Rattle.std.specs.BTreeSet.{BTreeSet}
 use Rattle.state_rank.specs.States.{factorial, unrank}
 use Rattle.torus_geom.specs.Marks.{Marks, size}
 use Rattle.torus_geom.specs.Degrees.{maslov_o, alexander}
-use Rattle.torus_geom.specs.Homology.{IsHomologyRank}
+use Rattle.torus_geom.specs.Inner.CodeHomology.{IsHomologyRank}
 use Rattle.sparse_complex.specs.declared.slices.Cell.{Cell}
 use Rattle.hat_division.specs.Table.{comes_before}
 use Rattle.hat_division.specs.declared.tables.TableRow.{TableRow}

@@ -18,7 +18,8 @@ use Rattle.state_rank.proofs.SwapLemmas.{IsBijection-swap}
 use Rattle.state_rank.specs.Bijection.{IsBijection, tabulate}
 use Rattle.state_rank.specs.States.{factorial, rank, states, unrank}
 use Rattle.torus_geom.proofs.Circles.TurnLemmas.{one_down_below}
-use Rattle.torus_geom.specs.Border.{border, border_of_state, is_step}
+use Rattle.torus_geom.specs.Inner.CodeBorder.{border, border_of_state}
+use Rattle.torus_geom.specs.Border.{is_step}
 use Rattle.torus_geom.specs.Range.{one_down, one_up}
 use Rattle.torus_geom.specs.Marks.{IsGrid, Marks, size}
 use Rattle.torus_geom.specs.Rectangle.{is_empty, is_same, is_unmarked, leads, rectangles}
@@ -34,7 +35,8 @@ use Rattle.grid_moves.specs.Moves.{swapped_columns}
 use Rattle.pentagon_map.proofs.ChainMap.FourRows.{AreBusy-rows, AreSides-rows, HasFourRows, IsThin-rows}
 use Rattle.pentagon_map.proofs.ChainMap.PentagonSums.{crossing_row-below, pentagon_at, weight-column_image}
 use Rattle.pentagon_map.proofs.ChainMap.ThinAnnuli.{pairs_none}
-use Rattle.pentagon_map.specs.Pentagon.{column_image, crossing_row, is_pentagon, is_pentagonal}
+use Rattle.pentagon_map.specs.Inner.CodeImages.{column_image}
+use Rattle.pentagon_map.specs.Pentagon.{crossing_row, is_pentagon, is_pentagonal}
 use Rattle.pentagon_map.specs.declared.Corner.{Corner}
 
 -- the sum of two terms, over two steps

@@ -13,7 +13,7 @@ use Rattle.state_rank.proofs.RankLemmas.{rank-below}
 use Rattle.state_rank.specs.Bijection.{IsBijection}
 use Rattle.state_rank.specs.States.{factorial, rank, states}
 use Rattle.torus_geom.proofs.Circles.TurnLemmas.{one_down_below, one_up_below}
-use Rattle.torus_geom.specs.Border.{states_where}
+use Rattle.torus_geom.specs.Inner.CodeBorder.{states_where}
 use Rattle.torus_geom.specs.Range.{one_down, one_up}
 use Rattle.torus_geom.specs.Marks.{IsGrid, Marks, size}
 use Rattle.torus_geom.specs.Range.{in_range, offset}
@@ -28,7 +28,8 @@ use Rattle.pentagon_map.proofs.ChainMap.CyclicSteps.{between-one_up}
 use Rattle.pentagon_map.proofs.ChainMap.Pentagons.{is_open_pentagon, lacks, penta, two}
 use Rattle.pentagon_map.proofs.ChainMap.RowArcs.{above_of}
 use Rattle.pentagon_map.proofs.ChainMap.StepSums.{passes_at, weight-leading}
-use Rattle.pentagon_map.specs.Pentagon.{column_image, crossing_row, has_mark_from, is_pentagon, is_pentagonal, is_unmarked_beside}
+use Rattle.pentagon_map.specs.Inner.CodeImages.{column_image}
+use Rattle.pentagon_map.specs.Pentagon.{crossing_row, has_mark_in_rows, is_pentagon, is_pentagonal, is_unmarked_beside}
 use Rattle.pentagon_map.specs.declared.Corner.{Corner}
 use Rattle.pentagon_map.specs.declared.Corner.TheVariants.{Over, Under}
 
@@ -39,13 +40,13 @@ module _ (g : Marks) (s : IsGrid g) (c w : ℕ) (lc : c < size g) (lw : w < size
 
   -- rows from j up to k, as comparisons
   lacks-has_mark : (d j k : ℕ) → d < size g → j < size g → k < size g
-      → not (has_mark_from g d j k) ≡ lacks (slice_index g.o) (slice_index g.x) d (between j k)
+      → not (has_mark_in_rows g d j k) ≡ lacks (slice_index g.o) (slice_index g.x) d (between j k)
   lacks-has_mark d j k ld lj lk =
       λ i. not (in_range-between (size g) j k (slice_index g.o d) lj lk (s.o.small d ld) i
       || in_range-between (size g) j k (slice_index g.x d) lj lk (s.x.small d ld) i)
 
   lacks-above : (d k : ℕ) → d < size g → k < size g → k ≢ w
-      → not (has_mark_from g d (one_up (size g) w) k) ≡ lacks (slice_index g.o) (slice_index g.x) d (above_of w k)
+      → not (has_mark_in_rows g d (one_up (size g) w) k) ≡ lacks (slice_index g.o) (slice_index g.x) d (above_of w k)
   lacks-above d k ld lk p =
       lacks-has_mark d (one_up (size g) w) k ld (one_up_below (size g) w lw) lk
       ∙ (λ i. not (between-one_up (size g) w k (slice_index g.o d) lw lk (s.o.small d ld) p i
@@ -57,7 +58,7 @@ module _ (g : Marks) (s : IsGrid g) (c w : ℕ) (lc : c < size g) (lw : w < size
       (marks (slice_index g.o) (slice_index g.x) (between j k))
   unmarked-beside a b j k la lb lj lk =
       all_below-same (size g) (λ d. (eqb d (one_down (size g) c) || eqb d c)
-      || not (in_range (size g) a b d && has_mark_from g d j k))
+      || not (in_range (size g) a b d && has_mark_in_rows g d j k))
       (λ d. two (one_down (size g) c) c d
       || not (between a b d && marks (slice_index g.o) (slice_index g.x) (between j k) d)) (λ d l.
       λ i. two (one_down (size g) c) c d
@@ -76,7 +77,7 @@ module _ (g : Marks) (s : IsGrid g) (c w : ℕ) (lc : c < size g) (lw : w < size
       ap (λ z. (eqb a c || eqb b c) && z) (
       (λ i. in_range-between (size g) j k w lj lk lw i
       && (unmarked-beside a b j k la lb lj lk i
-      && (lacks-has_mark c j w lc lj lw i && not (has_mark_from g (one_down (size g) c) (one_up (size g) w) k))))
+      && (lacks-has_mark c j w lc lj lw i && not (has_mark_in_rows g (one_down (size g) c) (one_up (size g) w) k))))
       ∙ guard (between j k w) _ _ (λ h. ap (λ z. free (size g) (two (one_down (size g) c) c) (between a b)
       (marks (slice_index g.o) (slice_index g.x) (between j k))
       && (lacks (slice_index g.o) (slice_index g.x) c (between j w) && z))

@@ -9,7 +9,7 @@ use Rattle.f2_algebra.specs.Chain.{is_odd}
 use Rattle.state_rank.proofs.SwapLemmas.{IsBijection-swap}
 use Rattle.state_rank.specs.Bijection.{IsBijection}
 use Rattle.state_rank.specs.States.{rank, states}
-use Rattle.torus_geom.specs.Border.{states_where}
+use Rattle.torus_geom.specs.Inner.CodeBorder.{states_where}
 use Rattle.torus_geom.specs.Rectangle.{is_same, leads, rectangles}
 use Rattle.torus_geom.specs.declared.rects.Rect.{Rect}
 use Rattle.rectangles.proofs.Square.RectangleSums.{parity-corners, parity-rectangles, parity-states_one, weight-states_where}

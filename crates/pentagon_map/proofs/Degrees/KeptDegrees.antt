@@ -33,6 +33,7 @@ use Rattle.rectangles.proofs.Square.CyclicOrder.{between}
 use Rattle.rectangles.proofs.Square.EmptyRectangles.{free, is_between, is_clear_of}
 use Rattle.rectangles.proofs.Square.OpenRectangles.{marks}
 use Rattle.rectangles.proofs.Square.TwoSteps.{differ, differ_apart}
+use Rattle.grid_moves.proofs.Exchanged.SwappedTwice.{size-swapped}
 use Rattle.grid_moves.proofs.Turned.CarriedChains.{holds-carried, moved-rank}
 use Rattle.grid_moves.proofs.Turned.ComponentLemmas.{alexander_same, components-along, components-back, row-column_after}
 use Rattle.grid_moves.proofs.Exchanged.SwapGridLemmas.{IsGrid-swapped_columns}
@@ -44,7 +45,8 @@ use Rattle.pentagon_map.proofs.ChainMap.Pentagons.{lacks, two}
 use Rattle.pentagon_map.proofs.Crossing.CrossingRow.{IsCrossing, crossing_row_IsCrossing}
 use Rattle.pentagon_map.proofs.Degrees.MarksInPentagon.{IsPentagonOf, maslov-pentagon}
 use Rattle.grid_moves.proofs.Exchanged.TransposedGrids.{size-transposed, transpose-at, transpose-transpose, transpose_AreInverse}
-use Rattle.pentagon_map.specs.Pentagon.{column_image, crossing_row, image_of_state}
+use Rattle.pentagon_map.specs.Inner.CodeImages.{column_image, image_of_state}
+use Rattle.pentagon_map.specs.Pentagon.{crossing_row}
 use Rattle.pentagon_map.specs.declared.Corner.{Corner}
 
 -- what a sum of tests that is odd says of one
@@ -321,12 +323,7 @@ image_KeepsDegrees Rows g s c l h corner x y sx sy e =
           ∙ maslov_x-transposed g n refl s x sx;
     }
 
--- an exchange keeps the size and the number of components
-pub size-swapped : (axis : Axis) (g : Marks) (c : ℕ) → size (swapped axis g c) ≡ size g
-size-swapped Cols g c = length-swap g.o (one_down (size g) c) c
-size-swapped Rows g c = size-transposed (swapped_columns (transposed g) c)
-    ∙ length-swap (transposed g).o (one_down (size (transposed g)) c) c ∙ size-transposed g
-
+-- an exchange keeps the number of components
 pub components-swapped : (axis : Axis) (g : Marks) → IsGrid g → (c : ℕ) → c < size g
     → components (swapped axis g c) ≡ components g
 components-swapped Cols g s c l = components-swapped_columns g s c l

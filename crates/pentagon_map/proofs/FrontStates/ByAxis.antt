@@ -16,14 +16,14 @@ use Rattle.torus_geom.specs.Marks.{IsGrid, Marks, size}
 use Rattle.torus_geom.specs.Transposed.{transposed}
 use Rattle.grid_moves.proofs.Turned.CarriedChains.{carried-single}
 use Rattle.grid_moves.proofs.Exchanged.SwapGridLemmas.{IsGrid-swapped_columns}
-use Rattle.grid_moves.specs.Carried.{transposed_chain}
+use Rattle.grid_moves.specs.Inner.CodeCarried.{transposed_chain}
 use Rattle.grid_moves.specs.Moves.{are_commuting, swapped, swapped_columns}
 use Rattle.grid_moves.specs.declared.commutations.Axis.{Axis}
 use Rattle.grid_moves.specs.declared.commutations.Axis.TheVariants.{Cols, Rows}
 use Rattle.pentagon_map.proofs.FrontStates.MinusState.{column_image-minus_state}
 use Rattle.pentagon_map.proofs.FrontStates.PlusState.{IsBijection-plus_state, column_image-plus_state, length-plus_state, plus_state-at}
 use Rattle.grid_moves.proofs.Exchanged.TransposedGrids.{size-transposed, transpose-at, transpose_AreInverse}
-use Rattle.pentagon_map.specs.Pentagon.{column_image, image, image_of_state}
+use Rattle.pentagon_map.specs.Inner.CodeImages.{column_image, image, image_of_state}
 use Rattle.pentagon_map.specs.declared.Corner.{Corner}
 use Rattle.pentagon_map.specs.declared.Corner.TheVariants.{Over, Under}
 

@@ -28,7 +28,8 @@ use Rattle.pentagon_map.proofs.Crossing.CrossingRow.{IsCrossing, crossing_row-un
 use Rattle.pentagon_map.proofs.Crossing.FourNumbers.{AreFourRows}
 use Rattle.pentagon_map.proofs.FrontStates.CyclicRows.{not_between, turned_round}
 use Rattle.pentagon_map.proofs.FrontStates.PlusState.{lacks_none, lacks_some}
-use Rattle.pentagon_map.specs.Pentagon.{column_image, crossing_row}
+use Rattle.pentagon_map.specs.Inner.CodeImages.{column_image}
+use Rattle.pentagon_map.specs.Pentagon.{crossing_row}
 use Rattle.pentagon_map.specs.declared.Corner.TheVariants.{Under}
 
 module _ (g : Marks) (s : IsGrid g) (c : ℕ) (lc : c < size g) (h : are_commuting_columns g c ≡ true) where

@@ -34,7 +34,8 @@ use Rattle.pentagon_map.proofs.ChainMap.ThinAnnuli.{clear_thin, free_thin}
 use Rattle.pentagon_map.proofs.Crossing.CrossingRow.{IsCrossing, crossing_row-over, crossing_row_IsCrossing, four_rows}
 use Rattle.pentagon_map.proofs.Crossing.FourNumbers.{AreFourRows}
 use Rattle.pentagon_map.proofs.FrontStates.CyclicRows.{above_none, begin_up, both_up, end_up, last_column, last_row, not_between, turned_round}
-use Rattle.pentagon_map.specs.Pentagon.{column_image, crossing_row}
+use Rattle.pentagon_map.specs.Inner.CodeImages.{column_image}
+use Rattle.pentagon_map.specs.Pentagon.{crossing_row}
 use Rattle.pentagon_map.specs.declared.Corner.TheVariants.{Over}
 
 -- a column with no mark in the rows, and one with its X in them

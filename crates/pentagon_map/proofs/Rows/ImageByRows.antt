@@ -7,13 +7,13 @@ use Rattle.f2_algebra.proofs.Chains.Sets.{holds-nothing, same_chain}
 use Rattle.f2_algebra.specs.Chain.{Chain, holds, sum_over}
 use Rattle.state_rank.specs.States.{factorial, rank, transpose, unrank}
 use Rattle.torus_geom.proofs.TransposeLemmas.{IsBijection-transposed, IsGrid-transposed}
-use Rattle.torus_geom.specs.Border.{border}
+use Rattle.torus_geom.specs.Inner.CodeBorder.{border}
 use Rattle.torus_geom.specs.Range.{one_down}
 use Rattle.torus_geom.specs.Marks.{IsGrid, Marks, size}
 use Rattle.torus_geom.specs.Transposed.{transposed}
 use Rattle.grid_moves.proofs.Turned.CarriedChains.{AreInverse, IsOfStates, carried-carried, holds-carried, moved-past, moved-rank, sum_over-carried}
 use Rattle.grid_moves.proofs.Exchanged.SwapGridLemmas.{IsGrid-swapped_columns}
-use Rattle.grid_moves.specs.Carried.{moved, transposed_chain}
+use Rattle.grid_moves.specs.Inner.CodeCarried.{moved, transposed_chain}
 use Rattle.grid_moves.specs.Moves.{are_commuting, swapped, swapped_columns}
 use Rattle.grid_moves.specs.declared.commutations.Axis.{Axis}
 use Rattle.grid_moves.specs.declared.commutations.Axis.TheVariants.{Cols, Rows}
@@ -22,7 +22,7 @@ use Rattle.pentagon_map.proofs.ChainMap.ImageOfBorder.{column_image-nil, image_b
 use Rattle.pentagon_map.proofs.ChainMap.PentagonSums.{column_image-below}
 use Rattle.grid_moves.proofs.Exchanged.TransposedGrids.{size-transposed, transpose_AreInverse}
 use Rattle.pentagon_map.proofs.Rows.Transposing.{border-transposed}
-use Rattle.pentagon_map.specs.Pentagon.{column_image, image, image_of_state}
+use Rattle.pentagon_map.specs.Inner.CodeImages.{column_image, image, image_of_state}
 use Rattle.pentagon_map.specs.declared.Corner.{Corner}
 
 -- transposing twice is nothing, for a chain

@@ -14,7 +14,7 @@ use Rattle.state_rank.proofs.SwapLemmas.{exchanged, exchanged_below, exchanged_b
 use Rattle.state_rank.specs.Bijection.{IsBijection}
 use Rattle.state_rank.specs.States.{rank, transpose, unrank}
 use Rattle.torus_geom.proofs.TransposeLemmas.{IsBijection-transposed, IsGrid-transposed}
-use Rattle.torus_geom.specs.Border.{border, border_of_state}
+use Rattle.torus_geom.specs.Inner.CodeBorder.{border, border_of_state}
 use Rattle.torus_geom.specs.Marks.{IsGrid, Marks, size}
 use Rattle.torus_geom.specs.Transposed.{transposed}
 use Rattle.rectangles.proofs.Square.ColumnTests.{all_below-same}
@@ -27,7 +27,7 @@ use Rattle.grid_moves.proofs.Turned.CarriedChains.{eqb_alike, sum_over-carried}
 use Rattle.grid_moves.proofs.Turned.Shifts.{exchanged-row}
 use Rattle.grid_moves.proofs.Turned.TurnedBorders.{border_IsOfStates}
 use Rattle.grid_moves.proofs.Exchanged.TransposedGrids.{transpose-at, transpose-transpose, size-transposed, transpose_AreInverse}
-use Rattle.grid_moves.specs.Carried.{transposed_chain}
+use Rattle.grid_moves.specs.Inner.CodeCarried.{transposed_chain}
 use Rattle.grid_moves.proofs.Turned.Reindexing.{all_below_reindex, parity_below_reindex_both}
 
 -- the rectangle of circles a and b of x is open, and leads to the state of rank q

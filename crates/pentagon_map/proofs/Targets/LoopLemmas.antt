@@ -12,7 +12,7 @@ use Rattle.torus_geom.specs.Marks.{IsGrid, Marks, size}
 use Rattle.grid_moves.proofs.Turned.CarriedChains.{unrank-past}
 use Rattle.grid_moves.specs.declared.commutations.Axis.{Axis}
 use Rattle.pentagon_map.proofs.Rows.ImageByRows.{image_of_state_IsOfStates}
-use Rattle.pentagon_map.specs.Pentagon.{image, image_of_state}
+use Rattle.pentagon_map.specs.Inner.CodeImages.{image, image_of_state}
 use Rattle.pentagon_map.specs.declared.Corner.{Corner}
 
 -- the sum of the images of states, by their ranks

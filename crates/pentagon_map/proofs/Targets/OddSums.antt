@@ -21,7 +21,7 @@ use Rattle.torus_geom.specs.Transposed.{transposed}
 use Rattle.rectangles.proofs.Square.TwoSteps.{differ, differ-self, differ_comm}
 use Rattle.rectangles.specs.Inner.Open.{leaving}
 use Rattle.grid_moves.proofs.Turned.CarriedChains.{eqb-renamed, eqb_alike, holds-carried, moved-rank, moved-undone}
-use Rattle.grid_moves.specs.Carried.{moved}
+use Rattle.grid_moves.specs.Inner.CodeCarried.{moved}
 use Rattle.grid_moves.specs.Moves.{turned}
 use Rattle.grid_moves.specs.declared.commutations.Axis.{Axis}
 use Rattle.grid_moves.specs.declared.commutations.Axis.TheVariants.{Cols, Rows}
@@ -31,7 +31,8 @@ use Rattle.grid_moves.proofs.Exchanged.TransposedGrids.{size-transposed, transpo
 use Rattle.pentagon_map.proofs.Rows.Transposing.{transpose-swap}
 use Rattle.pentagon_map.proofs.Targets.InOrder.{codes-in_order, in_order_states}
 use Rattle.pentagon_map.specs.Inner.Exchanges.{across, in_order, is_odd_circle, is_pentagon_at, is_set}
-use Rattle.pentagon_map.specs.Pentagon.{column_image, crossing_row, has_mark_from, image_of_state, is_unmarked_beside}
+use Rattle.pentagon_map.specs.Inner.CodeImages.{column_image, image_of_state}
+use Rattle.pentagon_map.specs.Pentagon.{crossing_row, has_mark_in_rows, is_unmarked_beside}
 use Rattle.pentagon_map.specs.declared.Corner.{Corner}
 
 -- a sum over two circles one of which is c
@@ -104,8 +105,8 @@ module _ (g : Marks) (s : IsGrid g) (c : ℕ) (corner : Corner) (lc : c < size g
       (λ i. is_empty x (leaving x a b)
       && ((ne_eqb a c p i || ne_eqb b c q i)
       && (in_range (size g) (slice_index x a) (slice_index x b) w && (is_unmarked_beside g c (leaving x a b)
-      && (not (has_mark_from g c (slice_index x a) w)
-      && not (has_mark_from g (one_down (size g) c) (one_up (size g) w) (slice_index x b)))))))
+      && (not (has_mark_in_rows g c (slice_index x a) w)
+      && not (has_mark_in_rows g (one_down (size g) c) (one_up (size g) w) (slice_index x b)))))))
       ∙ and-false (is_empty x (leaving x a b))
 
   odd_is : (b : ℕ) → (t : Bool)

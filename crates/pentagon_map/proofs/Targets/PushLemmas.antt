@@ -14,7 +14,7 @@ use Rattle.torus_geom.specs.Rectangle.{is_empty}
 use Rattle.torus_geom.specs.declared.rects.Rect.{Rect}
 use Rattle.rectangles.specs.Inner.Open.{leaving}
 use Rattle.pentagon_map.specs.Inner.Exchanges.{is_odd_circle, is_pentagon_at, is_set, lowers, picked, raises}
-use Rattle.pentagon_map.specs.Pentagon.{has_mark_from, is_pentagonal, is_unmarked_beside}
+use Rattle.pentagon_map.specs.Pentagon.{has_mark_in_rows, is_pentagonal, is_unmarked_beside}
 
 -- one circle more, appended where it passes
 pub picked_more : (x : List ℕ) (a : ℕ) (test : ℕ → Bool) (circles : List ℕ) (i b : ℕ) → i < length circles
@@ -119,13 +119,13 @@ leaving_is x a b r l k j h = λ i. record { left = l i; right = k i; low = j i; 
 pub pentagon_by_parts : (g : Marks) (c w : ℕ) (x : List ℕ) (a b : ℕ) (r : Rect) → r ≡ leaving x a b
     → ((((eqb r.left c || eqb r.right c)
     && (in_range (size g) r.low r.high w
-    && (not (has_mark_from g c r.low w)
-    && not (has_mark_from g (one_down (size g) c) (one_up (size g) w) r.high)))) && is_unmarked_beside g c r)
+    && (not (has_mark_in_rows g c r.low w)
+    && not (has_mark_in_rows g (one_down (size g) c) (one_up (size g) w) r.high)))) && is_unmarked_beside g c r)
     && is_empty x r)
     ≡ is_pentagon_at g c w x a b
 unfolding is_pentagon_at
 pentagon_by_parts g c w x a b r e =
     same 6 (λ p q s t u v. ((p && (q && (s && t))) && u) && v) (λ p q s t u v. v && (p && (q && (u && (s && t))))) refl
-    (eqb r.left c || eqb r.right c) (in_range (size g) r.low r.high w) (not (has_mark_from g c r.low w))
-    (not (has_mark_from g (one_down (size g) c) (one_up (size g) w) r.high)) (is_unmarked_beside g c r) (is_empty x r)
+    (eqb r.left c || eqb r.right c) (in_range (size g) r.low r.high w) (not (has_mark_in_rows g c r.low w))
+    (not (has_mark_in_rows g (one_down (size g) c) (one_up (size g) w) r.high)) (is_unmarked_beside g c r) (is_empty x r)
     ∙ ap (λ q. is_empty x q && is_pentagonal g c w q) e

@@ -16,7 +16,8 @@ use Rattle.torus_geom.specs.Transposed.{transposed}
 use Rattle.grid_moves.proofs.Turned.CarriedChains.{AreInverse-back, holds-carried, moved-below, moved-past, moved-rank, moved-undone}
 use Rattle.grid_moves.proofs.Turned.TurnLemmas.{IsBijection-turned_rows, IsGrid-turned, length-turned_rows}
 use Rattle.grid_moves.proofs.Turned.TurnedStates.{IsBijection-turned_state, opposite, turned_AreInverse}
-use Rattle.grid_moves.specs.Carried.{moved, target_column, transposed_chain, turned_chain, turned_place, turned_state}
+use Rattle.grid_moves.specs.Inner.CodeCarried.{moved, transposed_chain, turned_chain}
+use Rattle.grid_moves.specs.Carried.{target_column, turned_place, turned_state}
 use Rattle.grid_moves.specs.Moves.{moved_row, turned, turned_rows}
 use Rattle.grid_moves.specs.declared.commutations.Axis.{Axis}
 use Rattle.grid_moves.specs.declared.commutations.Axis.TheVariants.{Cols, Rows}
@@ -28,7 +29,7 @@ use Rattle.grid_moves.proofs.Exchanged.TransposedGrids.{size-transposed, transpo
 use Rattle.grid_moves.proofs.Turned.Shifts.{IsShift-moved_row, IsShift-target_column}
 use Rattle.grid_moves.proofs.Turned.TurnedSteps.{at_target}
 use Rattle.pentagon_map.proofs.Turns.TurnedImages.{image_by_columns-turned}
-use Rattle.pentagon_map.specs.Pentagon.{image}
+use Rattle.pentagon_map.specs.Inner.CodeImages.{image}
 use Rattle.pentagon_map.specs.declared.Corner.{Corner}
 
 -- the side to which the transposed grid is turned

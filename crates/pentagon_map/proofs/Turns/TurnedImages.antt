@@ -13,7 +13,8 @@ use Rattle.torus_geom.specs.Range.{in_range}
 use Rattle.grid_moves.proofs.Turned.CarriedChains.{eqb_alike, sum_over-carried}
 use Rattle.grid_moves.proofs.Turned.TurnLemmas.{IsGrid-turned, length-turned_rows}
 use Rattle.grid_moves.proofs.Turned.TurnedStates.{IsBijection-turned_state, opposite, turned_AreInverse, turned_state-back}
-use Rattle.grid_moves.specs.Carried.{target_column, turned_chain, turned_state}
+use Rattle.grid_moves.specs.Carried.{target_column, turned_state}
+use Rattle.grid_moves.specs.Inner.CodeCarried.{turned_chain}
 use Rattle.grid_moves.specs.Moves.{moved_row, turned}
 use Rattle.grid_moves.specs.declared.turns.Side.{Side}
 use Rattle.pentagon_map.proofs.ChainMap.ImageOfBorder.{image_by_columns}
@@ -24,7 +25,8 @@ use Rattle.grid_moves.proofs.Turned.Reindexing.{parity_below_reindex_both}
 use Rattle.grid_moves.proofs.Turned.Shifts.{IsShift, IsShift-moved_row, IsShift-target_column}
 use Rattle.grid_moves.proofs.Turned.TurnedSteps.{at_target, state-at_target, swap-turned}
 use Rattle.pentagon_map.proofs.Turns.TurnedPentagons.{pentagon-turned}
-use Rattle.pentagon_map.specs.Pentagon.{column_image, crossing_row, first_met, last_met}
+use Rattle.pentagon_map.specs.Inner.CodeImages.{column_image}
+use Rattle.pentagon_map.specs.Pentagon.{crossing_row, first_met, last_met}
 use Rattle.pentagon_map.specs.declared.Corner.{Corner}
 use Rattle.pentagon_map.specs.declared.Corner.TheVariants.{Over, Under}
 

@@ -9,9 +9,9 @@ use Rattle.state_rank.specs.Bijection.{IsBijection}
 use Rattle.state_rank.specs.States.{IsState, rank}
 use Rattle.state_rank.proofs.RankLemmas.{rank_one_to_one}
 use Rattle.torus_geom.specs.Marks.{Marks, size, IsGrid}
-use Rattle.torus_geom.specs.Border.{border_of_state}
+use Rattle.torus_geom.specs.Inner.CodeBorder.{border_of_state}
 use Rattle.torus_geom.specs.Degrees.{maslov_o, alexander, bidegree}
-use Rattle.torus_geom.specs.GridComplex.{grid_complex}
+use Rattle.torus_geom.specs.Inner.GridComplex.{grid_complex}
 use Rattle.rectangles.proofs.Square.BorderLemmas.{step_of_border, grid_complex_IsComplex}
 use Rattle.rectangles.proofs.Law.RectangleLaw.{lowers_degrees}
 

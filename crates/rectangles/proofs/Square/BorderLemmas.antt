@@ -27,10 +27,11 @@ use Rattle.state_rank.proofs.RankLemmas.{IsBijection-unrank, rank-below, unrank-
 use Rattle.state_rank.proofs.SwapLemmas.{IsBijection-swap}
 use Rattle.torus_geom.specs.Marks.{Marks, size, IsGrid}
 use Rattle.torus_geom.specs.Rectangle.{IsProper, rectangles}
-use Rattle.torus_geom.specs.Border.{is_step, border_of_state, border}
+use Rattle.torus_geom.specs.Border.{is_step}
+use Rattle.torus_geom.specs.Inner.CodeBorder.{border_of_state, border}
 use Rattle.torus_geom.specs.declared.rects.Rect.{Rect}
 use Rattle.torus_geom.specs.Degrees.{bidegree}
-use Rattle.torus_geom.specs.GridComplex.{grid_complex}
+use Rattle.torus_geom.specs.Inner.GridComplex.{grid_complex}
 pub use Rattle.torus_geom.proofs.Circles.RectangleLemmas.{member_of_rectangles}
 use Rattle.rectangles.proofs.Square.TwoSteps.{differ}
 use Rattle.rectangles.proofs.Square.Exchanges.{exchanged}

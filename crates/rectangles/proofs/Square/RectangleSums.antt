@@ -21,7 +21,8 @@ use Rattle.torus_geom.specs.Counts.{all_below}
 use Rattle.torus_geom.proofs.Sums.AllBelowLemmas.{at_all_below}
 use Rattle.torus_geom.specs.Marks.{Marks, size, IsGrid}
 use Rattle.torus_geom.specs.Rectangle.{is_same, is_empty, is_unmarked, pairs_apart, rectangles}
-use Rattle.torus_geom.specs.Border.{states_where, is_step, border_of_state}
+use Rattle.torus_geom.specs.Inner.CodeBorder.{states_where, border_of_state}
+use Rattle.torus_geom.specs.Border.{is_step}
 use Rattle.torus_geom.specs.declared.rects.Rect.{Rect}
 use Rattle.rectangles.proofs.Square.TwoSteps.{differ, differ-true, differ_apart, guard}
 use Rattle.rectangles.proofs.Square.OpenRectangles.{is_open, unmarked}

@@ -6,7 +6,7 @@ use Rattle.f2_algebra.specs.Chain.{Chain, codes, single, ◌⊕◌, total, sum_o
 use Rattle.f2_algebra.proofs.Chains.Sums.{add_assoc, add-nothing, nothing-add, sum_over-singles}
 use Rattle.state_rank.specs.States.{rank, unrank}
 use Rattle.torus_geom.specs.Marks.{Marks, size}
-use Rattle.torus_geom.specs.Border.{border_of_state, border}
+use Rattle.torus_geom.specs.Inner.CodeBorder.{border_of_state, border}
 
 -- the sum of states
 abbrev pub sum_of_ranks : List (List ℕ) → Chain

@@ -22,7 +22,7 @@ use Rattle.state_rank.proofs.MemberLemmas.{member_cases, member_head, member_tai
 use Rattle.state_rank.proofs.OrderLemmas.{is_before-same, is_before-back, is_before-lower, is_before-equal, length-tabulate, get_or-tabulate, Contains-ascending, member_of_ascending, ascending_rises, states_rise}
 use Rattle.state_rank.proofs.SwapLemmas.{slice_index-swap_first, slice_index-swap_other, IsBijection-swap}
 use Rattle.torus_geom.specs.Marks.{Marks, size, IsGrid}
-use Rattle.torus_geom.specs.Border.{border_of_state}
+use Rattle.torus_geom.specs.Inner.CodeBorder.{border_of_state}
 use Rattle.rectangles.specs.Inner.Open.{is_odd_pair, exchanges, exchanges_below, exchanges_above}
 use Rattle.rectangles.proofs.Sweep.OddPairLemmas.{IsOddExchange, steps_to, reached, odd_exchange, Contains-reached}
 use Rattle.rectangles.proofs.Square.RectangleSums.{codes-states_where}

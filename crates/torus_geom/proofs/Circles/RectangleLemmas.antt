@@ -11,7 +11,8 @@ use Rattle.state_rank.proofs.OrderLemmas.{member_of_ascending}
 use Rattle.torus_geom.specs.Marks.{Marks, size}
 use Rattle.torus_geom.specs.Range.{in_range}
 use Rattle.torus_geom.specs.Rectangle.{IsProper, pairs_apart, rectangles, is_unmarked}
-use Rattle.torus_geom.specs.Border.{is_step, border_of_state}
+use Rattle.torus_geom.specs.Border.{is_step}
+use Rattle.torus_geom.specs.Inner.CodeBorder.{border_of_state}
 use Rattle.torus_geom.specs.Range.{one_down}
 use Rattle.torus_geom.specs.declared.rects.Rect.{Rect}
 use Rattle.torus_geom.proofs.Sums.AllBelowLemmas.{at_all_below}

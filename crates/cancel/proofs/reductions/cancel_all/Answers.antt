@@ -4,7 +4,7 @@ use Rattle.std.specs.List.{All}
 use Rattle.f2_algebra.specs.Slice.{IsReduced}
 use Rattle.cancel.specs.Logs.{log_of, HasEachOnce}
 use Rattle.sparse_complex.proofs.QueryLemmas.{on_err-from}
-use Rattle.cancel.proofs.ReductionLemmas.{LeadsTo, LeadsTo-push, LeadsTo_IsReduced, LeadsTo_IsLeftOf, live_count_falls}
+use Rattle.cancel.proofs.ReductionLemmas.{LeadsTo, LeadsTo-push, LeadsTo_IsReduced, LeadsTo_IsPartlyCancelled, live_count_falls}
 use Rattle.cancel.proofs.reductions.cancel_all.Goals as goal
 
 pub loop-arrow-smaller : goal.loop-arrow-smaller
@@ -22,13 +22,13 @@ loop-arrow-preserved c =
 pub returns-in_err-entry-clause-left : goal.returns-in_err-entry-clause-left
 returns-in_err-entry-clause-left c =
     on_err-from c.from_residual.result
-    (LeadsTo_IsLeftOf c.args.slice.now.slice c.loop-arrow.slice.slice c.cancel_arrow.new.slice.slice
+    (LeadsTo_IsPartlyCancelled c.args.slice.now.slice c.loop-arrow.slice.slice c.cancel_arrow.new.slice.slice
     c.loop-arrow.entries.items c.loop-arrow.invariant c.in_err-entry.ensures.same)
 
 pub returns-in_err-push-clause-left : goal.returns-in_err-push-clause-left
 returns-in_err-push-clause-left c =
     on_err-from c.from_residual-in_err-push.result
-    (LeadsTo_IsLeftOf c.args.slice.now.slice c.cancel_arrow.new.slice.slice c.cancel_arrow.new.slice.slice
+    (LeadsTo_IsPartlyCancelled c.args.slice.now.slice c.cancel_arrow.new.slice.slice c.cancel_arrow.new.slice.slice
     (c.loop-arrow.entries.items ++ c.in_ok-entry.entry ∷ [])
     (LeadsTo-push c.args.slice.now.slice c.loop-arrow.slice.slice c.cancel_arrow.new.slice.slice
     c.loop-arrow.entries.items c.in_ok-entry.entry c.loop-arrow.invariant c.in_ok-entry.ensures.entry

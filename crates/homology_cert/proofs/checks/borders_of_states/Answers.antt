@@ -1,7 +1,7 @@
 use Rattle.std.proofs.Common.{arith}
 use Rattle.state_rank.specs.States.{unrank}
 use Rattle.torus_geom.specs.Marks.{size}
-use Rattle.torus_geom.specs.Border.{border_of_state}
+use Rattle.torus_geom.specs.Inner.CodeBorder.{border_of_state}
 use Rattle.homology_cert.proofs.Certified.CheckLemmas.{map-ascending}
 use Rattle.homology_cert.proofs.checks.borders_of_states.Goals as goal
 

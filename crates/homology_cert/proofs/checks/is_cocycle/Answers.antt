@@ -3,7 +3,7 @@ use Rattle.std.specs.List.{list_all}
 use Rattle.f2_algebra.specs.Chain.{pairs_oddly}
 use Rattle.state_rank.specs.States.{factorial, unrank}
 use Rattle.torus_geom.specs.Marks.{size}
-use Rattle.torus_geom.specs.Border.{border_of_state}
+use Rattle.torus_geom.specs.Inner.CodeBorder.{border_of_state}
 use Rattle.homology_cert.proofs.Certified.CheckLemmas.{list_all-values}
 use Rattle.homology_cert.proofs.checks.is_cocycle.Goals as goal
 

@@ -1,6 +1,6 @@
 use Rattle.std.proofs.Common.{ℕ, Some, sym, ap, ◌∙◌}
 use Rattle.f2_algebra.specs.Certificate.{StepPair}
-use Rattle.torus_geom.specs.Border.{border}
+use Rattle.torus_geom.specs.Inner.CodeBorder.{border}
 use Rattle.homology_cert.specs.declared.verdicts.CertTest.{CertTest}
 use Rattle.homology_cert.specs.declared.verdicts.CertTest.TheVariants.{Degree, Probe}
 use Rattle.homology_cert.proofs.Certified.CheckLemmas.{is_probe-steps, second_fails, both_pass}

@@ -2,11 +2,11 @@
 use Rattle.std.proofs.Common.{◌∙◌, [], ℤ, map, w32, sym, ap, subst}
 use mir.Val.{of_z, to_z}
 use Rattle.std.proofs.lemmas.Int.{to_z-of_z}
-use Rattle.f2_algebra.specs.Bigraded.{at_second}
+use Rattle.f2_algebra.specs.Bigraded.{at_alexander}
 use Rattle.f2_algebra.specs.Cancel.{IsLog}
 use Rattle.f2_algebra.specs.Slice.{slice_complex}
 use Rattle.cancel.specs.Logs.{log_of}
-use Rattle.torus_geom.specs.GridComplex.{grid_complex}
+use Rattle.torus_geom.specs.Inner.GridComplex.{grid_complex}
 use Rattle.homology_cert.specs.CertificateTests.{has_degree}
 use Rattle.homology_cert.specs.Inner.Making.{cycle_pair, left_codes, steps_after}
 use Rattle.homology_cert.proofs.Homology.SliceRanks.{reduction_of}
@@ -18,7 +18,7 @@ steps_of-requires c =
     let g = c.args.g.now in
     let reduction = reduction_of g c.args.a c.args.slice.slice c.reduce.new.slice.slice (log_of c.in_ok-log.log)
     c.requires.built c.in_ok-log.ensures.reduced in
-    subst (λ (a : ℤ). IsLog (at_second a (grid_complex g)) (log_of c.in_ok-log.log))
+    subst (λ (a : ℤ). IsLog (at_alexander a (grid_complex g)) (log_of c.in_ok-log.log))
     (sym (to_z-of_z w32 c.args.a c.ranges.a)) reduction.stands
 
 pub returns : goal.returns

@@ -5,8 +5,8 @@ use Rattle.std.proofs.lemmas.List.{drop_all, length-map}
 use mir.Val.{of_z, to_z}
 use Rattle.f2_algebra.specs.Chain.{single}
 use Rattle.f2_algebra.specs.Cancel.{IsLog, lift, pull}
-use Rattle.f2_algebra.specs.Bigraded.{at_second}
-use Rattle.torus_geom.specs.GridComplex.{grid_complex}
+use Rattle.f2_algebra.specs.Bigraded.{at_alexander}
+use Rattle.torus_geom.specs.Inner.GridComplex.{grid_complex}
 use Rattle.homology_cert.specs.declared.certificates.StepPair.{StepPair}
 use Rattle.cancel.specs.declared.logs.LogEntry.{LogEntry}
 use Rattle.cancel.specs.Logs.{log_of, entry_of}
@@ -24,7 +24,7 @@ loop-k-init c =
 pub has_degree-requires : goal.has_degree-requires
 has_degree-requires c =
     sources-below c.args.g.now c.size-size.ensures.grid c.args.a c.entries-entries.result.now
-    (subst (λ entries. IsLog (at_second c.args.a (grid_complex c.args.g.now)) (log_of entries))
+    (subst (λ entries. IsLog (at_alexander c.args.a (grid_complex c.args.g.now)) (log_of entries))
     (sym c.entries-entries.ensures.entries) c.requires) c.loop-k.k _ c.loop-k-test.true
 
 pub lift_before-requires : goal.lift_before-requires

@@ -5,7 +5,7 @@ use Rattle.std.specs.BTreeMap as tree
 use Rattle.std.proofs.lemmas.Int.{to_z-of_z}
 use Rattle.state_rank.proofs.MemberLemmas.{member_head}
 use Rattle.sparse_complex.specs.declared.slices.Cell.{Cell}
-use Rattle.torus_geom.specs.Homology.{IsHomologyTable}
+use Rattle.torus_geom.specs.Inner.CodeHomology.{IsHomologyTable}
 use Rattle.homology_cert.specs.Tables.{homology_row, HasSmallDegrees, HasSmallRank}
 use Rattle.homology_cert.specs.Inner.Ranks.{degree_cmp, HasRanks, AreCounted, AreRows}
 use Rattle.homology_cert.proofs.Homology.DegreeLemmas.{small-degrees}

@@ -4,11 +4,11 @@ use mir.Val.{SFits, of_z, to_z}
 use Rattle.std.proofs.lemmas.Int.{to_z-of_z}
 use Rattle.f2_algebra.specs.Chain.{codes}
 use Rattle.f2_algebra.specs.Complex.{AllCells, border}
-use Rattle.f2_algebra.specs.Bigraded.{at_second}
+use Rattle.f2_algebra.specs.Bigraded.{at_alexander}
 use Rattle.state_rank.specs.States.{factorial, unrank}
 use Rattle.torus_geom.specs.Marks.{size}
 use Rattle.torus_geom.specs.Degrees.{alexander}
-use Rattle.torus_geom.specs.GridComplex.{grid_complex}
+use Rattle.torus_geom.specs.Inner.GridComplex.{grid_complex}
 use Rattle.rectangles.proofs.Square.BorderLemmas.{border-grid_complex}
 use Rattle.legendrian_class.specs.Verdicts.{alexander_at}
 use Rattle.legendrian_class.specs.Inner.Parts.{IsPartVerdict, IsNullBut}
@@ -31,13 +31,13 @@ unrank-requires-clause-rank c =
 pub part_verdict-requires-clause-cells : goal.part_verdict-requires-clause-cells
 part_verdict-requires-clause-cells c =
     let a = to_z w32 (of_z w32 c.alexander-a.result) in
-    subst (AllCells (at_second a (grid_complex c.args.g.now))) (sym c.in_ok-part.ensures)
+    subst (AllCells (at_alexander a (grid_complex c.args.g.now))) (sym c.in_ok-part.ensures)
     (part-cells c.args.g.now a c.size-n.ensures.grid c.args.z.now c.requires.states)
 
 pub part_verdict-requires-clause-cycle : goal.part_verdict-requires-clause-cycle
 part_verdict-requires-clause-cycle c =
     let a = to_z w32 (of_z w32 c.alexander-a.result) in
-    ap (border (at_second a (grid_complex c.args.g.now))) c.in_ok-part.ensures
+    ap (border (at_alexander a (grid_complex c.args.g.now))) c.in_ok-part.ensures
     ∙ part-cycle c.args.g.now a c.size-n.ensures.grid c.args.z.now c.requires.states
     (border-grid_complex c.args.g.now c.args.z.now ∙ c.requires.cycle)
 
@@ -48,7 +48,7 @@ returns-in-Alive c =
     IsAlive-by g c.args.z.now c.in-Alive.cocycle
     (alive-whole g c.size-n.ensures.grid c.args.z.now c.requires.states a c.in_ok-part.part c.in_ok-part.ensures
     (border-grid_complex g c.args.z.now ∙ c.requires.cycle) c.in-Alive.cocycle
-    (subst (IsPartVerdict (at_second a (grid_complex g)) c.in_ok-part.part) c.in-Alive.is c.in_ok-cocycle.ensures))
+    (subst (IsPartVerdict (at_alexander a (grid_complex g)) c.in_ok-part.part) c.in-Alive.is c.in_ok-cocycle.ensures))
 
 pub loop-code-smaller : goal.loop-code-smaller
 loop-code-smaller c =
@@ -75,7 +75,7 @@ loop-code-preserved c =
     (null-next g c.size-n.ensures.grid c.args.z.now c.requires.states a c.in_ok-part.part c.in_ok-part.ensures
     c.loop-code.left c.loop-code.bound c.loop-code.invariant c.in-Some.code c.in-Some.ensures.least.0 at_code
     c.in-Null.more
-    (subst (IsPartVerdict (at_second a (grid_complex g)) c.in_ok-part.part) c.in-Null.is c.in_ok-cocycle.ensures))
+    (subst (IsPartVerdict (at_alexander a (grid_complex g)) c.in_ok-part.part) c.in-Null.is c.in_ok-cocycle.ensures))
 
 pub returns : goal.returns
 returns c =

@@ -8,7 +8,7 @@ use Rattle.f2_algebra.specs.Chain.{codes as codes_of}
 use Rattle.f2_algebra.proofs.Chains.Lists.{All-codes}
 use Rattle.state_rank.specs.States.{factorial}
 use Rattle.torus_geom.specs.Marks.{size}
-use Rattle.pentagon_map.specs.Pentagon.{image as image_of}
+use Rattle.pentagon_map.specs.Inner.CodeImages.{image as image_of}
 use Rattle.pentagon_map.proofs.Targets.LoopLemmas.{sum_of_images, image_added, all_images_added, image-below}
 use Rattle.pentagon_map.proofs.images.image_sum.Goals as goal
 

@@ -1,6 +1,6 @@
 -- Each state that is listed is in the image.
 use Rattle.std.proofs.Common.{get_or, ◌∙◌}
-use Rattle.pentagon_map.specs.Pentagon.{image_of_state}
+use Rattle.pentagon_map.specs.Inner.CodeImages.{image_of_state}
 use Rattle.pentagon_map.proofs.Degrees.KeptDegrees.{maslov_o-image_of_state, alexander-image_of_state, listed_holds}
 use Rattle.pentagon_map.proofs.images.pentagon_targets.Goals as goal
 

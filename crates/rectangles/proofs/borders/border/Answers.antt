@@ -6,7 +6,7 @@ use Rattle.f2_algebra.specs.Chain.{codes as codes_of}
 use Rattle.f2_algebra.proofs.Chains.Lists.{All-codes}
 use Rattle.state_rank.specs.States.{factorial}
 use Rattle.torus_geom.specs.Marks.{size}
-use Rattle.torus_geom.specs.Border.{border as border_of}
+use Rattle.torus_geom.specs.Inner.CodeBorder.{border as border_of}
 use Rattle.std.proofs.lemmas.Result.{IfOk-weaker}
 use Rattle.std.proofs.lemmas.List.{take_all}
 use Rattle.rectangles.proofs.Square.BorderLemmas.{border-border, border-below}

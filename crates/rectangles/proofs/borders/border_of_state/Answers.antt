@@ -7,7 +7,7 @@ use Rattle.f2_algebra.proofs.Chains.Sums.{nothing-add}
 use Rattle.f2_algebra.proofs.Chains.Lists.{All-codes}
 use Rattle.state_rank.specs.States.{factorial}
 use Rattle.torus_geom.specs.Marks.{size}
-use Rattle.torus_geom.specs.Border.{border_of_state}
+use Rattle.torus_geom.specs.Inner.CodeBorder.{border_of_state}
 use Rattle.rectangles.proofs.Square.BorderLemmas.{border_of_state-below}
 use Rattle.rectangles.proofs.Law.GridComplexLemmas.{maslov_o-border_of_state, alexander-border_of_state}
 use Rattle.rectangles.proofs.borders.border_of_state.Goals as goal

@@ -7,7 +7,7 @@ use Rattle.f2_algebra.specs.Chain.{codes}
 use Rattle.state_rank.specs.Bijection.{IsBijection, ascending}
 use Rattle.state_rank.specs.States.{IsState, rank, transpose}
 use Rattle.torus_geom.specs.Marks.{Marks, size, IsGrid}
-use Rattle.torus_geom.specs.Border.{border_of_state}
+use Rattle.torus_geom.specs.Inner.CodeBorder.{border_of_state}
 use Rattle.torus_geom.specs.Degrees.{bidegree}
 use Rattle.f2_algebra.specs.Bigraded.{up_m}
 use Rattle.rectangles.proofs.Law.GridComplexLemmas.{bidegree-listed}

@@ -1,10 +1,10 @@
 -- Each step gives one cell its key.
 use Rattle.std.proofs.Common.{◌≡◌, ◌≤◌, length, replicate, ap, subst, ◌∙◌, arith, rules}
-use Rattle.f2_algebra.specs.Bigraded.{at_second}
+use Rattle.f2_algebra.specs.Bigraded.{at_alexander}
 use Rattle.state_rank.specs.declared.TheConstants.{MAX_SIZE}
 use Rattle.state_rank.specs.States.{factorial}
 use Rattle.torus_geom.specs.Marks.{size}
-use Rattle.torus_geom.specs.GridComplex.{grid_complex}
+use Rattle.torus_geom.specs.Inner.GridComplex.{grid_complex}
 use Rattle.sparse_complex.specs.Inner.Graph.{code_at}
 use Rattle.sparse_complex.specs.Inner.Stored.{no_key}
 use Rattle.sparse_complex.proofs.BuildLemmas.{KeysPlace, keys-start, keys-step, keys-end, factorial_fits}
@@ -23,7 +23,7 @@ loop-key-preserved c =
     let m : size c.args.g.now ≤ MAX_SIZE = search rules in
     let f = factorial_fits (size c.args.g.now) m in
     let few = c.requires.few in
-    keys-step (at_second c.args.a (grid_complex c.args.g.now))
+    keys-step (at_alexander c.args.a (grid_complex c.args.g.now))
     (factorial (size c.args.g.now)) c.args.cells.now c.requires c.loop-key.key c.loop-key-test.true
     (omega arith) c.loop-key.keys.items c.loop-key.invariant
 

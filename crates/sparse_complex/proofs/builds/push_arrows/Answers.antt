@@ -4,12 +4,12 @@ use mir.Val.{SFits}
 use Rattle.std.proofs.Math.IntN.{ℤ}
 use Rattle.std.proofs.lemmas.Int.{to_z-of_z}
 use Rattle.std.proofs.lemmas.List.{take_all}
-use Rattle.f2_algebra.specs.Bigraded.{at_second}
+use Rattle.f2_algebra.specs.Bigraded.{at_alexander}
 use Rattle.state_rank.specs.States.{rank, unrank}
 use Rattle.torus_geom.specs.Marks.{size}
-use Rattle.torus_geom.specs.Border.{border_of_state}
+use Rattle.torus_geom.specs.Inner.CodeBorder.{border_of_state}
 use Rattle.f2_algebra.specs.Chain.{codes}
-use Rattle.torus_geom.specs.GridComplex.{grid_complex}
+use Rattle.torus_geom.specs.Inner.GridComplex.{grid_complex}
 use Rattle.sparse_complex.specs.Inner.Lists.{among}
 use Rattle.sparse_complex.specs.Inner.Graph.{code_at, width, has_arrow, IsLinked}
 use Rattle.sparse_complex.specs.Inner.Stored.{is_live}
@@ -24,10 +24,10 @@ loop-y-init c =
     let fits : SFits w32 c.args.a = search rules in
     let room = c.in_ok-reserve.ensures.room in
     record {
-      place = subst (λ (a : ℤ). ArrowsPlace (at_second a (grid_complex c.args.g.now)) c.args.cells.now c.args.key
+      place = subst (λ (a : ℤ). ArrowsPlace (at_alexander a (grid_complex c.args.g.now)) c.args.cells.now c.args.key
           (map rank (take 0 c.as_slice-y-items.result.now)) c.reserve.new.self) (sym (to_z-of_z w32 c.args.a fits))
           (arrows-start
-          (at_second c.args.a (grid_complex c.args.g.now)) c.args.cells.now c.args.key c.args.links.now
+          (at_alexander c.args.a (grid_complex c.args.g.now)) c.args.cells.now c.args.key c.args.links.now
           c.reserve.new.self c.requires.below c.reserve.ensures.nodes c.reserve.ensures.heads);
       room = omega (arith, c.len.ensures.value, ap length c.as_slice-y-items.ensures, room);
     }
@@ -61,7 +61,7 @@ link-requires-clause-ends c =
     ap (map rank) c.as_slice-y-items.ensures ∙ c.targets-states.ensures.border in
     let fits : SFits w32 c.args.a = search rules in
     let place =
-    subst (λ (a : ℤ). ArrowsPlace (at_second a (grid_complex c.args.g.now)) c.args.cells.now c.args.key
+    subst (λ (a : ℤ). ArrowsPlace (at_alexander a (grid_complex c.args.g.now)) c.args.cells.now c.args.key
     (map rank (take c.loop-y.y-index c.as_slice-y-items.result.now)) c.loop-y.links)
     (to_z-of_z w32 c.args.a fits) c.loop-y.invariant.place in
     let r_is : c.rank.result ≡ rank (get_or c.as_slice-y-items.result.now c.loop-y.y-index c.y-item.result) =
@@ -76,13 +76,13 @@ link-requires-clause-ends c =
     c.requires.keys c.args.key c.requires.key c.as_slice-y-items.result.now c.unrank-x.result x_is border
     c.loop-y.y-index c.y-item.result c.loop-y-test.true in (
       source-in
-          (at_second c.args.a (grid_complex c.args.g.now)) c.args.cells.now c.args.keys.now c.requires.keys c.args.key
+          (at_alexander c.args.a (grid_complex c.args.g.now)) c.args.cells.now c.args.keys.now c.requires.keys c.args.key
           c.requires.key
           (map rank (take c.loop-y.y-index c.as_slice-y-items.result.now)) c.loop-y.links place c.rank.result live
           fresh,
       subst (λ q. q < width c.loop-y.links) (sym read)
           (target-in
-          (at_second c.args.a (grid_complex c.args.g.now)) c.args.cells.now c.args.keys.now c.requires.keys c.args.key
+          (at_alexander c.args.a (grid_complex c.args.g.now)) c.args.cells.now c.args.keys.now c.requires.keys c.args.key
           c.requires.key
           (map rank (take c.loop-y.y-index c.as_slice-y-items.result.now)) c.loop-y.links place c.rank.result live
           fresh),
@@ -97,7 +97,7 @@ link-requires-clause-absent c =
     ap (map rank) c.as_slice-y-items.ensures ∙ c.targets-states.ensures.border in
     let fits : SFits w32 c.args.a = search rules in
     let place =
-    subst (λ (a : ℤ). ArrowsPlace (at_second a (grid_complex c.args.g.now)) c.args.cells.now c.args.key
+    subst (λ (a : ℤ). ArrowsPlace (at_alexander a (grid_complex c.args.g.now)) c.args.cells.now c.args.key
     (map rank (take c.loop-y.y-index c.as_slice-y-items.result.now)) c.loop-y.links)
     (to_z-of_z w32 c.args.a fits) c.loop-y.invariant.place in
     let r_is : c.rank.result ≡ rank (get_or c.as_slice-y-items.result.now c.loop-y.y-index c.y-item.result) =
@@ -113,7 +113,7 @@ link-requires-clause-absent c =
     c.loop-y.y-index c.y-item.result c.loop-y-test.true in
     ap (has_arrow c.loop-y.links c.args.key) read
     ∙ not-yet
-    (at_second c.args.a (grid_complex c.args.g.now)) c.args.cells.now c.args.keys.now c.requires.keys c.args.key
+    (at_alexander c.args.a (grid_complex c.args.g.now)) c.args.cells.now c.args.keys.now c.requires.keys c.args.key
     c.requires.key
     (map rank (take c.loop-y.y-index c.as_slice-y-items.result.now)) c.loop-y.links place c.rank.result live fresh
 
@@ -126,7 +126,7 @@ loop-y-preserved c =
     ap (map rank) c.as_slice-y-items.ensures ∙ c.targets-states.ensures.border in
     let fits : SFits w32 c.args.a = search rules in
     let place =
-    subst (λ (a : ℤ). ArrowsPlace (at_second a (grid_complex c.args.g.now)) c.args.cells.now c.args.key
+    subst (λ (a : ℤ). ArrowsPlace (at_alexander a (grid_complex c.args.g.now)) c.args.cells.now c.args.key
     (map rank (take c.loop-y.y-index c.as_slice-y-items.result.now)) c.loop-y.links)
     (to_z-of_z w32 c.args.a fits) c.loop-y.invariant.place in
     let r_is : c.rank.result ≡ rank (get_or c.as_slice-y-items.result.now c.loop-y.y-index c.y-item.result) =
@@ -149,14 +149,14 @@ loop-y-preserved c =
     let left = c.link.ensures.room in
     let room = c.loop-y.invariant.room in
     record {
-      place = subst (λ (a : ℤ). ArrowsPlace (at_second a (grid_complex c.args.g.now)) c.args.cells.now c.args.key
+      place = subst (λ (a : ℤ). ArrowsPlace (at_alexander a (grid_complex c.args.g.now)) c.args.cells.now c.args.key
           (map rank (take (c.loop-y.y-index + 1) c.as_slice-y-items.result.now)) c.link.new.self)
           (sym (to_z-of_z w32 c.args.a fits))
           (subst (λ done. ArrowsPlace
-          (at_second c.args.a (grid_complex c.args.g.now)) c.args.cells.now c.args.key done c.link.new.self)
+          (at_alexander c.args.a (grid_complex c.args.g.now)) c.args.cells.now c.args.key done c.link.new.self)
           (sym more)
           (arrows-step
-          (at_second c.args.a (grid_complex c.args.g.now)) c.args.cells.now c.args.keys.now c.requires.keys c.args.key
+          (at_alexander c.args.a (grid_complex c.args.g.now)) c.args.cells.now c.args.keys.now c.requires.keys c.args.key
           c.requires.key
           (map rank (take c.loop-y.y-index c.as_slice-y-items.result.now)) c.loop-y.links place c.rank.result live
           fresh c.link.new.self c.link.ensures.listed linked));
@@ -172,13 +172,13 @@ returns c =
     ap (map rank) c.as_slice-y-items.ensures ∙ c.targets-states.ensures.border in
     let fits : SFits w32 c.args.a = search rules in
     let place =
-    subst (λ (a : ℤ). ArrowsPlace (at_second a (grid_complex c.args.g.now)) c.args.cells.now c.args.key
+    subst (λ (a : ℤ). ArrowsPlace (at_alexander a (grid_complex c.args.g.now)) c.args.cells.now c.args.key
     (map rank (take c.loop-y.y-index c.as_slice-y-items.result.now)) c.loop-y.links)
     (to_z-of_z w32 c.args.a fits) c.loop-y.invariant.place in
     let all = ap (map rank) (take_all c.loop-y.y-index c.as_slice-y-items.result.now c.loop-y-test.false) in
-    arrows-end (at_second c.args.a (grid_complex c.args.g.now)) c.args.cells.now c.args.key
+    arrows-end (at_alexander c.args.a (grid_complex c.args.g.now)) c.args.cells.now c.args.key
     (map rank c.as_slice-y-items.result.now) c.loop-y.links
     (subst (λ done. ArrowsPlace
-    (at_second c.args.a (grid_complex c.args.g.now)) c.args.cells.now c.args.key done c.loop-y.links) all place)
+    (at_alexander c.args.a (grid_complex c.args.g.now)) c.args.cells.now c.args.key done c.loop-y.links) all place)
     (all-targets c.args.g.now c.args.a c.size.ensures.grid c.args.cells.now c.requires.cells c.args.keys.now
     c.requires.keys c.args.key c.requires.key c.as_slice-y-items.result.now c.unrank-x.result x_is border)

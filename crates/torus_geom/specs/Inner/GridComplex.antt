@@ -1,7 +1,6 @@
 -- The fully blocked grid complex (Ozsváth, Stipsicz and Szabó, "Grid Homology for Knots and Links", chapter 4).
 --     grid_complex g     all states of the grid, each by its rank and with its bidegree, and from each state an arrow
---                        to
---                        those of its border
+--                        to those of its border
 use Rattle.std.specs.Prelude.{ℤ, nat_lt, if◌then◌else◌}
 use Rattle.std.specs.declared.option.Option.TheVariants.{None, Some}
 use Rattle.f2_algebra.specs.Chain.{nothing}
@@ -9,7 +8,7 @@ use Rattle.f2_algebra.specs.Complex.{Complex}
 use Rattle.f2_algebra.specs.Bigraded.{up_m}
 use Rattle.state_rank.specs.States.{unrank, factorial}
 use Rattle.torus_geom.specs.Marks.{Marks, size}
-use Rattle.torus_geom.specs.Border.{border_of_state}
+use Rattle.torus_geom.specs.Inner.CodeBorder.{border_of_state}
 use Rattle.torus_geom.specs.Degrees.{bidegree}
 
 -- the codes of the cells are the ranks of the states

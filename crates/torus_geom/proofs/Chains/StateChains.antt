@@ -11,7 +11,7 @@ use Rattle.state_rank.proofs.OrderLemmas.{Contains-states, member_of_states}
 use Rattle.state_rank.proofs.RankLemmas.{rank-below, rank_one_to_one}
 use Rattle.state_rank.specs.Bijection.{IsBijection}
 use Rattle.state_rank.specs.States.{factorial, rank, states}
-use Rattle.torus_geom.specs.Border.{states_where}
+use Rattle.torus_geom.specs.Inner.CodeBorder.{states_where}
 
 module _ (n : ℕ) (test : List ℕ → Bool) where
   -- what it holds is the rank of a state that passes

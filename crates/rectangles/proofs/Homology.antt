@@ -1,0 +1,2 @@
+pub mod HomologyLemmas
+pub mod BorderLaws
