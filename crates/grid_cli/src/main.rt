@@ -23,7 +23,8 @@ fn main(rt: HostRuntime) -> ExitCode {
     let mut source = StdSource::new(rt.reader());
     let mut sink = StdSink::new(io::writer(&rt));
     let mut errors = StdSink::new(rt.stderr());
-    ExitCode::from(answer(rt.alloc(), &words, &mut source, &mut sink, &mut errors))
+    let status = answer(rt.alloc(), &words, &mut source, &mut sink, &mut errors);
+    ExitCode::from(status.code())
 }
 
 /// The words after the program's name.

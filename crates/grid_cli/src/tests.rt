@@ -22,8 +22,8 @@ fn other_words_are_told_the_usage(rt: HostRuntime) -> Result<(), Fail> {
         let mut source = MemSource::new(text, 9, Vec::new(alloc));
         let mut sink = MemSink::new(alloc, 99, 9, Vec::new(alloc))?;
         let mut errors = MemSink::new(alloc, 99, 9, Vec::new(alloc))?;
-        let code = answer(alloc, &words, &mut source, &mut sink, &mut errors);
-        assert_eq!(rt; code, status, "the status of {word}");
+        let ended = answer(alloc, &words, &mut source, &mut sink, &mut errors);
+        assert_eq!(rt; ended.code(), status, "the status of {word}");
         assert_eq!(rt; sink.written(), report.as_bytes(), "what {word} writes");
         assert_eq!(rt; errors.written(), usage.as_bytes(), "what {word} is told");
     }

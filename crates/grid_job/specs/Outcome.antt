@@ -1,8 +1,8 @@
 -- What a call of the program may come to. Each mode of the program has its outcomes for a text: the statuses with
 -- which a call may end, and the bytes that it then has written. The clauses of the top call speak of outcomes alone.
 --     IsForm words mode             the words after the program's name ask for this mode
---     left_of mode text             what is left of a text that a call went to the end of: it reads one byte past the
---                                   most that is judged, and `make` reads nothing
+--     most_read mode                the number of bytes that a call takes at most
+--     left_of mode text             what is left of a text that a call went to the end of
 --     IsTooLong limit text answer   the text is longer than what is judged, and the answer is the line that says so
 --     IsFaulty text answer          the text is no document, and the answer tells its first fault
 --     IsRefusal text answer         the text is refused as a document, and the answer is the line that says so
@@ -45,11 +45,15 @@ IsForm words Cert = words ≡ codes "cert" ∷ []
 IsForm words Check = words ≡ codes "check" ∷ []
 IsForm words (Make size seed) = IsMake words size seed
 
+-- one byte past the most that is judged; `make` reads nothing
+abbrev pub most_read : Mode → ℕ
+most_read Run = max_text + 1
+most_read Cert = max_text + 1
+most_read Check = max_certificate + 1
+most_read (Make size seed) = 0
+
 abbrev pub left_of : Mode → List ℕ → List ℕ
-left_of Run text = drop (max_text + 1) text
-left_of Cert text = drop (max_text + 1) text
-left_of Check text = drop (max_certificate + 1) text
-left_of (Make size seed) text = text
+left_of mode text = drop (most_read mode) text
 
 pub record IsTooLong (limit : ℕ) (text answer : List ℕ) : Type 0 where
   pub long : limit < length text

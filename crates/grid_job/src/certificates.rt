@@ -1,5 +1,6 @@
 //! Certificates of the grid of a document.
 ghost use Rattle.std.specs.Prelude.{◌≡◌, ◌≢◌, ◌+◌, ◌≤◌, Some, length, drop, IfOk, IfSome};
+ghost use Rattle.grid_ports.specs.Bytes.{TakesAtMost};
 ghost use Rattle.grid_ports.specs.Faults.{count_up};
 ghost use Rattle.grid_text.specs.Limits.{max_text};
 ghost use Rattle.torus_geom.specs.Marks.{size};
@@ -31,6 +32,8 @@ pub(crate) fn cert<S: Source, K: Sink>(alloc: Global, src: &mut S, out: &mut K) 
         → (S.faults src.new ≡ count_up (S.faults src.old)) × (out.new ≡ out.old) }
     ensures no_read_fault { result ≢ Status.ReadFault → S.faults src.new ≡ S.faults src.old }
     ensures not_others { (result ≢ Status.Usage) × (result ≢ Status.No) }
+    ensures taken { TakesAtMost (max_text + 1) (S.left src.old) (S.left src.new) }
+    ensures memory { result ≡ Status.NoMemory → out.new ≡ out.old }
 {
     match read_all(alloc, src, MAX_TEXT) {
         Ok(text) => certify_text(alloc, &text, out),
@@ -43,8 +46,9 @@ pub(crate) fn cert<S: Source, K: Sink>(alloc: Global, src: &mut S, out: &mut K) 
 // Writes a certificate of the grid of the text, or the refusal of the text.
 fn certify_text<K: Sink>(alloc: Global, text: &[u8], out: &mut K) -> Status
     requires within { length text.now ≤ max_text }
-    ensures { HasWritten (IsOutcome Mode.Cert text.now) result
+    ensures written { HasWritten (IsOutcome Mode.Cert text.now) result
         (K.faults out.old) (K.faults out.new) (K.written out.old) (K.written out.new) }
+    ensures memory { result ≡ Status.NoMemory → out.new ≡ out.old }
 {
     match judge(alloc, text) {
         Ok(judged) => certify_script(alloc, &judged, out),
@@ -55,8 +59,9 @@ fn certify_text<K: Sink>(alloc: Global, text: &[u8], out: &mut K) -> Status
 
 // Writes a certificate of the grid in force after the commands of a document, or the refusal of a grid too large.
 fn certify_script<K: Sink>(alloc: Global, judged: &Judged, out: &mut K) -> Status
-    ensures { HasWritten (IsAnswerOfGrid judged.now.script judged.now.grid_line) result
+    ensures written { HasWritten (IsAnswerOfGrid judged.now.script judged.now.grid_line) result
         (K.faults out.old) (K.faults out.new) (K.written out.old) (K.written out.new) }
+    ensures memory { result ≡ Status.NoMemory → out.new ≡ out.old }
 {
     let g = judged.script.in_force();
     if g.size() > MAX_SIZE {
@@ -68,9 +73,10 @@ fn certify_script<K: Sink>(alloc: Global, judged: &Judged, out: &mut K) -> Statu
 // Writes a certificate of a grid.
 fn write_certificate<K: Sink>(alloc: Global, g: &Grid, out: &mut K) -> Status
     requires { size g.now ≤ max_certified_size }
-    ensures { HasWritten
+    ensures written { HasWritten
         (λ status answer. (status ≡ Status.Done) × IsCertificateText g.now answer) result
         (K.faults out.old) (K.faults out.new) (K.written out.old) (K.written out.new) }
+    ensures memory { result ≡ Status.NoMemory → out.new ≡ out.old }
 {
     let _ = g.size();
     let Ok(text) = certificate_text(alloc, g) else {

@@ -1,5 +1,6 @@
 //! Whether a certificate passes.
 ghost use Rattle.std.specs.Prelude.{◌≡◌, ◌≢◌, ◌+◌, ◌≤◌, Some, length, drop, IfOk, IfSome};
+ghost use Rattle.grid_ports.specs.Bytes.{TakesAtMost};
 ghost use Rattle.grid_ports.specs.Faults.{count_up};
 ghost use Rattle.homology_cert.specs.CertificateTests.{verdict_of};
 ghost use Rattle.homology_cert.specs.CertificateLimits.{max_certificate};
@@ -29,6 +30,8 @@ pub(crate) fn check<S: Source, K: Sink>(alloc: Global, src: &mut S, out: &mut K)
         → (S.faults src.new ≡ count_up (S.faults src.old)) × (out.new ≡ out.old) }
     ensures no_read_fault { result ≢ Status.ReadFault → S.faults src.new ≡ S.faults src.old }
     ensures not_usage { result ≢ Status.Usage }
+    ensures taken { TakesAtMost (max_certificate + 1) (S.left src.old) (S.left src.new) }
+    ensures memory { result ≡ Status.NoMemory → out.new ≡ out.old }
 {
     match read_all(alloc, src, MAX_CERTIFICATE) {
         Ok(text) => answer_certificate(alloc, &text, out),
@@ -41,8 +44,9 @@ pub(crate) fn check<S: Source, K: Sink>(alloc: Global, src: &mut S, out: &mut K)
 // Writes whether the certificate of the text passes, or the refusal of the text.
 fn answer_certificate<K: Sink>(alloc: Global, text: &[u8], out: &mut K) -> Status
     requires within { length text.now ≤ max_certificate }
-    ensures { HasWritten (IsOutcome Mode.Check text.now) result
+    ensures written { HasWritten (IsOutcome Mode.Check text.now) result
         (K.faults out.old) (K.faults out.new) (K.written out.old) (K.written out.new) }
+    ensures memory { result ≡ Status.NoMemory → out.new ≡ out.old }
 {
     match read_cert(alloc, text) {
         Ok(certificate) => {
@@ -56,8 +60,9 @@ fn answer_certificate<K: Sink>(alloc: Global, text: &[u8], out: &mut K) -> Statu
 
 // Writes the verdict of a certificate.
 fn tell_verdict<K: Sink>(alloc: Global, certificate: &Cert, out: &mut K) -> Status
-    ensures { HasWritten (TellsVerdict (verdict_of certificate.now)) result
+    ensures written { HasWritten (TellsVerdict (verdict_of certificate.now)) result
         (K.faults out.old) (K.faults out.new) (K.written out.old) (K.written out.new) }
+    ensures memory { result ≡ Status.NoMemory → out.new ≡ out.old }
 {
     match check_cert(alloc, certificate) {
         Ok(CertVerdict::Yes) => tell_yes(out),
@@ -68,8 +73,9 @@ fn tell_verdict<K: Sink>(alloc: Global, certificate: &Cert, out: &mut K) -> Stat
 
 // Writes the line of a certificate that passes.
 fn tell_yes<K: Sink>(out: &mut K) -> Status
-    ensures { HasWritten (TellsVerdict CertVerdict.Yes) result
+    ensures written { HasWritten (TellsVerdict CertVerdict.Yes) result
         (K.faults out.old) (K.faults out.new) (K.written out.old) (K.written out.new) }
+    ensures memory { result ≡ Status.NoMemory → out.new ≡ out.old }
 {
     match write_all(out, b"yes\n") {
         Ok(()) => Status::Done,
@@ -79,8 +85,9 @@ fn tell_yes<K: Sink>(out: &mut K) -> Status
 
 // Writes the line of a certificate that fails: its first entry that does not pass, and the test.
 fn tell_no<K: Sink>(alloc: Global, entry: u32, test: CertTest, out: &mut K) -> Status
-    ensures { HasWritten (TellsVerdict (CertVerdict.No entry test)) result
+    ensures written { HasWritten (TellsVerdict (CertVerdict.No entry test)) result
         (K.faults out.old) (K.faults out.new) (K.written out.old) (K.written out.new) }
+    ensures memory { result ≡ Status.NoMemory → out.new ≡ out.old }
 {
     let Ok(text) = no_line(alloc, entry, test) else {
         return Status::NoMemory;

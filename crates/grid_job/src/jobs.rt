@@ -1,11 +1,10 @@
 //! The top call.
-ghost use Rattle.std.specs.Prelude.{◌≡◌, ◌≢◌, ◌⊎◌, ℕ, ◌+◌, ◌-◌, ◌^◌, ◌<◌, ◌≤◌, ◌↔◌, List, [], ◌∷◌, Some, length, drop, map, codes, string_bytes, IfSome};
-ghost use Rattle.grid_ports.specs.Faults.{count_up};
+ghost use Rattle.std.specs.Prelude.{◌≡◌, ◌≢◌, ◌⊎◌, ℕ, ◌+◌, ◌-◌, ◌^◌, ◌<◌, ◌↔◌, List, [], ◌∷◌, map, codes, string_bytes, IfSome};
+ghost use Rattle.std.specs.Io.KnownBytes.{Appends};
+ghost use Rattle.grid_ports.specs.Bytes.{TakesAtMost, AppendsPrefix};
 ghost use Rattle.grid_text.specs.Document.{IsDocument};
-ghost use Rattle.grid_text.specs.Limits.{max_text};
 ghost use Rattle.grid_text.specs.Faults.{IsFirstFault};
 ghost use Rattle.grid_text.specs.Script.{GridScript};
-ghost use Rattle.state_rank.specs.Bijection.{IsSize};
 ghost use Rattle.torus_geom.specs.Inner.CodeHomology.{IsHomologyTable};
 ghost use Rattle.homology_cert.specs.Certificates.{Certificate, IsCertificate};
 ghost use Rattle.homology_cert.specs.CertificateTests.{certified_rows};
@@ -14,18 +13,13 @@ ghost use Rattle.grid_job.specs.Checked.{yes_line};
 ghost use Rattle.grid_job.specs.Made.{IsMade};
 ghost use Rattle.grid_job.specs.Report.{IsReport};
 ghost use Rattle.grid_job.specs.Words.{IsMake};
-ghost use Rattle.grid_job.specs.Outcome.{IsForm, IsOutcome, IsEnd, HasEnded, HasBegun};
-ghost use Rattle.grid_job.specs.Inner.Written.{HasWritten, Tells};
+ghost use Rattle.grid_job.specs.Outcome.{IsForm, IsRefusal, IsOutcome, IsEnd, HasEnded, HasBegun, most_read};
 
-use crate::certificates::cert;
-use crate::checks::check;
-use crate::made::made_text;
-use crate::modes::{Mode, mode_of};
-use crate::refusals::refuse;
-use crate::reports::{ReportEnd, write_report};
+use crate::answers::answer_words;
+use crate::modes::Mode;
 use crate::statuses::Status;
-use grid_ports::{ReadEnd, Sink, Source, read_all, write_all};
-use grid_text::{MAX_TEXT, Script, TextEnd, TextFault, fault_word, judge};
+use grid_ports::{Sink, Source};
+use grid_text::TextFault;
 use std::alloc::Global;
 
 /// Does what the words ask for: `run` alone reads a document from `src` and writes a report of it to `out`;
@@ -86,9 +80,35 @@ pub fn gridhom<S: Source, K: Sink>(
     // `check` alone finds that a certificate fails.
     ensures no { result ≡ Status.No → map string_bytes words.now ≡ codes "check" ∷ [] }
 
-    // A call of `make` reads nothing, whatever its end.
+    // A text is refused where one is read.
+    ensures refused { result ≡ Status.Refused → (map string_bytes words.now ≡ codes "run" ∷ [])
+        ⊎ ((map string_bytes words.now ≡ codes "cert" ∷ [])
+        ⊎ (map string_bytes words.now ≡ codes "check" ∷ [])) }
+
+    // A call of `make` reads nothing, whatever its end. A call that is done has written a made script with its
+    // summary, whatever the source is.
     ensures make_reads_nothing { (size seed : ℕ) → IsMake (map string_bytes words.now) size seed
         → src.new ≡ src.old }
+    ensures make_ended { (size seed : ℕ) → IsMake (map string_bytes words.now) size seed → IsEnd result
+        → (result ≡ Status.Done) × ((answer : List ℕ) × IsMade size seed answer
+        × Appends (K.written out.old) (K.written out.new) answer) }
+    ensures make_begun { (size seed : ℕ) → IsMake (map string_bytes words.now) size seed
+        → (result ≡ Status.WriteFault) ⊎ (result ≡ Status.NoMemory)
+        → (answer : List ℕ) × IsMade size seed answer
+        × AppendsPrefix (K.written out.old) (K.written out.new) answer }
+    ensures make_answer { (size seed : ℕ) → IsMake (map string_bytes words.now) size seed
+        → K.faults out.new ≡ K.faults out.old → (result ≡ Status.Done) ⊎ (result ≡ Status.NoMemory) }
+
+    // Whatever its end, a call takes no more of the source than its mode reads.
+    ensures taken { (mode : Mode) → IsForm (map string_bytes words.now) mode
+        → TakesAtMost (most_read mode) (S.left src.old) (S.left src.new) }
+
+    // Where memory ran out, a part of a report is all that may be written.
+    ensures memory_keeps_sink { result ≡ Status.NoMemory
+        → map string_bytes words.now ≢ codes "run" ∷ [] → out.new ≡ out.old }
+    ensures memory_writes_no_refusal { result ≡ Status.NoMemory
+        → IfSome (S.left src.old) (λ text. (answer : List ℕ) → IsRefusal text answer
+        → out.new ≡ out.old) }
 
     // Every text has an outcome in each mode that words ask for, and all of them have one status.
     ensures some_outcome { (asked : List (List ℕ)) (mode : Mode) (text : List ℕ) → IsForm asked mode
@@ -114,111 +134,4 @@ pub fn gridhom<S: Source, K: Sink>(
         → IsFirstFault text f line → IsFirstFault text g number → (f ≡ g) × (line ≡ number) }
 {
     answer_words(alloc, words, src, out)
-}
-
-// The same, without the laws.
-fn answer_words<S: Source, K: Sink>(
-    alloc: Global,
-    words: &[String],
-    src: &mut S,
-    out: &mut K,
-) -> Status
-    requires source_count { S.faults src.old < 2 ^ 64 - 1 }
-    requires sink_count { K.faults out.old < 2 ^ 64 - 1 }
-    ensures ended { IsEnd result → IfSome (S.left src.old) (λ text. HasEnded
-        (map string_bytes words.now) text result
-        (S.left src.new) (K.written out.old) (K.written out.new)) }
-    ensures begun { (result ≡ Status.WriteFault) ⊎ (result ≡ Status.NoMemory)
-        → IfSome (S.left src.old) (λ text. HasBegun (map string_bytes words.now) text
-        (K.written out.old) (K.written out.new)) }
-    ensures answer { (mode : Mode) → IsForm (map string_bytes words.now) mode
-        → S.faults src.new ≡ S.faults src.old → K.faults out.new ≡ K.faults out.old
-        → IfSome (S.left src.old) (λ text. (status : Status) (answer : List ℕ)
-        → IsOutcome mode text status answer → (result ≡ status) ⊎ (result ≡ Status.NoMemory)) }
-    ensures usage { (result ≡ Status.Usage)
-        ↔ ((mode : Mode) → ¬ IsForm (map string_bytes words.now) mode) }
-    ensures usage_touches_nothing { result ≡ Status.Usage
-        → (src.new ≡ src.old) × (out.new ≡ out.old) }
-    ensures read_fault { result ≡ Status.ReadFault
-        → (S.faults src.new ≡ S.faults src.old + 1) × (out.new ≡ out.old) }
-    ensures no_read_fault { result ≢ Status.ReadFault → S.faults src.new ≡ S.faults src.old }
-    ensures write_fault { result ≡ Status.WriteFault
-        → K.faults out.new ≡ K.faults out.old + 1 }
-    ensures no_write_fault { result ≢ Status.WriteFault → K.faults out.new ≡ K.faults out.old }
-    ensures no { result ≡ Status.No → map string_bytes words.now ≡ codes "check" ∷ [] }
-    ensures make_reads_nothing { (size seed : ℕ) → IsMake (map string_bytes words.now) size seed
-        → src.new ≡ src.old }
-{
-    match mode_of(words) {
-        Some(Mode::Run) => run(alloc, src, out),
-        Some(Mode::Cert) => cert(alloc, src, out),
-        Some(Mode::Check) => check(alloc, src, out),
-        Some(Mode::Make { size, seed }) => make(alloc, size, seed, out),
-        None => Status::Usage,
-    }
-}
-
-// Writes the script of this size and seed, and the summary of its grid.
-fn make<K: Sink>(alloc: Global, n: u8, seed: u32, out: &mut K) -> Status
-    requires size { IsSize n }
-    requires seed { seed < 2 ^ 31 }
-    ensures written { HasWritten (λ status answer. (status ≡ Status.Done) × IsMade n seed answer)
-        result (K.faults out.old) (K.faults out.new) (K.written out.old) (K.written out.new) }
-    ensures not_usage { result ≢ Status.Usage }
-    ensures not_no { result ≢ Status.No }
-    ensures not_read_fault { result ≢ Status.ReadFault }
-{
-    let Ok(text) = made_text(alloc, n, seed) else {
-        return Status::NoMemory;
-    };
-    match write_all(out, &text) {
-        Ok(()) => Status::Done,
-        Err(_) => Status::WriteFault,
-    }
-}
-
-// Reads a document and writes a report of it.
-fn run<S: Source, K: Sink>(alloc: Global, src: &mut S, out: &mut K) -> Status
-    ensures read { IsEnd result → IfSome (S.left src.old) (λ text.
-        S.left src.new ≡ Some (drop (max_text + 1) text)) }
-    ensures written { result ≢ Status.ReadFault → HasWritten
-        (Tells (S.left src.old) (IsOutcome Mode.Run)) result
-        (K.faults out.old) (K.faults out.new) (K.written out.old) (K.written out.new) }
-    ensures read_fault { result ≡ Status.ReadFault
-        → (S.faults src.new ≡ count_up (S.faults src.old)) × (out.new ≡ out.old) }
-    ensures no_read_fault { result ≢ Status.ReadFault → S.faults src.new ≡ S.faults src.old }
-    ensures not_others { (result ≢ Status.Usage) × (result ≢ Status.No) }
-{
-    match read_all(alloc, src, MAX_TEXT) {
-        Ok(text) => answer_text(alloc, &text, out),
-        Err(ReadEnd::ReadFault) => Status::ReadFault,
-        Err(ReadEnd::TooLong) => refuse(alloc, "TooLong", 0, out),
-        Err(ReadEnd::NoMemory) => Status::NoMemory,
-    }
-}
-
-// Writes a report of the text, or its refusal.
-fn answer_text<K: Sink>(alloc: Global, text: &[u8], out: &mut K) -> Status
-    requires within { length text.now ≤ max_text }
-    ensures { HasWritten (IsOutcome Mode.Run text.now) result
-        (K.faults out.old) (K.faults out.new) (K.written out.old) (K.written out.new) }
-{
-    match judge(alloc, text) {
-        Ok(judged) => answer_script(alloc, &judged.script, out),
-        Err(TextEnd::Refused { fault, line }) => refuse(alloc, fault_word(fault), line, out),
-        Err(TextEnd::NoMemory) => Status::NoMemory,
-    }
-}
-
-// Writes a report of a script.
-fn answer_script<K: Sink>(alloc: Global, script: &Script, out: &mut K) -> Status
-    ensures { HasWritten
-        (λ status answer. (status ≡ Status.Done) × IsReport script.now answer) result
-        (K.faults out.old) (K.faults out.new) (K.written out.old) (K.written out.new) }
-{
-    match write_report(alloc, script.grid(), script.commands(), out) {
-        Ok(()) => Status::Done,
-        Err(ReportEnd::WriteFault) => Status::WriteFault,
-        Err(ReportEnd::NoMemory) => Status::NoMemory,
-    }
 }

@@ -11,6 +11,7 @@
 //! `hat exponent 1 rows 1` and `rank 0 0 1`, and the answer is `Done`.
 #![tactic(auto)]
 
+mod answers;
 mod certificates;
 mod checks;
 mod classes;
@@ -22,6 +23,7 @@ mod made;
 mod modes;
 mod refusals;
 mod reports;
+mod runs;
 mod statuses;
 mod words;
 
@@ -30,12 +32,3 @@ pub use jobs::gridhom;
 pub use modes::Mode;
 pub use statuses::Status;
 pub use words::Flag;
-
-#[cfg(test)]
-mod certificate_tests;
-#[cfg(test)]
-mod failing_tests;
-#[cfg(test)]
-mod tests;
-#[cfg(test)]
-mod verdict_tests;

@@ -1,13 +1,15 @@
 //! What `make` writes.
-ghost use Rattle.std.specs.Prelude.{◌≡◌, ◌++◌, ◌^◌, ◌<◌, IfOk, OnOk};
+ghost use Rattle.std.specs.Prelude.{◌≡◌, ◌≢◌, ◌++◌, ◌^◌, ◌<◌, IfOk, OnOk};
 ghost use Rattle.state_rank.specs.Bijection.{IsSize};
+ghost use Rattle.grid_job.specs.Inner.Written.{HasWritten};
 ghost use Rattle.grid_job.specs.Made.{HasClassVerdict, verdict_word as verdict_word_of, summary_line as summary_line_of, IsSummary, IsMade};
 
 use crate::classes::class_state;
 use crate::make_script;
+use crate::statuses::Status;
 use f2_chain::CodeSet;
 use front_data::{FrontNumbers, front};
-use grid_ports::NoMemory;
+use grid_ports::{NoMemory, Sink, write_all};
 use grid_text::{Sign, print};
 use homology_cert::rank_table;
 use itoa::{Buffer, Integer};
@@ -15,8 +17,29 @@ use legendrian_class::{ClassVerdict, verdict};
 use std::alloc::Global;
 use torus_geom::Grid;
 
-/// The plain form of the script of this size and seed, and a line that sums up its grid.
-pub(crate) fn made_text(alloc: Global, n: u8, seed: u32) -> Result<Vec<u8>, NoMemory>
+/// Writes the script of this size and seed, and the summary of its grid.
+pub(crate) fn make<K: Sink>(alloc: Global, n: u8, seed: u32, out: &mut K) -> Status
+    requires size { IsSize n }
+    requires seed { seed < 2 ^ 31 }
+    ensures written { HasWritten (λ status answer. (status ≡ Status.Done) × IsMade n seed answer)
+        result (K.faults out.old) (K.faults out.new) (K.written out.old) (K.written out.new) }
+    ensures not_usage { result ≢ Status.Usage }
+    ensures not_no { result ≢ Status.No }
+    ensures not_refused { result ≢ Status.Refused }
+    ensures not_read_fault { result ≢ Status.ReadFault }
+    ensures memory { result ≡ Status.NoMemory → out.new ≡ out.old }
+{
+    let Ok(text) = made_text(alloc, n, seed) else {
+        return Status::NoMemory;
+    };
+    match write_all(out, &text) {
+        Ok(()) => Status::Done,
+        Err(_) => Status::WriteFault,
+    }
+}
+
+// The plain form of the script of this size and seed, and a line that sums up its grid.
+fn made_text(alloc: Global, n: u8, seed: u32) -> Result<Vec<u8>, NoMemory>
     requires size { IsSize n }
     requires seed { seed < 2 ^ 31 }
     ensures { IfOk result (λ text. IsMade n seed text.items) }

@@ -10,9 +10,10 @@ use std::alloc::Global;
 
 /// Writes the line of a refusal.
 pub(crate) fn refuse<K: Sink>(alloc: Global, fault: &str, line: u32, out: &mut K) -> Status
-    ensures { HasWritten
+    ensures written { HasWritten
         (λ status answer. (status ≡ Status.Refused) × (answer ≡ refused_line_of fault.now line)) result
         (K.faults out.old) (K.faults out.new) (K.written out.old) (K.written out.new) }
+    ensures memory { result ≡ Status.NoMemory → out.new ≡ out.old }
 {
     let Ok(text) = refused_line(alloc, fault, line) else {
         return Status::NoMemory;

@@ -20,7 +20,7 @@ use Rattle.grid_job.specs.Certified.{IsCertificateText, IsCertified, IsTooLarge}
 use Rattle.homology_cert.specs.CertificateLimits.{max_certificate}
 use Rattle.grid_job.specs.Checked.{IsPassed, IsFailed, IsNoCertificate}
 use Rattle.grid_job.specs.InForce.{at_start}
-use Rattle.grid_job.specs.Outcome.{IsForm, IsTooLong, IsRefusal, IsReported, IsOutcome}
+use Rattle.grid_job.specs.Outcome.{IsForm, IsTooLong, IsFaulty, IsRefusal, IsReported, IsOutcome}
 use Rattle.grid_job.specs.declared.modes.Mode.{Mode}
 use Rattle.grid_job.specs.declared.modes.Mode.TheVariants.{Run, Cert, Check, Make}
 use Rattle.grid_job.specs.declared.statuses.Status.{Status}
@@ -74,6 +74,11 @@ make_done n k text s a x = absurd x
 -- a text is not both within a limit and too long
 not_long : (limit : ℕ) (text answer : List ℕ) → length text ≤ limit → IsTooLong limit text answer → ⊥
 not_long limit text answer within too_long = let long = too_long.long in omega (arith, within, long)
+
+-- a text within the limit is refused for its first fault
+pub fault_of_refusal : (text answer : List ℕ) → length text ≤ max_text → IsRefusal text answer → IsFaulty text answer
+fault_of_refusal text answer within (inl long) = absurd (not_long max_text text answer within long)
+fault_of_refusal text answer within (inr faulty) = faulty
 
 -- a document is not refused
 not_both : (text b : List ℕ) (s : GridScript) → length text ≤ max_text → IsDocument text s → IsRefusal text b → ⊥

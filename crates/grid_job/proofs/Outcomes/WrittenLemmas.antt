@@ -2,9 +2,9 @@
 use Rattle.std.proofs.Common.{◌≡◌, ◌≢◌, ◌⊎◌, ℕ, ◌+◌, ◌-◌, ◌^◌, ◌<◌, ◌≤◌, Bool, true, false, List, [], ◌++◌, length, drop, codes, Option, None, Some, IfSome, refl, sym, ap, subst, ◌∙◌, inl, inr, arith, append-nil}
 use Rattle.std.specs.Io.KnownBytes.{Consumes, IsAtEnd}
 use Rattle.std.proofs.lemmas.List.{drop_all}
-use Rattle.grid_ports.specs.Bytes.{Takes}
+use Rattle.grid_ports.specs.Bytes.{Takes, TakesAtMost}
 use Rattle.grid_ports.specs.Faults.{count_up}
-use Rattle.grid_ports.proofs.BytesLemmas.{Appends-none}
+use Rattle.grid_ports.proofs.BytesLemmas.{Appends-none, Takes-from_consumed}
 use Rattle.grid_text.specs.Document.{IsDocument}
 use Rattle.grid_text.specs.Faults.{IsFirstFault}
 use Rattle.grid_text.specs.FaultWords.{fault_word}
@@ -67,6 +67,12 @@ module _ (limit : ℕ) where
   read_to_the_end (Some text) (Some rest) bytes taken at_end within =
       let whole : text ≡ bytes = taken ∙ ap (λ r. bytes ++ r) at_end ∙ append-nil bytes in
       ap Some (at_end ∙ sym (ap (drop (limit + 1)) whole ∙ drop_all (limit + 1) bytes (omega (arith, within))))
+
+  -- so no more was taken than the limit and one byte
+  pub TakesAtMost-read : (left left' : Option (List ℕ)) (bytes : List ℕ) → Consumes left left' bytes
+      → length bytes ≤ limit → TakesAtMost (limit + 1) left left'
+  TakesAtMost-read left left' bytes taken within =
+      (length bytes, omega (arith, within), Takes-from_consumed left left' bytes (length bytes) taken refl)
 
   -- more was left than is judged
   pub IfSome-long : (left left' : Option (List ℕ)) (P : List ℕ → Type 0) → Takes (limit + 1) left left'
@@ -146,6 +152,12 @@ HasWritten-made n seed left result f g a b h =
         → Tells o (IsOutcome (Make n seed)) status answer
     each None status answer told = tt
     each (Some text) status answer told = subst (λ r. IsOutcome (Make n seed) text r answer) (sym told.0) told.1
+
+-- numbers that are the same make the same
+pub IsMade-same : (n seed size number : ℕ) (answer : List ℕ) → n ≡ size → seed ≡ number → IsMade n seed answer
+    → IsMade size number answer
+IsMade-same n seed size number answer same_size same_seed made =
+    subst (λ s. IsMade size s answer) same_seed (subst (λ m. IsMade m seed answer) same_size made)
 
 -- the text stays where it is
 pub left_alone : (n seed : ℕ) (left left' : Option (List ℕ)) → left' ≡ left

@@ -15,11 +15,11 @@ pub returns-in-Ok-clause-written : goal.returns-in-Ok-clause-written
 returns-in-Ok-clause-written g c _ =
     HasWritten-read (IsOutcome Cert) _ _ c.in-Ok.text.items c.deref.result.now _ _ _ _ _ c.in-Ok.ensures.bytes
     c.in-Ok.ensures.to_the_end
-    c.deref.ensures.value c.certify_text.ensures
+    c.deref.ensures.value c.certify_text.ensures.written
 
 pub returns-in-Ok-clause-not_others : goal.returns-in-Ok-clause-not_others
 returns-in-Ok-clause-not_others g c = not_others (IsOutcome Cert c.deref.result.now) _ _ _ _ _ (λ answer never. never)
-    c.certify_text.ensures
+    c.certify_text.ensures.written
 
 pub returns-in-Err-TooLong-clause-read : goal.returns-in-Err-TooLong-clause-read
 returns-in-Err-TooLong-clause-read g c _ =
@@ -28,7 +28,7 @@ returns-in-Err-TooLong-clause-read g c _ =
 pub returns-in-Err-TooLong-clause-written : goal.returns-in-Err-TooLong-clause-written
 returns-in-Err-TooLong-clause-written g c _ =
     HasWritten-long (IsOutcome Cert) max_text _ _ _ _ _ _ _ (λ text answer long. inl (inl long))
-    (c.in-Err-TooLong.ensures.too_long (ap Err c.in-Err-TooLong.field-0-is)) c.refuse.ensures
+    (c.in-Err-TooLong.ensures.too_long (ap Err c.in-Err-TooLong.field-0-is)) c.refuse.ensures.written
 
 pub returns-in-Err-NoMemory-clause-written : goal.returns-in-Err-NoMemory-clause-written
 returns-in-Err-NoMemory-clause-written g c _ = HasWritten-unread (IsOutcome Cert) _ _ _ some_certified

@@ -2,5 +2,5 @@
 use Rattle.grid_job.proofs.Certified.CertificateLemmas.{HasWritten-no_certificate}
 use Rattle.grid_job.proofs.certificates.write_certificate.Goals as goal
 
-pub returns-in_default : goal.returns-in_default
-returns-in_default g c = HasWritten-no_certificate c.args.g.now _ _ c.size.ensures.grid c.requires
+pub returns-in_default-clause-written : goal.returns-in_default-clause-written
+returns-in_default-clause-written g c = HasWritten-no_certificate c.args.g.now _ _ c.size.ensures.grid c.requires

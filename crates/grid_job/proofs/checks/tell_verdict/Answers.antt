@@ -3,5 +3,5 @@ use Rattle.homology_cert.specs.CertificateTests.{verdict_of}
 use Rattle.grid_job.proofs.Certified.CheckLemmas.{HasWritten-no_verdict}
 use Rattle.grid_job.proofs.checks.tell_verdict.Goals as goal
 
-pub returns-in-Err : goal.returns-in-Err
-returns-in-Err g c = HasWritten-no_verdict (verdict_of c.args.certificate.now) _ _
+pub returns-in-Err-clause-written : goal.returns-in-Err-clause-written
+returns-in-Err-clause-written g c = HasWritten-no_verdict (verdict_of c.args.certificate.now) _ _

@@ -4,7 +4,7 @@ use Rattle.grid_job.specs.Made.{IsMade}
 use Rattle.grid_job.specs.declared.statuses.Status.TheVariants.{Done}
 use Rattle.grid_job.proofs.Generated.MadeLemmas.{exists_made}
 use Rattle.grid_job.proofs.Outcomes.WrittenLemmas.{HasWritten-nothing}
-use Rattle.grid_job.proofs.jobs.make.Goals as goal
+use Rattle.grid_job.proofs.made.make.Goals as goal
 
 pub returns-in_default-clause-written : goal.returns-in_default-clause-written
 returns-in_default-clause-written g c =

@@ -2,9 +2,9 @@ use Rattle.std.proofs.Common.{map, string_bytes, Global, refl, subst}
 use Rattle.grid_job.specs.Outcome.{IsForm}
 use Rattle.grid_job.specs.declared.modes.Mode.TheVariants.{Run, Cert, Check, Make}
 use Rattle.grid_job.proofs.Outcomes.ModeLemmas.{told_apart}
-use Rattle.grid_job.proofs.Outcomes.OptionLemmas.{IsMake-size, IsMake-seed}
-use Rattle.grid_job.proofs.Outcomes.WrittenLemmas.{HasEnded-written, HasBegun-written, HasWritten-made, left_alone, ended_not_read_fault, begun_not_read_fault, status_of_reading, status_of_mode}
-use Rattle.grid_job.proofs.jobs.answer_words.Goals as goal
+use Rattle.grid_job.proofs.Outcomes.OptionLemmas.{IsMake-one, IsMake-size, IsMake-seed}
+use Rattle.grid_job.proofs.Outcomes.WrittenLemmas.{HasEnded-written, HasBegun-written, HasWritten-made, IsMade-same, left_alone, ended_not_read_fault, begun_not_read_fault, status_of_reading, status_of_mode}
+use Rattle.grid_job.proofs.answers.answer_words.Goals as goal
 
 -- ---- a run
 pub returns-in-Some-Run-clause-ended : goal.returns-in-Some-Run-clause-ended
@@ -146,3 +146,21 @@ returns-in-Some-Make-clause-answer g c mode form source_kept sink_kept =
 
 pub returns-in-Some-Make-clause-no : goal.returns-in-Some-Make-clause-no
 returns-in-Some-Make-clause-no g c is_no = absurd (c.make.ensures.not_no is_no)
+
+-- what is said of `make` without the text of a source
+pub returns-in-Some-Make-clause-make_ended : goal.returns-in-Some-Make-clause-make_ended
+returns-in-Some-Make-clause-make_ended g c size seed make is_end =
+    let ws = map (string_bytes {Z = Global}) c.args.words.now in
+    let same = IsMake-one ws _ _ _ _ (subst (IsForm ws) c.in-Some-Make.field-0-is c.in-Some-Make.ensures.some) make in
+    let whole = c.make.ensures.written.whole is_end in
+    (whole.1.0, (whole.0, IsMade-same _ _ _ _ _ same.0 same.1 whole.1.1, whole.2))
+
+pub returns-in-Some-Make-clause-make_begun : goal.returns-in-Some-Make-clause-make_begun
+returns-in-Some-Make-clause-make_begun g c size seed make _ =
+    let ws = map (string_bytes {Z = Global}) c.args.words.now in
+    let same = IsMake-one ws _ _ _ _ (subst (IsForm ws) c.in-Some-Make.field-0-is c.in-Some-Make.ensures.some) make in
+    let part = c.make.ensures.written.part in
+    (part.1, IsMade-same _ _ _ _ _ same.0 same.1 part.2.1, part.3)
+
+pub returns-in-None-clause-make_answer : goal.returns-in-None-clause-make_answer
+returns-in-None-clause-make_answer g c size seed make _ = absurd (c.in-None.ensures.none (Make size seed) make)
