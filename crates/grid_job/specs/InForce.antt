@@ -1,10 +1,10 @@
 -- What is in force where a command stands: a grid, and a chain of states of its size, which is followed. The answer
 -- to a command depends on these two alone.
---     InForce            a grid and a chain
---     at_start g         before the first command: the grid of the document, and the empty chain
---     chain_after p c    the chain after the command c, where p was in force before it
---     after p c          the grid and the chain after it
---     after_all p cs     after these commands, in order
+--     InForce                a grid and a chain
+--     at_start g             before the first command: the grid of the document, and the empty chain
+--     chain_after p c        the chain after the command c, where p was in force before it
+--     after_command p c      the grid and the chain after it
+--     after_commands p cs    after these commands, in order
 use Rattle.std.specs.Prelude.{List, [], ◌∷◌, map}
 use Rattle.f2_algebra.specs.Chain.{Chain, of_codes}
 use Rattle.state_rank.specs.States.{rank}
@@ -21,9 +21,9 @@ chain_after p (command.Turn side) = (after_turn side p).chain
 chain_after p (command.Commute axis c corner) = (after_commutation axis c corner p).chain
 chain_after p other = p.chain
 
-abbrev pub after : InForce → Command → InForce
-after p c = record { grid = grid_after p.grid c; chain = chain_after p c }
+abbrev pub after_command : InForce → Command → InForce
+after_command p c = record { grid = grid_after p.grid c; chain = chain_after p c }
 
-abbrev pub after_all : InForce → List Command → InForce
-after_all p [] = p
-after_all p (c ∷ cs) = after_all (after p c) cs
+abbrev pub after_commands : InForce → List Command → InForce
+after_commands p [] = p
+after_commands p (c ∷ cs) = after_commands (after_command p c) cs

@@ -16,7 +16,7 @@ use Rattle.torus_geom.specs.Marks.{Marks, size}
 use Rattle.grid_text.specs.Script.{GridScript}
 use Rattle.grid_text.specs.declared.commands.Command.{Command}
 use Rattle.grid_text.specs.declared.commands.Command.TheVariants as command
-use Rattle.grid_job.specs.InForce.{InForce, at_start, after}
+use Rattle.grid_job.specs.InForce.{InForce, at_start, after_command}
 use Rattle.grid_job.specs.Hat.{IsHatText}
 use Rattle.grid_job.specs.VerdictTexts.{IsClassText, IsBoundsText}
 
@@ -47,7 +47,7 @@ IsAnswer p (command.Commute axis c corner) text = text ≡ []
 abbrev pub AreAnswers : InForce → List Command → List ℕ → Type 0
 AreAnswers p [] text = text ≡ []
 AreAnswers p (c ∷ cs) text =
-    (first later : List ℕ) × IsAnswer p c first × AreAnswers (after p c) cs later × (text ≡ first ++ later)
+    (first later : List ℕ) × IsAnswer p c first × AreAnswers (after_command p c) cs later × (text ≡ first ++ later)
 
 abbrev pub IsReport : GridScript → List ℕ → Type 0
 IsReport s text = AreAnswers (at_start s.grid) s.commands text

@@ -30,11 +30,11 @@ pub(crate) fn class_lines(alloc: Global, g: &Grid, sign: Sign) -> Result<Vec<u8>
     match verdict(alloc, g, &z)? {
         ClassVerdict::NotCycle { state: _ } => unreachable!(),
         ClassVerdict::Null { bound } => {
-            let text = verdict_line(alloc, g, sign, false)?;
+            let text = verdict_line(alloc, g, sign, &x, false)?;
             with_set(alloc, text, "bound", n, &bound)
         }
         ClassVerdict::Alive { cocycle } => {
-            let text = verdict_line(alloc, g, sign, true)?;
+            let text = verdict_line(alloc, g, sign, &x, true)?;
             with_set(alloc, text, "cocycle", n, &cocycle)
         }
     }
@@ -72,13 +72,19 @@ pub(crate) fn class_state(g: &Grid, sign: Sign) -> State
     }
 }
 
-// The line of a class that is alive, or null.
-fn verdict_line(alloc: Global, g: &Grid, sign: Sign, alive: bool) -> Result<Vec<u8>, NoMemory>
+// The line of a class, whose state is `x`, that is alive, or null.
+fn verdict_line(
+    alloc: Global,
+    g: &Grid,
+    sign: Sign,
+    x: &State,
+    alive: bool,
+) -> Result<Vec<u8>, NoMemory>
+    requires state { x.now ≡ class_state_of g.now sign }
     ensures { IfOk result (λ text. text.items ≡ verdict_line_of g.now sign alive) }
 {
     let _ = g.size();
-    let x = class_state(g, sign);
-    class_line(alloc, sign, &x, degree(g, &x), alive)
+    class_line(alloc, sign, x, degree(g, x), alive)
 }
 
 // The text, and below it the line of a set of states.

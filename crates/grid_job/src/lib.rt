@@ -25,6 +25,7 @@ mod refusals;
 mod reports;
 mod runs;
 mod statuses;
+mod tables;
 mod words;
 
 pub use generator::make_script;

@@ -1,5 +1,5 @@
 //! The writer of reports, one command at a time.
-ghost use Rattle.std.specs.Prelude.{◌≡◌, ◌↔◌, ℕ, List, length, IfOk, OnOk, IsErrOf, IsTrue, All, codes};
+ghost use Rattle.std.specs.Prelude.{◌≡◌, ◌↔◌, ℕ, List, length, IfOk, OnOk, IsErrOf, IfSome, IsTrue, All, codes};
 ghost use Rattle.std.specs.Io.KnownBytes.{Appends};
 ghost use Rattle.grid_ports.specs.Bytes.{AppendsPrefix};
 ghost use Rattle.grid_ports.specs.Faults.{count_up};
@@ -9,15 +9,18 @@ ghost use Rattle.torus_geom.specs.Marks.{size};
 ghost use Rattle.grid_text.specs.Commands.{IsAllowed};
 ghost use Rattle.grid_text.specs.Script.{AreAllowed};
 ghost use Rattle.grid_job.specs.InForce.{at_start};
+ghost use Rattle.grid_job.specs.Hat.{IsHatText};
+ghost use Rattle.grid_job.specs.Inner.Tables.{IsTableOf};
 ghost use Rattle.grid_job.specs.Report.{IsAnswer, AreAnswers, IsTableText};
 
 use crate::classes::{bounds_lines, class_lines};
 use crate::hats::hat_text;
 use crate::in_force::follow;
+use crate::tables::{forget_if_moved, make_table};
 use front_data::front;
 use grid_ports::{NoMemory, Sink, WriteFault, write_all};
 use grid_text::Command;
-use homology_cert::rank_table;
+use hat_division::Table;
 use legendrian_class::Follower;
 use rectangles::border_of_state;
 use report_text::{front_line, set_line, table_lines};
@@ -73,24 +76,33 @@ pub fn write_report<K: Sink>(
 {
     let _ = g.size();
     let mut in_force = Follower::new(alloc, g);
+    let mut table = None;
     for command in commands {
-        let text = answer_to(alloc, &in_force, command)?;
+        let text = answer_to(alloc, &in_force, &mut table, command)?;
         write_all(out, &text)?;
         follow(alloc, &mut in_force, command)?;
+        forget_if_moved(&mut table, command);
     }
     Ok(())
 }
 
-// An answer to a command.
-fn answer_to(alloc: Global, p: &Follower, command: &Command) -> Result<Vec<u8>, NoMemory>
-    requires { IsAllowed p.now.grid command.now }
-    ensures { IfOk result (λ text. IsAnswer p.now command.now text.items) }
+// An answer to a command. A table that is made for it is kept in `table`.
+fn answer_to(
+    alloc: Global,
+    p: &Follower,
+    table: &mut Option<Table>,
+    command: &Command,
+) -> Result<Vec<u8>, NoMemory>
+    requires allowed { IsAllowed p.now.grid command.now }
+    requires table { IfSome table.old (IsTableOf p.now.grid) }
+    ensures answer { IfOk result (λ text. IsAnswer p.now command.now text.items) }
+    ensures table { IfSome table.new (IsTableOf p.now.grid) }
 {
     let g = p.grid();
     match command {
         Command::Front => front_line(alloc, &front(g)),
-        Command::Ranks => ranks_lines(alloc, g),
-        Command::Hat => hat_text(alloc, g),
+        Command::Ranks => ranks_lines(alloc, g, table),
+        Command::Hat => hat_of(alloc, g, table),
         Command::Border(state) => border_line(alloc, g, state),
         Command::Class(sign) => class_lines(alloc, g, *sign),
         Command::Show => set_line(alloc, "chain", g.size(), p.chain()),
@@ -100,11 +112,29 @@ fn answer_to(alloc: Global, p: &Follower, command: &Command) -> Result<Vec<u8>, 
 }
 
 // The lines of the table of ranks.
-fn ranks_lines(alloc: Global, g: &Grid) -> Result<Vec<u8>, NoMemory>
-    ensures { IfOk result (λ text. IsTableText g.now text.items) }
+fn ranks_lines(alloc: Global, g: &Grid, table: &mut Option<Table>) -> Result<Vec<u8>, NoMemory>
+    requires { IfSome table.old (IsTableOf g.now) }
+    ensures lines { IfOk result (λ text. IsTableText g.now text.items) }
+    ensures table { IfSome table.new (IsTableOf g.now) }
 {
-    let table = rank_table(alloc, g)?;
-    table_lines(alloc, &table)
+    make_table(alloc, g, table)?;
+    match table {
+        Some(known) => table_lines(alloc, known),
+        None => unreachable!(),
+    }
+}
+
+// The lines of the hat.
+fn hat_of(alloc: Global, g: &Grid, table: &mut Option<Table>) -> Result<Vec<u8>, NoMemory>
+    requires { IfSome table.old (IsTableOf g.now) }
+    ensures lines { IfOk result (λ text. IsHatText g.now text.items) }
+    ensures table { IfSome table.new (IsTableOf g.now) }
+{
+    make_table(alloc, g, table)?;
+    match table {
+        Some(known) => hat_text(alloc, g, known),
+        None => unreachable!(),
+    }
 }
 
 // The line of the states of the border of a state.

@@ -29,6 +29,11 @@ use Rattle.legendrian_class.specs.Verdicts.{alexander_at}
 use Rattle.legendrian_class.specs.Inner.Parts.{has_alexander, IsNullBut}
 use Rattle.legendrian_class.proofs.ChainLemmas.{each_code, fewer-where}
 
+-- a part that is told of a grid that is the same
+pub part_of_grid : (g h : Marks) (part : Chain) (a : ℤ) (z : Chain) → h ≡ g → part ≡ where_code (has_alexander h a) z
+    → part ≡ where_code (has_alexander g a) z
+part_of_grid g h part a z same told = told ∙ ap (λ k. where_code (has_alexander k a) z) same
+
 -- ---- the verdict of a cycle by a log
 module _ (C : Complex ℤ) (old new : Slice) (log : List Entry) (z : Chain) (built : slice_complex old ≡ C)
     (reduced : IsReduced old new log) (rules : IsComplex C) (cycle : border C z ≡ nothing) where

@@ -1,5 +1,5 @@
 //! The part of a chain at one Alexander degree.
-ghost use Rattle.std.specs.Prelude.{◌≡◌, ◌<◌, IfOk, IfSome, IsNone};
+ghost use Rattle.std.specs.Prelude.{◌≡◌, ◌<◌, IfOk, IfSome, IsNone, true};
 ghost use Rattle.f2_algebra.specs.Chain.{nothing, where_code};
 ghost use Rattle.f2_algebra.specs.Complex.{AllCells, border as border_in};
 ghost use Rattle.f2_algebra.specs.Bigraded.{at_alexander};
@@ -35,29 +35,41 @@ pub(crate) fn first_code(z: &Chain) -> Option<u32>
     z.codes().first().copied()
 }
 
-// The part of `z` at the Alexander degree `a`.
-pub(crate) fn part_at(alloc: Global, g: &Grid, a: i32, z: &Chain) -> Result<Chain, NoMemory>
-    requires states { HasStates g.now z.now }
-    ensures { IfOk result (λ part. part ≡ where_code (has_alexander g.now a) z.now) }
+// The part of `z` at the Alexander degree `a`, which the state of rank `first` has.
+pub(crate) fn part_at(
+    alloc: Global,
+    tables: &DegreeTables,
+    n: u8,
+    a: i32,
+    first: u32,
+    z: &Chain,
+) -> Result<Chain, NoMemory>
+    requires size { n ≡ size tables.now }
+    requires is_size { IsSize n }
+    requires states { HasStates tables.now z.now }
+    requires first { has_alexander tables.now a first ≡ true }
+    ensures { IfOk result (λ part. part ≡ where_code (has_alexander tables.now a) z.now) }
 {
-    let n = g.size();
-    let tables = DegreeTables::of(g);
     let mut part = Builder::new(alloc);
     for code in z.codes() {
-        if is_at(&tables, n, a, *code) {
+        if is_at(tables, n, a, first, *code) {
             part.toggle(*code)?;
         }
     }
     part.finish()
 }
 
-// Whether the state of rank `code` has the Alexander degree `a`.
-fn is_at(tables: &DegreeTables, n: u8, a: i32, code: u32) -> bool
+// Whether the state of rank `code` has the Alexander degree `a`, which that of rank `first` has.
+fn is_at(tables: &DegreeTables, n: u8, a: i32, first: u32, code: u32) -> bool
     requires size { n ≡ size tables.now }
     requires is_size { IsSize n }
+    requires first { has_alexander tables.now a first ≡ true }
     requires state { code < factorial n }
     ensures { result ≡ has_alexander tables.now a code }
 {
+    if code == first {
+        return true;
+    }
     tables.alexander(&State::unrank(n, code)) == a
 }
 

@@ -6,7 +6,7 @@ ghost use Rattle.legendrian_class.specs.Verdicts.{HasStates, IsVerdict, HasVerdi
 
 use crate::parts::{PartVerdict, first_code, part_at, part_verdict};
 use f2_chain::{Chain, Cochain, CodeSet};
-use gradings::alexander;
+use gradings::DegreeTables;
 use grid_ports::NoMemory;
 use rectangles::border;
 use state_rank::State;
@@ -66,11 +66,12 @@ fn cycle_verdict(alloc: Global, g: &Grid, z: &Chain) -> Result<ClassVerdict, NoM
     ensures { IfOk result (IsVerdict g.now z.now) }
 {
     let n = g.size();
+    let tables = DegreeTables::of(g);
     let mut bound = CodeSet::empty(alloc);
     let mut left = z.add(&bound)?;
     while let Some(code) = first_code(&left) {
-        let a = alexander(g, &State::unrank(n, code));
-        let part = part_at(alloc, g, a, z)?;
+        let a = tables.alexander(&State::unrank(n, code));
+        let part = part_at(alloc, &tables, n, a, code, z)?;
         match part_verdict(alloc, g, a, &part)? {
             PartVerdict::Alive { cocycle } => return Ok(ClassVerdict::Alive { cocycle }),
             PartVerdict::Null { bound: more } => bound = bound.add(&more)?,

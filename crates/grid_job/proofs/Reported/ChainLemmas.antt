@@ -20,7 +20,7 @@ use Rattle.grid_text.specs.declared.commands.Command.TheVariants as command
 use Rattle.legendrian_class.specs.States.{HasStates}
 use Rattle.legendrian_class.proofs.BoundsLemmas.{HasStates-exchanged}
 use Rattle.legendrian_class.proofs.FollowedLemmas.{HasStates-after_turn}
-use Rattle.grid_job.specs.InForce.{InForce, after}
+use Rattle.grid_job.specs.InForce.{InForce, after_command}
 
 -- ---- codes that rise
 not_above : (c x : ℕ) → x < c → eqb c x ≡ false
@@ -107,11 +107,11 @@ HasStates-nothing g =
     All-codes (λ c. c < factorial (size g)) nothing (λ q held. absurd (true≢false (sym held ∙ holds-nothing q)))
 
 -- what is in force stays a grid with a chain of its states
-pub HasStates-after : (p : InForce) (c : Command) → IsGrid p.grid → HasStates p.grid p.chain → IsAllowed p.grid c
-    → HasStates (after p c).grid (after p c).chain
-HasStates-after p (command.Chain xs) grid states allowed = ranks-below p.grid xs allowed.0
-HasStates-after p (command.Turn side) grid states allowed =
+pub HasStates-after_command : (p : InForce) (c : Command) → IsGrid p.grid → HasStates p.grid p.chain → IsAllowed p.grid c
+    → HasStates (after_command p c).grid (after_command p c).chain
+HasStates-after_command p (command.Chain xs) grid states allowed = ranks-below p.grid xs allowed.0
+HasStates-after_command p (command.Turn side) grid states allowed =
     HasStates-after_turn side p.grid _ (size p.grid) p.chain _ states refl refl refl
-HasStates-after p (command.Commute axis c corner) grid states allowed =
+HasStates-after_command p (command.Commute axis c corner) grid states allowed =
     HasStates-exchanged axis p.grid _ c corner p.chain _ grid refl refl
-HasStates-after p other grid states allowed = states
+HasStates-after_command p other grid states allowed = states

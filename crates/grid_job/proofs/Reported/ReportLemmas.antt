@@ -14,10 +14,10 @@ use Rattle.grid_text.specs.declared.commands.Command.TheVariants as command
 use Rattle.grid_text.proofs.Lines.ScriptLemmas.{IsGridOf-grid_after}
 use Rattle.grid_ports.specs.Bytes.{AppendsPrefix}
 use Rattle.grid_ports.proofs.BytesLemmas.{Appends-none, Appends-append}
-use Rattle.grid_job.specs.InForce.{InForce, after, after_all}
+use Rattle.grid_job.specs.InForce.{InForce, after_command, after_commands}
 use Rattle.grid_job.specs.Report.{IsAnswer, AreAnswers}
 use Rattle.legendrian_class.specs.States.{HasStates}
-use Rattle.grid_job.proofs.Reported.ChainLemmas.{HasStates-after}
+use Rattle.grid_job.proofs.Reported.ChainLemmas.{HasStates-after_command}
 use Rattle.grid_job.proofs.Reported.ClassLemmas.{exists_class_text, exists_bounds_text}
 use Rattle.grid_job.proofs.Reported.HatLemmas.{exists_table, exists_hat_text}
 
@@ -43,8 +43,8 @@ pub exists_answers : (p : InForce) (cs : List Command) → IsGrid p.grid → Has
 exists_answers p [] grid states allowed = ([], refl)
 exists_answers p (c ∷ cs) grid states allowed =
     let first = exists_answer p c grid states in
-    let later = exists_answers (after p c) cs (grid-after p.grid c grid allowed.0)
-    (HasStates-after p c grid states allowed.0) allowed.1 in
+    let later = exists_answers (after_command p c) cs (grid-after p.grid c grid allowed.0)
+    (HasStates-after_command p c grid states allowed.0) allowed.1 in
     (first.0 ++ later.0, (first.0, later.0, first.1, later.1, refl))
 
 -- ---- answers in order
@@ -57,22 +57,22 @@ IsAnswer-same p q c d a b same_pair same_command same_text answer =
 
 -- answers to some commands and then to others
 AreAnswers-append : (p : InForce) (cs ds : List Command) (a b : List ℕ) → AreAnswers p cs a
-    → AreAnswers (after_all p cs) ds b → AreAnswers p (cs ++ ds) (a ++ b)
+    → AreAnswers (after_commands p cs) ds b → AreAnswers p (cs ++ ds) (a ++ b)
 AreAnswers-append p [] ds a b first second = subst (λ t. AreAnswers p ds (t ++ b)) (sym first) second
 AreAnswers-append p (c ∷ cs) ds a b first second = (
   first.0,
   first.1 ++ b,
   first.2,
-  AreAnswers-append (after p c) cs ds first.1 b first.3 second,
+  AreAnswers-append (after_command p c) cs ds first.1 b first.3 second,
   ap (λ t. t ++ b) first.4 ∙ append_assoc first.0 first.1 b,
 )
 
 AreAnswers-single : (p : InForce) (c : Command) (a : List ℕ) → IsAnswer p c a → AreAnswers p (c ∷ []) a
 AreAnswers-single p c a answer = (a, [], answer, refl, sym (append-nil a))
 
-after_all-append : (p : InForce) (cs ds : List Command) → after_all p (cs ++ ds) ≡ after_all (after_all p cs) ds
-after_all-append p [] ds = refl
-after_all-append p (c ∷ cs) ds = after_all-append (after p c) cs ds
+after_commands-append : (p : InForce) (cs ds : List Command) → after_commands p (cs ++ ds) ≡ after_commands (after_commands p cs) ds
+after_commands-append p [] ds = refl
+after_commands-append p (c ∷ cs) ds = after_commands-append (after_command p c) cs ds
 
 -- what is in force after the first k commands is a grid with a chain of its states, and what stands there is allowed
 record StandsAt (p : InForce) (cs : List Command) : Type 0 where
@@ -81,14 +81,14 @@ record StandsAt (p : InForce) (cs : List Command) : Type 0 where
   pub allowed : AreAllowed p.grid cs
 
 StandsAt-drop : (k : ℕ) (p : InForce) (cs : List Command) → StandsAt p cs
-    → StandsAt (after_all p (take k cs)) (drop k cs)
+    → StandsAt (after_commands p (take k cs)) (drop k cs)
 StandsAt-drop zero p cs h = h
 StandsAt-drop (suc k) p [] h = h
 StandsAt-drop (suc k) p (c ∷ cs) h =
-    StandsAt-drop k (after p c) cs
+    StandsAt-drop k (after_command p c) cs
     (record {
       grid = grid-after p.grid c h.grid h.allowed.0;
-      states = HasStates-after p c h.grid h.states h.allowed.0;
+      states = HasStates-after_command p c h.grid h.states h.allowed.0;
       allowed = h.allowed.1;
     })
 
@@ -96,7 +96,7 @@ StandsAt-drop (suc k) p (c ∷ cs) h =
 -- answers to the first k commands were written, and this is in force after them
 pub record IsPast (p : InForce) (cs : List Command) (k : ℕ) (now : InForce)
     (before written : Option (List ℕ)) : Type 0 where
-  pub in_force : now ≡ after_all p (take k cs)
+  pub in_force : now ≡ after_commands p (take k cs)
   pub whole : List ℕ
   pub answers : AreAnswers p (take k cs) whole
   pub appended : Appends before written whole
@@ -111,20 +111,20 @@ module _ (p : InForce) (cs : List Command) (k : ℕ) where
       → IsPast p cs k now a b → IsAllowed now.grid (get_or cs k d)
   IsAllowed-next now d a b grid states allowed within past =
       let here = StandsAt-drop k p cs (record { grid = grid; states = states; allowed = allowed }) in
-      let first = subst (AreAllowed (after_all p (take k cs)).grid) (drop-cons cs k d within) here.allowed in
+      let first = subst (AreAllowed (after_commands p (take k cs)).grid) (drop-cons cs k d within) here.allowed in
       subst (λ q. IsAllowed q.grid (get_or cs k d)) (sym past.in_force) first.0
 
   -- an answer to the next command was written too
   pub IsPast-next : (now next : InForce) (d : Command) (text : List ℕ) (a b c : Option (List ℕ)) → k < length cs
       → IsAnswer now (get_or cs k d) text
-      → next ≡ after now (get_or cs k d) → IsPast p cs k now a b → Appends b c text → IsPast p cs (k + 1) next a c
+      → next ≡ after_command now (get_or cs k d) → IsPast p cs k now a b → Appends b c text → IsPast p cs (k + 1) next a c
   IsPast-next now next d text a b c within answer followed past more = record {
-    in_force = followed ∙ ap (λ q. after q (get_or cs k d)) past.in_force
-        ∙ sym (after_all-append p (take k cs) (get_or cs k d ∷ [])) ∙ ap (after_all p) (sym (take_more cs k d within));
+    in_force = followed ∙ ap (λ q. after_command q (get_or cs k d)) past.in_force
+        ∙ sym (after_commands-append p (take k cs) (get_or cs k d ∷ [])) ∙ ap (after_commands p) (sym (take_more cs k d within));
     whole = past.whole ++ text;
     answers = subst (λ ds. AreAnswers p ds (past.whole ++ text)) (sym (take_more cs k d within))
         (AreAnswers-append p (take k cs) (get_or cs k d ∷ []) past.whole text past.answers
-        (AreAnswers-single (after_all p (take k cs)) (get_or cs k d) text
+        (AreAnswers-single (after_commands p (take k cs)) (get_or cs k d) text
         (subst (λ q. IsAnswer q (get_or cs k d) text) past.in_force answer)));
     appended = Appends-append a b c past.whole text past.appended more;
   }
@@ -141,7 +141,7 @@ module _ (p : InForce) (cs : List Command) (k : ℕ) where
       → (text : List ℕ) × AreAnswers p cs text × AppendsPrefix a b text
   IsPast-prefix now a b grid states allowed past =
       let here = StandsAt-drop k p cs (record { grid = grid; states = states; allowed = allowed }) in
-      let rest = exists_answers (after_all p (take k cs)) (drop k cs) here.grid here.states here.allowed in
+      let rest = exists_answers (after_commands p (take k cs)) (drop k cs) here.grid here.states here.allowed in
       let all = AreAnswers-append p (take k cs) (drop k cs) past.whole rest.0 past.answers rest.1 in (
         past.whole ++ rest.0,
         subst (λ ds. AreAnswers p ds (past.whole ++ rest.0)) (take-append-drop k cs) all,
@@ -155,8 +155,8 @@ module _ (p : InForce) (cs : List Command) (k : ℕ) where
       → (report : List ℕ) × AreAnswers p cs report × AppendsPrefix a c report
   IsPast-prefix_of_next now d text a b c grid states allowed within answer past part =
       let here = StandsAt-drop (k + 1) p cs (record { grid = grid; states = states; allowed = allowed }) in
-      let at_next = after_all p (take k cs) in
-      let rest = exists_answers (after_all p (take (k + 1) cs)) (drop (k + 1) cs) here.grid here.states here.allowed in
+      let at_next = after_commands p (take k cs) in
+      let rest = exists_answers (after_commands p (take (k + 1) cs)) (drop (k + 1) cs) here.grid here.states here.allowed in
       let up_to = AreAnswers-append p (take k cs) (get_or cs k d ∷ []) past.whole text past.answers
       (AreAnswers-single at_next (get_or cs k d) text
       (subst (λ q. IsAnswer q (get_or cs k d) text) past.in_force answer)) in

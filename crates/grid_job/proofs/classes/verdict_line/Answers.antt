@@ -5,5 +5,5 @@ use Rattle.grid_job.proofs.classes.verdict_line.Goals as goal
 
 pub degree-requires : goal.degree-requires
 degree-requires c = record {
-  one_size = ap length c.class_state-x.ensures ∙ (class_state-state c.args.g.now c.size.ensures.grid c.args.sign).long;
+  one_size = ap length c.requires.state ∙ (class_state-state c.args.g.now c.size.ensures.grid c.args.sign).long;
 }

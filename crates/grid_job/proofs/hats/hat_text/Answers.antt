@@ -14,8 +14,8 @@ pub returns : goal.returns
 returns c =
     IfOk-weaker c.hat_lines.result _ (λ text. IsHatText c.args.g.now text.items) (λ lines same.
     IsHatText-quotient c.args.g.now
-    (c.size.result - c.components.result) c.in_ok-table.table c.in_ok-hat.hat lines.items
+    (c.size.result - c.components.result) c.args.table.now c.in_ok-hat.hat lines.items
     (λ i. c.size.ensures.size i - c.components.ensures.number i)
-    c.in_ok-table.ensures.table c.in_ok-hat.ensures.quotient
+    c.requires.table c.in_ok-hat.ensures.quotient
     (same ∙ ap (hat_lines (c.size.result - c.components.result)) c.as_ref.ensures.value))
     c.hat_lines.ensures

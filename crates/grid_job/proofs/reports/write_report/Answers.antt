@@ -1,12 +1,12 @@
 use Rattle.std.proofs.Common.{refl, sym, ap, subst, ◌∙◌}
 use Rattle.grid_text.specs.Commands.{IsAllowed}
-use Rattle.grid_job.specs.InForce.{at_start, after}
+use Rattle.grid_job.specs.InForce.{at_start, after_command}
 use Rattle.grid_job.proofs.Reported.ChainLemmas.{HasStates-nothing}
 use Rattle.grid_job.proofs.Reported.ReportLemmas.{IsAnswer-same, IsAllowed-next, IsPast-next, IsPast-prefix, IsPast-prefix_of_next}
 use Rattle.grid_job.proofs.reports.write_report.Goals as goal
 
-pub answer_to-requires : goal.answer_to-requires
-answer_to-requires g c =
+pub answer_to-requires-clause-allowed : goal.answer_to-requires-clause-allowed
+answer_to-requires-clause-allowed g c =
     let command = c.command-item in
     subst (IsAllowed c.loop-command.in_force.grid) (sym command.is)
     (IsAllowed-next
@@ -26,7 +26,7 @@ returns-in_err-write_all-clause-part g c =
     let now = c.loop-command.in_force in
     let answer =
     IsAnswer-same now now command.result _ c.in_ok-text.text.items c.deref.result.now refl command.is
-    (sym c.deref.ensures.value) c.in_ok-text.ensures in
+    (sym c.deref.ensures.value) c.in_ok-text.ensures.answer in
     IsPast-prefix_of_next
     (at_start c.args.g.now) c.args.commands.now c.loop-command.command-index now command.result c.deref.result.now _ _
     _
@@ -40,14 +40,15 @@ loop-command-preserved g c =
     let now = c.loop-command.in_force in
     let answer =
     IsAnswer-same now now command.result _ c.in_ok-text.text.items c.deref.result.now refl command.is
-    (sym c.deref.ensures.value) c.in_ok-text.ensures in (
+    (sym c.deref.ensures.value) c.in_ok-text.ensures.answer in (
       IsPast-next
           (at_start c.args.g.now) c.args.commands.now c.loop-command.command-index now c.follow.new.p command.result
           c.deref.result.now _ _ _
           c.loop-command-test.true answer
-          (c.in_ok-follow.ensures.after ∙ ap (after now) command.is) c.loop-command.invariant.0
+          (c.in_ok-follow.ensures.after ∙ ap (after_command now) command.is) c.loop-command.invariant.0
           (c.in_ok-write_all.ensures.all),
       c.in_ok-write_all.ensures.no_fault ∙ c.loop-command.invariant.1,
+      rw c.in_ok-follow.ensures.after (c.forget_if_moved.ensures now.grid c.in_ok-text.ensures.table),
     )
 
 pub returns-clause-part : goal.returns-clause-part
@@ -61,7 +62,7 @@ returns-in_err-follow-clause-part g c =
     let now = c.loop-command.in_force in
     let answer =
     IsAnswer-same now now command.result _ c.in_ok-text.text.items c.deref.result.now refl command.is
-    (sym c.deref.ensures.value) c.in_ok-text.ensures in
+    (sym c.deref.ensures.value) c.in_ok-text.ensures.answer in
     IsPast-prefix_of_next
     (at_start c.args.g.now) c.args.commands.now c.loop-command.command-index now command.result c.deref.result.now _ _
     _

@@ -6,5 +6,5 @@ use Rattle.legendrian_class.proofs.ChainLemmas.{selected}
 use Rattle.legendrian_class.proofs.parts.part_at.Given as goal
 
 abbrev pub invariant-loop-code : goal.invariant-loop-code
-invariant-loop-code l = selected (has_alexander l.g l.a) l.part (drop l.code-index l.code-items)
-    ≡ selected (has_alexander l.g l.a) nothing l.code-items
+invariant-loop-code l = selected (has_alexander l.tables l.a) l.part (drop l.code-index l.code-items)
+    ≡ selected (has_alexander l.tables l.a) nothing l.code-items
