@@ -1,9 +1,7 @@
 -- The exchange of two columns, or rows, twice gives the grid back.
-use Rattle.std.proofs.Common.{List, ap, arith, slice_index, swap, ℕ, ◌<◌, ◌∙◌, ◌≡◌}
+use Rattle.std.proofs.Common.{ap, arith, swap, ℕ, ◌<◌, ◌∙◌, ◌≡◌}
 use Rattle.std.proofs.lemmas.List.Edits.{length-swap}
-use Rattle.state_rank.proofs.BijectionLemmas.{same_list}
-use Rattle.state_rank.proofs.SwapLemmas.{exchanged, exchanged_back, slice_index-swap, IsBijection-swap}
-use Rattle.state_rank.specs.Bijection.{IsBijection}
+use Rattle.state_rank.proofs.SwapLemmas.{swap-swap}
 use Rattle.torus_geom.proofs.TransposeLemmas.{IsGrid-transposed}
 use Rattle.torus_geom.proofs.Circles.TurnLemmas.{one_down_below}
 use Rattle.torus_geom.specs.Range.{one_down}
@@ -14,18 +12,6 @@ use Rattle.grid_moves.proofs.Exchanged.TransposedGrids.{size-transposed, transpo
 use Rattle.grid_moves.specs.Moves.{swapped, swapped_columns}
 use Rattle.grid_moves.specs.declared.commutations.Axis.{Axis}
 use Rattle.grid_moves.specs.declared.commutations.Axis.TheVariants.{Cols, Rows}
-
--- of a list
-swap-swap : (n : ℕ) (rows : List ℕ) → IsBijection n rows → (a b : ℕ) → a < n → b < n → swap (swap rows a b) a b ≡ rows
-swap-swap n rows s a b la lb =
-    let once = IsBijection-swap n rows a b la lb s in
-    let twice = IsBijection-swap n (swap rows a b) a b la lb once in
-    let e = s.long in
-    let f = once.long in
-    same_list n (swap (swap rows a b) a b) rows twice.long s.long (λ c l.
-    slice_index-swap (swap rows a b) a b c (omega arith) (omega arith)
-    ∙ slice_index-swap rows a b (exchanged a b c) (omega arith) (omega arith)
-    ∙ ap (slice_index rows) (exchanged_back a b c))
 
 columns-twice : (g : Marks) → IsGrid g → (c : ℕ) → c < size g → swapped_columns (swapped_columns g c) c ≡ g
 columns-twice g s c l =

@@ -1,20 +1,13 @@
 -- Ranges of columns and rows that begin or end at the number after another.
-use Rattle.std.proofs.Common.{ap, arith, false, inl, inr, refl, true, ℕ, ◌&&◌, ◌+◌, ◌<◌, ◌||◌, ◌∙◌, ◌≡◌, ◌≢◌}
-use Rattle.std.proofs.lemmas.Bool.{cases_eq, eq-eqb}
-use Rattle.f2_algebra.proofs.Chains.Tables.{and-false, same}
+use Rattle.std.proofs.Common.{ap, arith, false, inl, inr, true, ℕ, ◌&&◌, ◌+◌, ◌<◌, ◌∙◌, ◌≡◌, ◌≢◌}
+use Rattle.std.proofs.lemmas.Bool.{cases_eq}
+use Rattle.f2_algebra.proofs.Chains.Tables.{and-false}
 use Rattle.torus_geom.proofs.Circles.TurnLemmas.{one_up_below}
-use Rattle.torus_geom.specs.Range.{one_down, one_up}
+use Rattle.torus_geom.specs.Range.{one_up}
 use Rattle.rectangles.proofs.Square.CyclicOrder.{between}
 use Rattle.rectangles.proofs.Square.TwoSteps.{differ, differ-self}
-use Rattle.pentagon_map.proofs.ChainMap.CyclicSteps.{between-one_down, between-one_up, between-thin, one_up_cases}
+use Rattle.pentagon_map.proofs.ChainMap.CyclicSteps.{between-one_up, between-thin, one_up_cases}
 use Rattle.pentagon_map.proofs.ChainMap.RowArcs.{above_of}
-
--- the number before b is in each range up to b
-pub last_column : (n a b : ℕ) → a < n → b < n → a ≢ b → between a b (one_down n b) ≡ true
-last_column n a b la lb p =
-    between-one_down n a b b la lb lb p
-    ∙ ap (λ z. (between a b b && differ b a) || z) (eq-eqb b b refl)
-    ∙ same 1 (λ z. z || true) (λ z. true) refl (between a b b && differ b a)
 
 last_low : (j k m : ℕ) → k ≡ m + 1 → j ≢ k → between j k m ≡ true
 last_low j k m e p = grind arith

@@ -33,7 +33,8 @@ use Rattle.pentagon_map.proofs.ChainMap.RowArcs.{above_of}
 use Rattle.pentagon_map.proofs.ChainMap.ThinAnnuli.{clear_thin, free_thin}
 use Rattle.pentagon_map.proofs.Crossing.CrossingRow.{IsCrossing, crossing_row-over, crossing_row_IsCrossing, four_rows}
 use Rattle.pentagon_map.proofs.Crossing.FourNumbers.{AreFourRows}
-use Rattle.pentagon_map.proofs.FrontStates.CyclicRows.{above_none, begin_up, both_up, end_up, last_column, last_row, not_between, turned_round}
+use Rattle.torus_geom.proofs.Circles.NeighbourLemmas.{between_before_end}
+use Rattle.pentagon_map.proofs.FrontStates.CyclicRows.{above_none, begin_up, both_up, end_up, last_row, not_between, turned_round}
 use Rattle.pentagon_map.specs.Inner.CodeImages.{column_image}
 use Rattle.pentagon_map.specs.Pentagon.{crossing_row}
 use Rattle.pentagon_map.specs.declared.Corner.TheVariants.{Over}
@@ -158,7 +159,7 @@ module _ (g : Marks) (s : IsGrid g) (c : ℕ) (lc : c < size g) (h : are_commuti
       (between a b t
       && marks (slice_index g.o) (slice_index g.x) (between (slice_index x a) (slice_index x b)) t)) h d ld)
       ∙ (λ i. (ne_eqb d r u i || ne_eqb d c v i)
-      || not (last_column n a b la lb ab i
+      || not (between_before_end n a b la lb ab i
       && (between (slice_index x a) (slice_index x b) (slice_index g.o d) || row i)))
       ∙ same 1 (λ z. not (z || true)) (λ z. false) refl
       (between (slice_index x a) (slice_index x b) (slice_index g.o d))))
