@@ -17,10 +17,11 @@
 --     is_word v w            the two words are the same
 --     numeral low high word  the number from low to high whose decimal form the word is, if there is one
 --     state_of n word        the state of size n whose word it is, if there is one
-use Rattle.std.specs.Prelude.{ℕ, ◌+◌, Bool, true, false, ◌&&◌, ◌||◌, List, [], ◌∷◌, map, ◌==◌, if◌then◌else◌}
+use Rattle.std.specs.Prelude.{ℕ, ◌+◌, Bool, true, false, ◌&&◌, List, [], ◌∷◌, map, codes, ◌==◌, if◌then◌else◌}
 use Rattle.std.specs.declared.option.Option.{Option}
 use Rattle.std.specs.List.{filter, find, flat_map}
 use Rattle.std.specs.Fmt.{decimal}
+use Rattle.text_lines.specs.Parts.{is_one_of}
 use Rattle.state_rank.specs.Bijection.{numbers}
 use Rattle.state_rank.specs.States.{states, state_word}
 
@@ -28,10 +29,10 @@ abbrev pub Word : Type 0
 Word = List ℕ
 
 abbrev pub is_line_feed : ℕ → Bool
-is_line_feed b = b == 10
+is_line_feed = is_one_of (codes "\n")
 
 abbrev pub is_space : ℕ → Bool
-is_space b = (b == 32) || (b == 9)
+is_space = is_one_of (codes " \t")
 
 abbrev pub before_parts : ℕ → List (List ℕ) → List (List ℕ)
 before_parts b [] = (b ∷ []) ∷ []

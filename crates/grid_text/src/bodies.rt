@@ -4,6 +4,7 @@ ghost use Rattle.std.specs.List.{list_any, All};
 ghost use Rattle.state_rank.specs.States.{state_word};
 ghost use Rattle.state_rank.specs.Bijection.{IsSize, IsBijection};
 ghost use Rattle.grid_text.specs.Commands.{axis_word};
+ghost use Rattle.grid_text.specs.Words.{state_of};
 ghost use Rattle.grid_text.specs.Script.{GridScript};
 ghost use Rattle.grid_text.specs.Faults.{state_of_size, is_bad};
 ghost use Rattle.grid_text.specs.Inner.Reading.{IsRead, keyword_word, stands_alone};
@@ -14,7 +15,6 @@ use crate::commands::{Command, StateList};
 use crate::faults::TextFault;
 use crate::keywords::{Keyword, command_alone, read_keyword};
 use crate::scripts::Script;
-use crate::state_words::read_state;
 use crate::words::numeral;
 use grid_moves::{Axis, commutes};
 use grid_ports::NoMemory;
@@ -173,4 +173,18 @@ fn read_states(alloc: Global, words: &[&[u8]], n: u8) -> Result<Option<Vec<State
         states.push(x)?;
     }
     Ok(Some(states))
+}
+
+// The state of size `n` whose word it is.
+fn read_state(word: &[u8], n: u8) -> Option<State>
+    requires { IsSize n }
+    ensures { result ≡ state_of n word.now }
+{
+    let Some(x) = State::of_word(word) else {
+        return None;
+    };
+    if x.size() != n {
+        return None;
+    }
+    Some(x)
 }

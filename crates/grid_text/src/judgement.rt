@@ -32,7 +32,7 @@ pub struct Judged {
 #[derive(Clone, Copy, Debug, PartialEq, Eq, Error)]
 pub enum TextEnd {
     /// The text is no document.
-    #[error("line {line} has a fault")]
+    #[error("the text is no document")]
     Refused { fault: TextFault, line: u32 },
     /// The allocator refused.
     #[error("out of memory")]

@@ -3,13 +3,13 @@ ghost use Rattle.std.specs.Prelude.{◌≡◌, ◌≤◌, ◌<◌, ◌^◌, ◌*
 ghost use Rattle.state_rank.specs.States.{state_word};
 ghost use Rattle.grid_text.specs.Commands.{argument_word, command_row};
 ghost use Rattle.grid_text.specs.PlainForm.{after_space, command_line, head_lines, plain_form};
-ghost use Rattle.grid_text.specs.Inner.Printing.{IsPrintable};
 ghost use Rattle.std.specs.Fmt.{decimal};
 
 use crate::choices::{corner_text, side_text, sign_text};
 use crate::commands::Command;
 use crate::keywords::{keyword_of, keyword_text};
 use crate::scripts::Script;
+use itoa::Buffer;
 use state_rank::State;
 use torus_geom::Grid;
 
@@ -27,14 +27,13 @@ pub fn print_len(s: &Script) -> u128
 // The number of bytes of the lines of the head.
 fn head_len(g: &Grid) -> u128
     ensures exact { result ≡ length (head_lines g.now) }
-    ensures few { result ≤ 100 }
+    ensures few { result ≤ 1000 }
 {
     10 + number_len(g.size()) + numbers_len(g.o_rows()) + numbers_len(g.x_rows())
 }
 
 // The number of bytes of the line of a command.
 fn command_len(command: &Command) -> u128
-    requires { IsPrintable command.now }
     ensures exact { result ≡ length (command_line command.now) }
     ensures few { result ≤ 2 ^ 70 }
 {
@@ -43,7 +42,6 @@ fn command_len(command: &Command) -> u128
 
 // The number of bytes of the words of a command after the first, each after a space.
 fn arguments_len(command: &Command) -> u128
-    requires { IsPrintable command.now }
     ensures exact { result ≡ length (after_space (map argument_word (command_row command.now).1)) }
     ensures few { result ≤ 2 ^ 69 }
 {
@@ -71,9 +69,8 @@ fn states_len(states: &[State]) -> u128
 
 // The number of bytes of numbers, each after a space.
 fn numbers_len(numbers: &[u8]) -> u128
-    requires { All (λ n. n < 100) numbers.now }
     ensures exact { result ≡ length (after_space (map decimal numbers.now)) }
-    ensures few { result ≤ 3 * length numbers.now }
+    ensures few { result ≤ 41 * length numbers.now }
 {
     let mut count = 0;
     for n in numbers {
@@ -84,9 +81,9 @@ fn numbers_len(numbers: &[u8]) -> u128
 
 // The number of digits of a number.
 fn number_len(n: u8) -> u128
-    requires { n < 100 }
     ensures exact { result ≡ length (decimal n) }
-    ensures few { result ≤ 2 }
+    ensures few { result ≤ 40 }
 {
-    if n < 10 { 1 } else { 2 }
+    let mut buffer = Buffer::new();
+    buffer.format(n).len() as u128
 }

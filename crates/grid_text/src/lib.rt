@@ -20,7 +20,6 @@ mod pictures;
 mod places;
 mod printing;
 mod scripts;
-mod state_words;
 mod words;
 
 pub use commands::{Command, MAX_COMMANDS, Sign, StateList};

@@ -1,5 +1,5 @@
 //! The plain form of scripts.
-ghost use Rattle.std.specs.Prelude.{◌≡◌, ℕ, ◌<◌, ◌∷◌, ◌++◌, [], map, codes, All, IfOk, OnOk};
+ghost use Rattle.std.specs.Prelude.{◌≡◌, ◌∷◌, ◌++◌, map, IfOk, OnOk};
 ghost use Rattle.std.specs.List.{flat_map};
 ghost use Rattle.std.specs.Fmt.{decimal};
 ghost use Rattle.state_rank.specs.States.{state_word};
@@ -8,7 +8,6 @@ ghost use Rattle.grid_text.specs.Commands.{corner_word, argument_word, command_r
 ghost use Rattle.grid_text.specs.PlainForm.{after_space, command_line, head_lines, plain_form};
 ghost use Rattle.grid_text.specs.Script.{GridScript, IsScript};
 ghost use Rattle.grid_text.specs.Document.{IsDocument};
-ghost use Rattle.grid_text.specs.Inner.Printing.{IsPrintable};
 
 use crate::choices::{corner_text, side_text, sign_text};
 use crate::commands::Command;
@@ -18,6 +17,7 @@ use grid_ports::NoMemory;
 use pentagon_map::Corner;
 use state_rank::State;
 use std::alloc::Global;
+use text_lines::push_number;
 use torus_geom::Grid;
 
 /// The plain form of a script: one space between words, the states of a chain ascending, and each line
@@ -64,7 +64,6 @@ fn push_head(text: &mut Vec<u8>, g: &Grid) -> Result<(), NoMemory>
 
 // Appends the line of a command.
 fn push_command(text: &mut Vec<u8>, command: &Command) -> Result<(), NoMemory>
-    requires { IsPrintable command.now }
     ensures { OnOk result (text.new.items ≡ text.old.items ++ command_line command.now) }
 {
     push(text, keyword_text(keyword_of(command)))?;
@@ -74,7 +73,6 @@ fn push_command(text: &mut Vec<u8>, command: &Command) -> Result<(), NoMemory>
 
 // Appends the words of a command after the first, each after a space.
 fn push_arguments(text: &mut Vec<u8>, command: &Command) -> Result<(), NoMemory>
-    requires { IsPrintable command.now }
     ensures { OnOk result (text.new.items
         ≡ text.old.items ++ after_space (map argument_word (command_row command.now).1)) }
 {
@@ -98,7 +96,6 @@ fn push_word(text: &mut Vec<u8>, word: &[u8]) -> Result<(), NoMemory>
 
 // Appends a number and the word for a corner, each after a space.
 fn push_commute(text: &mut Vec<u8>, c: u8, corner: Corner) -> Result<(), NoMemory>
-    requires { c < 100 }
     ensures { OnOk result
         (text.new.items ≡ text.old.items ++ 32 ∷ decimal c ++ 32 ∷ corner_word corner) }
 {
@@ -123,15 +120,12 @@ fn push_state(text: &mut Vec<u8>, x: &State) -> Result<(), NoMemory>
     ensures { OnOk result (text.new.items ≡ text.old.items ++ 32 ∷ state_word x.now) }
 {
     text.push(b' ')?;
-    for c in 0..x.size() {
-        text.push(b'0' + x.row(c))?;
-    }
+    x.push_word(text)?;
     Ok(())
 }
 
 // Appends numbers, each after a space.
 fn push_numbers(text: &mut Vec<u8>, numbers: &[u8]) -> Result<(), NoMemory>
-    requires { All (λ n. n < 100) numbers.now }
     ensures { OnOk result
         (text.new.items ≡ text.old.items ++ after_space (map decimal numbers.now)) }
 {
@@ -140,17 +134,6 @@ fn push_numbers(text: &mut Vec<u8>, numbers: &[u8]) -> Result<(), NoMemory>
         push_number(text, *n)?;
     }
     Ok(())
-}
-
-// Appends a number.
-fn push_number(text: &mut Vec<u8>, n: u8) -> Result<(), NoMemory>
-    requires { n < 100 }
-    ensures { OnOk result (text.new.items ≡ text.old.items ++ decimal n) }
-{
-    if n >= 10 {
-        return push(text, &[b'0' + n / 10, b'0' + n % 10]);
-    }
-    push(text, &[b'0' + n])
 }
 
 // Appends bytes.

@@ -1,11 +1,12 @@
 //! Lines, words and numbers.
-ghost use Rattle.std.specs.Prelude.{◌≡◌, ◌≢◌, ◌↔◌, ℕ, ◌^◌, ◌<◌, ◌≤◌, true, false, [], ◌∷◌, map, length, slice_index, IsTrue, IfSome, IfNone, IfOk};
+ghost use Rattle.std.specs.Prelude.{◌≡◌, ◌≢◌, ◌↔◌, ℕ, ◌^◌, ◌<◌, ◌≤◌, [], ◌∷◌, map, length, slice_index, IsTrue, IfSome, IfNone, IfOk};
 ghost use Rattle.std.specs.Fmt.{decimal};
 ghost use Rattle.grid_text.specs.Words.{is_word as is_word_of, numeral as numeral_of, parts, lines_of, without_return as without_return_of, words_of as words_of_line, is_comment as is_comment_word, is_blank as are_blank};
-ghost use Rattle.grid_text.specs.Inner.Separators.{ends_part};
+ghost use Rattle.text_lines.specs.Parts.{is_one_of};
 
 use grid_ports::NoMemory;
 use std::alloc::Global;
+use text_lines::first_part;
 
 /// The number that `word` is in decimal form, if it is one from `low` to `high`: one or more digits, with
 /// no sign, and no leading zero but for `0` itself.
@@ -50,22 +51,13 @@ fn has_plain_start(word: &[u8]) -> bool
     }
 }
 
-/// What stands between the parts of a list of bytes.
-#[derive(Clone, Copy, PartialEq, Eq, Debug)]
-enum Separator {
-    /// A line feed, after a line.
-    LineFeed,
-    /// A space or a tab, between words.
-    Space,
-}
-
 /// The first line of a text, and what follows it, where there are bytes.
 pub(crate) fn first_line(text: &[u8]) -> Option<(&[u8], &[u8])>
     ensures none { IfNone result (text.now ≡ []) }
     ensures some { IfSome result (λ p. lines_of text.now ≡ p.0.now ∷ lines_of p.1.now) }
     ensures shorter { IfSome result (λ p. length p.1.now < length text.now) }
 {
-    let Some((line, after)) = first_part(text, Separator::LineFeed) else {
+    let Some((line, after)) = next_part(text, b"\n") else {
         return None;
     };
     Some((without_return(line), after))
@@ -84,45 +76,19 @@ fn without_return(line: &[u8]) -> &[u8]
     line
 }
 
-// The bytes up to the first separator, or all, and what follows it, where there are bytes.
-fn first_part(bytes: &[u8], separator: Separator) -> Option<(&[u8], &[u8])>
+// The bytes up to the first of `ends`, or all, and what follows it, where there are bytes.
+fn next_part<'a>(bytes: &'a [u8], ends: &[u8]) -> Option<(&'a [u8], &'a [u8])>
     ensures none { IfNone result (bytes.now ≡ []) }
-    ensures some { IfSome result (λ p. parts (ends_part separator) bytes.now
-        ≡ p.0.now ∷ parts (ends_part separator) p.1.now) }
+    ensures some { IfSome result (λ p. parts (is_one_of ends.now) bytes.now
+        ≡ p.0.now ∷ parts (is_one_of ends.now) p.1.now) }
     ensures shorter { IfSome result (λ p. length p.1.now < length bytes.now) }
 {
     if bytes.is_empty() {
         return None;
     }
-    let at = part_len(bytes, separator);
-    if at == bytes.len() {
-        return Some((bytes, &bytes[at..]));
-    }
-    Some((&bytes[..at], &bytes[at + 1..]))
-}
-
-// Where the first separator stands, or the number of bytes.
-fn part_len(bytes: &[u8], separator: Separator) -> usize
-    ensures within { result ≤ length bytes.now }
-    ensures before { (k : ℕ) → k < result → ends_part separator (slice_index bytes.now k) ≡ false }
-    ensures found { result < length bytes.now
-        → ends_part separator (slice_index bytes.now result) ≡ true }
-{
-    for (k, byte) in bytes.iter().enumerate() {
-        if is_separator(separator, *byte) {
-            return k;
-        }
-    }
-    bytes.len()
-}
-
-// Whether the byte is such a separator.
-fn is_separator(separator: Separator, byte: u8) -> bool
-    ensures { result ≡ ends_part separator byte }
-{
-    match separator {
-        Separator::LineFeed => byte == b'\n',
-        Separator::Space => byte == b' ' || byte == b'\t',
+    match first_part(bytes, ends) {
+        Some((part, after)) => Some((part, after)),
+        None => Some((bytes, &[])),
     }
 }
 
@@ -132,7 +98,7 @@ pub(crate) fn words_of(alloc: Global, line: &[u8]) -> Result<Vec<&[u8]>, NoMemor
 {
     let mut words = Vec::new(alloc);
     let mut rest = line;
-    while let Some((part, after)) = first_part(rest, Separator::Space) {
+    while let Some((part, after)) = next_part(rest, b" \t") {
         if !part.is_empty() {
             words.push(part)?;
         }

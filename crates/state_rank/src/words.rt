@@ -9,6 +9,7 @@ impl State {
     /// The state whose word it is: its rows as digits, from circle 0 on, with nothing between them.
     pub fn of_word(word: &[u8]) -> Option<State>
         ensures word { IfSome result (λ x. word.now ≡ state_word x) }
+        ensures state { IfSome result (λ x. IsState x) }
         ensures none { IfNone result ((x : List ℕ) → IsState x → word.now ≢ state_word x) }
 
         // What `push_word` appends for a state is read as this state.

@@ -8,7 +8,7 @@ use Rattle.std.specs.Prelude.{◌≡◌, ℕ, Bool, true, false, List, ◌∷◌
 use Rattle.std.specs.List.{All, list_any}
 
 abbrev pub is_one_of : List ℕ → ℕ → Bool
-is_one_of ends b = list_any (λ e. e == b) ends
+is_one_of ends b = list_any (λ e. b == e) ends
 
 abbrev pub HasNone : List ℕ → List ℕ → Type 0
 HasNone ends bytes = All (λ b. is_one_of ends b ≡ false) bytes

@@ -32,7 +32,8 @@ use Rattle.grid_text.specs.declared.commands.Sign.TheVariants.{Plus, Minus}
 use Rattle.grid_text.specs.declared.commands.Command.{Command}
 use Rattle.grid_text.specs.declared.commands.Command.TheVariants as command
 use Rattle.grid_text.specs.declared.faults.TextFault.TheVariants as fault
-use Rattle.grid_text.proofs.Lines.WordLemmas.{is_word-same, numeral-decimal, state_word_injective}
+use Rattle.grid_text.proofs.Lines.WordLemmas.{is_word-same, numeral-decimal}
+use Rattle.state_rank.proofs.WordLemmas.{state_word_injective}
 use Rattle.grid_text.proofs.Lines.KindLemmas.{state-good, list_any-never, AreGood, arguments-good, arguments-count}
 use Rattle.grid_text.proofs.Lines.KeywordLemmas.{not_end}
 use Rattle.grid_text.proofs.Lines.FaultLemmas.{NoRowHolds, table_fault-last}

@@ -1,10 +1,10 @@
--- The parts of a list of bytes. The first part ends at the first byte that ends one (`parts-at`), or is all bytes
--- (`parts-whole`); the reader takes one part at a time, and a part without bytes is no word. A carriage return is
+-- The parts of a list of bytes. The first part ends at the first byte that ends one (`parts-found`), or is all bytes
+-- (`parts-none`); the reader takes one part at a time, and a part without bytes is no word. A carriage return is
 -- dropped where it is the last byte.
-use Rattle.std.proofs.Common.{◌≡◌, ◌≢◌, ℕ, zero, suc, ◌+◌, ◌-◌, ◌<◌, Bool, true, false, cond, List, [], ◌∷◌, ◌++◌, length, take, drop, get_or, ap, ◌∙◌, sym, arith}
-use Rattle.std.specs.List.{filter}
+use Rattle.std.proofs.Common.{◌≡◌, ◌≢◌, ℕ, suc, ◌<◌, Bool, true, false, cond, List, [], ◌∷◌, ◌++◌, length, length-append, ap, ◌∙◌, sym, arith}
+use Rattle.std.specs.List.{filter, All}
 use Rattle.std.proofs.lemmas.Bool.{eq-eqb, ne_eqb}
-use Rattle.std.proofs.lemmas.List.{take_all, length-drop}
+use Rattle.text_lines.specs.Parts.{is_one_of, HasNone, IsFirstPart}
 use Rattle.grid_text.specs.Words.{parts, before_parts, is_space, is_filled, words_of, without_return}
 
 module _ (is_end : ℕ → Bool) where
@@ -15,42 +15,38 @@ module _ (is_end : ℕ → Bool) where
       ap (λ t. cond t ([] ∷ parts is_end bytes) (before_parts b (parts is_end bytes))) inside
 
   -- the first part ends at the first byte that ends one
-  pub parts-at : (bytes : List ℕ) (i : ℕ) → i < length bytes → ((k : ℕ) → k < i → is_end (get_or bytes k 0) ≡ false)
-      → is_end (get_or bytes i 0) ≡ true
-      → parts is_end bytes ≡ take i bytes ∷ parts is_end (drop (i + 1) bytes)
-  parts-at [] i within before here = absurd (omega arith)
-  parts-at (b ∷ bytes) zero within before here =
-      ap (λ t. cond t ([] ∷ parts is_end bytes) (before_parts b (parts is_end bytes))) here
-  parts-at (b ∷ bytes) (suc i) within before here =
-      let e : suc i + 1 ≡ suc (i + 1) = omega arith in
-      parts-byte b bytes (before 0 (omega arith))
-      ∙ ap (before_parts b) (parts-at bytes i (omega arith) (λ k l. before (suc k) (omega arith)) here)
-      ∙ ap (λ n. (b ∷ take i bytes) ∷ parts is_end (drop n (b ∷ bytes))) (sym e)
+  parts-at : (part after : List ℕ) (end : ℕ) → All (λ b. is_end b ≡ false) part → is_end end ≡ true
+      → parts is_end (part ++ end ∷ after) ≡ part ∷ parts is_end after
+  parts-at [] after end none here = ap (λ t. cond t ([] ∷ parts is_end after) (before_parts end (parts is_end after))) here
+  parts-at (b ∷ part) after end none here =
+      parts-byte b (part ++ end ∷ after) (none 0 b (omega arith))
+      ∙ ap (before_parts b) (parts-at part after end (λ k d l. none (suc k) d (omega arith)) here)
 
   -- where no byte ends one, all bytes are the first part
-  pub parts-whole : (bytes : List ℕ) → 0 < length bytes
-      → ((k : ℕ) → k < length bytes → is_end (get_or bytes k 0) ≡ false) → parts is_end bytes ≡ bytes ∷ []
-  parts-whole [] some none = absurd (omega arith)
-  parts-whole (b ∷ []) some none = parts-byte b [] (none 0 (omega arith))
-  parts-whole (b ∷ c ∷ bytes) some none =
-      parts-byte b (c ∷ bytes) (none 0 (omega arith))
-      ∙ ap (before_parts b) (parts-whole (c ∷ bytes) (omega arith) (λ k l. none (suc k) (omega arith)))
+  parts-whole : (b : ℕ) (bytes : List ℕ) → All (λ b. is_end b ≡ false) (b ∷ bytes)
+      → parts is_end (b ∷ bytes) ≡ (b ∷ bytes) ∷ []
+  parts-whole b [] none = parts-byte b [] (none 0 b (omega arith))
+  parts-whole b (c ∷ bytes) none =
+      parts-byte b (c ∷ bytes) (none 0 b (omega arith))
+      ∙ ap (before_parts b) (parts-whole c bytes (λ k d l. none (suc k) d (omega arith)))
 
-  -- what the code has of it: the rest of all bytes, and after the byte that ends the part
-  pub first-whole : (bytes : List ℕ) (at : ℕ) → at ≡ length bytes → 0 < length bytes
-      → ((k : ℕ) → k < at → is_end (get_or bytes k 0) ≡ false)
-      → parts is_end bytes ≡ bytes ∷ parts is_end (take (length bytes - at) (drop at bytes))
-  first-whole bytes at e some none =
-      parts-whole bytes some (λ k l. none k (omega arith))
-      ∙ ap (λ r. bytes ∷ parts is_end r)
-      (sym (ap (λ n. take n (drop at bytes)) (let z : length bytes - at ≡ 0 = omega arith in z)))
+-- the first part that was found, and what follows it
+pub parts-found : (ends bytes part after : List ℕ) → IsFirstPart ends bytes part after
+    → parts (is_one_of ends) bytes ≡ part ∷ parts (is_one_of ends) after
+parts-found ends bytes part after h =
+    ap (parts (is_one_of ends)) h.split ∙ parts-at (is_one_of ends) part after h.end h.none h.is_end
 
-  pub first-at : (bytes : List ℕ) (at : ℕ) → at < length bytes
-      → ((k : ℕ) → k < at → is_end (get_or bytes k 0) ≡ false) → is_end (get_or bytes at 0) ≡ true
-      → parts is_end bytes ≡ take at bytes ∷ parts is_end (take (length bytes - (at + 1)) (drop (at + 1) bytes))
-  first-at bytes at within before here =
-      parts-at bytes at within before here ∙ ap (λ r. take at bytes ∷ parts is_end r)
-      (sym (take_all (length bytes - (at + 1)) (drop (at + 1) bytes) (omega (arith, length-drop (at + 1) bytes))))
+-- what follows it is shorter
+pub shorter-found : (ends bytes part after : List ℕ) → IsFirstPart ends bytes part after
+    → length after < length bytes
+shorter-found ends bytes part after h =
+    omega (arith, ap length h.split, length-append part (h.end ∷ after))
+
+-- where none was found, all bytes are the first part
+pub parts-none : (ends bytes : List ℕ) → 0 < length bytes → HasNone ends bytes
+    → parts (is_one_of ends) bytes ≡ bytes ∷ []
+parts-none ends [] some none = absurd (omega arith)
+parts-none ends (b ∷ bytes) some none = parts-whole (is_one_of ends) b bytes none
 
 -- a part without bytes is no word, and any other is
 pub words_of-empty : (rest part after : List ℕ) → parts is_space rest ≡ part ∷ parts is_space after → length part ≡ 0

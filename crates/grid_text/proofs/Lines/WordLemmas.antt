@@ -1,7 +1,7 @@
 -- Words: which number or state a word is. What is looked for in a list is found there exactly where one element
 -- passes the test (`find-one`, `find-none`, `found`). Numbers of at most 64 bits and states have words of their own,
 -- so that each word is that of one number between two bounds, or of one state of a size, or of none.
-use Rattle.std.proofs.Common.{◌≡◌, ◌≢◌, ◌⊎◌, ℕ, zero, suc, ◌+◌, ◌-◌, ◌<◌, ◌≤◌, ◌^◌, Bool, true, false, ◌&&◌, cond, List, [], ◌∷◌, length, get_or, None, Some, Result, Ok, Err, IfSome, IfNone, refl, ap, subst, ◌∙◌, sym, arith, inl, inr, true≢false, set, take, ◌++◌, IsNone, OnSome, Option}
+use Rattle.std.proofs.Common.{◌≡◌, ◌≢◌, ◌⊎◌, ℕ, zero, suc, ◌+◌, ◌-◌, ◌<◌, ◌≤◌, ◌^◌, Bool, true, false, ◌&&◌, cond, List, [], ◌∷◌, length, get_or, None, Some, Result, Ok, Err, IfSome, IfNone, refl, ap, subst, ◌∙◌, sym, arith, inl, inr, true≢false, Option}
 use Rattle.std.proofs.lemmas.Bool.{cases_Bool, eq-eqb, cases_eq, ne_eqb}
 use Rattle.std.proofs.lemmas.List.Elements.{Contains-get_or}
 use Rattle.std.specs.List.{Contains, find}
@@ -12,8 +12,8 @@ use Rattle.std.proofs.lemmas.Fmt.{decimal_injective, decimal_digit, decimal_none
 use Rattle.std.proofs.lemmas.Str.Parse.{numerals_by_value, tells_digits, parse_plain}
 use Rattle.state_rank.specs.Bijection.{tabulate, numbers, IsBijection, IsSize}
 use Rattle.state_rank.specs.States.{states, IsState, state_word}
-use Rattle.std.proofs.lemmas.List.{take_more, take_more_set, map-append, length-map}
 use Rattle.state_rank.proofs.MemberLemmas.{member_cases, member_head, member_tail, no_member}
+use Rattle.state_rank.proofs.WordLemmas.{state_word_injective}
 use Rattle.state_rank.proofs.OrderLemmas.{length-tabulate, get_or-tabulate, member_of_states, Contains-states}
 use Rattle.grid_text.specs.Words.{Word, is_word, numeral, state_of}
 
@@ -185,17 +185,6 @@ module _ {E : Type 0} (word : Word) (r : Result ℕ E) (parses : ParsesUnsigned 
 
 -- ---- states
 
--- states of one word are one
-pub state_word_injective : (x y : List ℕ) → state_word x ≡ state_word y → x ≡ y
-state_word_injective [] [] e = refl
-state_word_injective [] (s ∷ y) e = cc
-state_word_injective (r ∷ x) [] e = cc
-state_word_injective (r ∷ x) (s ∷ y) e =
-    let heads : 48 + r ≡ 48 + s = cc in
-    let same : r ≡ s = omega (arith, heads) in
-    let tails : state_word x ≡ state_word y = cc in
-    ap (λ q. q ∷ x) same ∙ ap (λ q. s ∷ q) (state_word_injective x y tails)
-
 -- the word of a state
 pub state_of-state_word : (n : ℕ) (x : List ℕ) (word : Word) → word ≡ state_word x → IsBijection n x
     → state_of n word ≡ Some x
@@ -221,47 +210,27 @@ state_of-found n x word e =
     let r = found (λ y. is_word (state_word y) word) (states n) x e in
     (sym (same_word (state_word x) word r.1), member_of_states n x r.0)
 
--- each byte of the word of a state is a digit, or above
-pub get_or-state_word : (x : List ℕ) (k : ℕ) → k < length (state_word x) → 48 ≤ get_or (state_word x) k 0
-get_or-state_word [] k within = absurd (omega (arith, within))
-get_or-state_word (r ∷ x) zero within = omega arith
-get_or-state_word (r ∷ x) (suc k) within = get_or-state_word x k (omega (arith, within))
+-- what is read of a word that is a state's: the state, where it has the size
+pub state_of-read : (n : ℕ) (word : Word) (x : List ℕ) → IsState x → length x ≡ n → word ≡ state_word x
+    → Some x ≡ state_of n word
+state_of-read n word x state size is =
+    sym (state_of-state_word n x word is (subst (λ m. IsBijection m x) size state.bijection))
 
--- a word with a byte below the digits is that of no state
-pub state_word-none : (word : Word) (k : ℕ) → k < length word → get_or word k 0 < 48 → (x : List ℕ)
-    → word ≢ state_word x
-state_word-none word k within below x e =
-    let high = get_or-state_word x k (subst (λ w. k < length w) e within) in
-    absurd (omega (arith, high, subst (λ w. get_or w k 0 < 48) e below))
+-- the word of a state of another size
+pub state_of-other_size : (n : ℕ) (word : Word) (x : List ℕ) → length x ≢ n → word ≡ state_word x
+    → None ≡ state_of n word
+state_of-other_size n word x other is =
+    sym (state_of-none n word (λ y bijection e.
+    other (ap length (state_word_injective x y (sym is ∙ e)) ∙ bijection.long)))
 
--- one more byte of the word
-pub state_word-more : (word rows : List ℕ) (k r : ℕ) → k < length word → k < length rows → get_or word k 0 ≡ 48 + r
-    → take k word ≡ state_word (take k rows) → take (k + 1) word ≡ state_word (take (k + 1) (set rows k r))
-state_word-more word rows k r within room digit e =
-    take_more word k 0 within ∙ ap (λ w. w ++ get_or word k 0 ∷ []) e
-    ∙ ap (λ b. state_word (take k rows) ++ b ∷ []) digit
-    ∙ sym (map-append (λ (q : ℕ). 48 + q) (take k rows) (r ∷ [])) ∙ ap state_word (sym (take_more_set rows k r room))
-
--- what is read of the word of a state is the state
-pub state_of-read : (n : ℕ) (word : Word) (rows : List ℕ) (r : Option (List ℕ)) → IsSize n → length word ≡ n
-    → word ≡ state_word rows
-    → IfSome r (λ x. x ≡ rows) → OnSome r (IsState rows) → (IsNone r → IsState rows → ⊥) → r ≡ state_of n word
-state_of-read n word rows (Some x) small long e same state none =
-    let size : length rows ≡ n = sym (length-map rows (λ (q : ℕ). 48 + q)) ∙ sym (ap length e) ∙ long in
-    sym (state_of-state_word n x word (e ∙ ap state_word (sym same))
-    (subst (λ y. IsBijection n y) (sym same) (subst (λ m. IsBijection m rows) size state.bijection)))
-state_of-read n word rows None small long e same state none =
-    sym (state_of-none n word (λ x bijection is.
-    let rows_is : rows ≡ x = state_word_injective rows x (sym e ∙ is) in
-    none refl (subst IsState (sym rows_is) (record {
-      size = subst IsSize (sym bijection.long) small;
+-- the word of no state
+pub state_of-no_state : (n : ℕ) (word : Word) → IsSize n → ((x : List ℕ) → IsState x → word ≢ state_word x)
+    → None ≡ state_of n word
+state_of-no_state n word size none =
+    sym (state_of-none n word (λ x bijection. none x (record {
+      size = subst IsSize (sym bijection.long) size;
       bijection = subst (λ m. IsBijection m x) (sym bijection.long) bijection;
-    }))))
-
--- a word of another length is that of no state of the size
-pub state_of-other_length : (n : ℕ) (word : Word) → length word ≢ n → state_of n word ≡ None
-state_of-other_length n word other =
-    state_of-none n word (λ x bijection e. other (ap length e ∙ length-map x (λ (q : ℕ). 48 + q) ∙ bijection.long))
+    })))
 
 -- a number below n, where the reader knows n by another name
 pub numeral-at : (m n : ℕ) (w : Word) (r o : Option ℕ) → m ≡ n → r ≡ numeral 0 (m - 1) w → r ≡ o

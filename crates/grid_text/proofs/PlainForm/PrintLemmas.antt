@@ -1,27 +1,17 @@
--- The plain form, piece by piece: numbers of two digits, one more word after a space, one more line, and the whole.
--- A command that may stand there has no number of more than two digits, since it is below the size of the grid.
-use Rattle.std.proofs.Common.{◌≡◌, ℕ, zero, suc, ◌+◌, ◌<◌, ◌≤◌, ◌/◌, ◌%◌, List, [], ◌∷◌, ◌++◌, length, map, take, get_or, codes, refl, ap, ◌∙◌, sym, arith}
+-- The plain form, piece by piece: one more word after a space, one more line, and the whole.
+use Rattle.std.proofs.Common.{◌≡◌, ℕ, ◌+◌, ◌<◌, ◌≤◌, List, [], ◌∷◌, ◌++◌, length, map, take, get_or, codes, ap, ◌∙◌, sym}
 use Rattle.std.specs.List.{flat_map}
-use Rattle.std.specs.Fmt.{decimal}
-use Rattle.std.proofs.lemmas.Fmt.{decimal_digit, decimal_step}
 use Rattle.std.proofs.lemmas.List.{take_more, take_all, map-append, append-nil}
 use Rattle.std.proofs.lemmas.Grind.{flat_map-append}
 use Rattle.state_rank.specs.States.{state_word}
 use Rattle.grid_text.specs.Words.{Word}
 use Rattle.grid_text.specs.PlainForm.{after_space, command_line, head_lines, plain_form}
-use Rattle.torus_geom.specs.Marks.{Marks, size}
-use Rattle.grid_text.specs.Commands.{argument_word, command_row, IsAllowed, grid_after}
-use Rattle.grid_text.specs.Script.{GridScript, IsScript, AreAllowed}
-use Rattle.grid_text.specs.Inner.Printing.{IsPrintable}
+use Rattle.torus_geom.specs.Marks.{Marks}
+use Rattle.grid_text.specs.Commands.{argument_word, command_row}
+use Rattle.grid_text.specs.Script.{GridScript}
 use Rattle.grid_text.specs.declared.commands.Command.{Command}
 use Rattle.grid_text.specs.declared.commands.Command.TheVariants as command
 use Rattle.grid_text.proofs.Lines.CommandLemmas.{state_words}
-use Rattle.grid_text.proofs.Lines.ScriptLemmas.{IsGridOf, IsGridOf-grid_after}
-
--- a number of two digits
-pub decimal_two : (n : ℕ) → 10 ≤ n → n < 100 → decimal n ≡ (48 + n / 10) ∷ (48 + n % 10) ∷ []
-decimal_two n low high =
-    decimal_step n low (omega arith) ∙ ap (λ d. d ++ (48 + n % 10) ∷ []) (decimal_digit (n / 10) (omega arith))
 
 -- one more piece
 pub flat_map-more : {A : Type 0} (f : A → List ℕ) (xs : List A) (i : ℕ) (d : A) → i < length xs
@@ -45,29 +35,6 @@ pub chain_arguments : (c : Command) (z states : List (List ℕ)) → c ≡ comma
 chain_arguments c z states is same =
     ap (λ xs. after_space (map state_word xs)) same ∙ ap after_space (sym (state_words z))
     ∙ ap (λ d. after_space (map argument_word (command_row d).1)) (sym is)
-
--- a command that may stand at a grid has a number of at most two digits
-IsPrintable-allowed : (g : Marks) (c : Command) → size g < 100 → IsAllowed g c → IsPrintable c
-IsPrintable-allowed g (command.Commute axis c v) few allowed = let below = allowed.0 in omega (arith, below, few)
-IsPrintable-allowed g c few allowed = tt
-
--- so has each of a list
-IsPrintable-all : (n : ℕ) (g : Marks) (commands : List Command) → n < 100 → IsGridOf n g → AreAllowed g commands
-    → (i : ℕ) (d : Command) → i < length commands → IsPrintable (get_or commands i d)
-IsPrintable-all n g [] few h all i d within = absurd (omega (arith, within))
-IsPrintable-all n g (c ∷ commands) few h all zero d within =
-    let same = h.same_size in IsPrintable-allowed g c (omega (arith, same, few)) all.0
-IsPrintable-all n g (c ∷ commands) few h all (suc i) d within =
-    IsPrintable-all n (grid_after g c) commands few (IsGridOf-grid_after n g c h all.0) all.1 i d
-    (omega (arith, within))
-
--- and each of a script
-pub IsPrintable-script : (s : GridScript) → IsScript s → (i : ℕ) (d : Command) → i < length s.commands
-    → IsPrintable (get_or s.commands i d)
-IsPrintable-script s h i d within =
-    let most = h.grid.is_size.greatest in
-    IsPrintable-all (size s.grid) s.grid s.commands (omega (arith, most))
-    (record { grid = h.grid; same_size = refl }) h.allowed i d within
 
 -- what was printed is the plain form
 pub plain_form-printed : (s : GridScript) (g : Marks) (commands : List Command) (k : ℕ) (start head loop all : List ℕ)

@@ -82,7 +82,7 @@ parts-line : (l rest : List ℕ) → IsOneLine l
     → parts is_line_feed (l ++ 10 ∷ rest) ≡ l ∷ parts is_line_feed rest
 parts-line [] rest h = refl
 parts-line (b ∷ l) rest h =
-    parts-byte is_line_feed b (l ++ 10 ∷ rest) (byte-other b 10 (omega (arith, h.0)))
+    parts-byte is_line_feed b (l ++ 10 ∷ rest) (ap (λ t. t || false) (byte-other b 10 (omega (arith, h.0))))
     ∙ ap (before_parts b) (parts-line l rest h.1)
 
 lines_of-line : (l rest : List ℕ) → IsOneLine l → lines_of (l ++ 10 ∷ rest) ≡ l ∷ lines_of rest
@@ -92,7 +92,8 @@ lines_of-line l rest h =
 -- a byte past the space is none, and no tab
 not_space : (b : ℕ) → 33 ≤ b → is_space b ≡ false
 not_space b past =
-    ap (λ t. t || (b == 9)) (byte-other b 32 (omega (arith, past))) ∙ byte-other b 9 (omega (arith, past))
+    ap (λ t. t || ((b == 9) || false)) (byte-other b 32 (omega (arith, past)))
+    ∙ ap (λ t. t || false) (byte-other b 9 (omega (arith, past)))
 
 -- the first word of a line
 parts-word : (w rest : List ℕ) → IsClean w → parts is_space (w ++ 32 ∷ rest) ≡ w ∷ parts is_space rest

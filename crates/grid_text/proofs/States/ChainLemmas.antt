@@ -14,7 +14,7 @@ use Rattle.state_rank.proofs.OrderLemmas.{is_before-same, is_before-back}
 use Rattle.state_rank.proofs.RankLemmas.{rank_order, rank_one_to_one}
 use Rattle.grid_text.specs.States.{AreAscending, AreStates}
 use Rattle.grid_text.specs.Faults.{has_repeated}
-use Rattle.grid_text.proofs.Lines.WordLemmas.{state_word_injective}
+use Rattle.state_rank.proofs.WordLemmas.{state_word_injective}
 use Rattle.grid_text.proofs.States.RepeatedLemmas.{has_repeated-apart, apart-has_repeated, AllPairs-map, AllPairs-unmap, has_repeated-IsPermutation}
 
 -- states that ascend are all different

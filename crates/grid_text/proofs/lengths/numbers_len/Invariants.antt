@@ -6,4 +6,4 @@ use Rattle.grid_text.proofs.lengths.numbers_len.Given as goal
 
 abbrev pub invariant-loop-n : goal.invariant-loop-n
 invariant-loop-n l =
-    (l.count ≡ length (after_space (map decimal (take l.n-index l.numbers)))) × (l.count ≤ 3 * l.n-index)
+    (l.count ≡ length (after_space (map decimal (take l.n-index l.numbers)))) × (l.count ≤ 41 * l.n-index)

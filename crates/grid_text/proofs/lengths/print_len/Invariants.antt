@@ -7,4 +7,4 @@ use Rattle.grid_text.proofs.lengths.print_len.Given as goal
 abbrev pub invariant-loop-command : goal.invariant-loop-command
 invariant-loop-command l =
     (l.count ≡ l.initial.count + length (flat_map command_line (take l.command-index l.command-items)))
-    × (l.count ≤ 100 + 2 ^ 70 * l.command-index)
+    × (l.count ≤ 1000 + 2 ^ 70 * l.command-index)
