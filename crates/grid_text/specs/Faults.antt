@@ -3,7 +3,7 @@
 --
 -- Kinds of words, and forms of lines:
 --     Kind                what a word may be: one of some words, a number between two, a state of a size
---     kind_fault k        the fault of a word that is not of the kind
+--     is_fault_of f k     f is the fault of a word that is not of the kind
 --     is_bad k word       the word is not of the kind
 --     kind_of n a         the kind of the words for an argument of a command, for a grid of size n
 --     Form                the kinds of the words after the first: exactly some, or any number of one
@@ -37,12 +37,11 @@
 --     is_one_too_many p words          a command follows the greatest number of them
 --
 -- The table, and the first fault:
---     form_table p form arguments words   the rows from the number of words on, for a line of this form
---     rows_of_form p form words        the rows from the first word on, for a line of this form, if it has one
+--     rows_of_form p form arguments words   the rows from the number of words on, for a line of this form
 --     table p words                    all rows, in order, for a line with these words at the place p
 --     first_passed rows                the fault of the first row whose test passes
---     table_fault p words              the fault that the table gives for such a line
---     fault_at p words                 the fault of such a line: none of a blank line, and else that of the table
+--     fault_in_table p words           the fault that the table gives for such a line
+--     line_fault p words               the fault of such a line: none of a blank line, and else that in the table
 --     HaveFault lines f line           the line of this number has the fault f, and those before it are allowed
 --     HaveNoEnd lines line             all lines are allowed and `end` was not met; the number is that of the next
 --     HaveFirstFault lines f line      lines with these words have the first fault f at the line of this number,
@@ -66,7 +65,6 @@ use Rattle.grid_text.specs.Commands.{sign_word, signs, side_word, sides, corner_
 use Rattle.grid_text.specs.Script.{grid_in_force}
 use Rattle.grid_text.specs.Picture.{empty_symbol}
 use Rattle.grid_text.specs.Document.{Place, head, o_line, x_line, picture, body, ended, grid_word, o_word, x_word, picture_word, end_word, Path}
-use Rattle.grid_text.specs.FaultWords.{fault_word}
 use Rattle.grid_text.specs.declared.commands.Sign.TheVariants.{Plus}
 use Rattle.grid_text.specs.declared.commands.Command.{Command}
 use Rattle.grid_text.specs.declared.commands.Command.TheVariants as command
@@ -80,10 +78,11 @@ pub data Kind : Type 0 where
   number_between : (low high : ℕ) → Kind
   state_of_size : (n : ℕ) → Kind
 
-abbrev pub kind_fault : Kind → TextFault
-kind_fault (choice_of words) = fault.BadChoice
-kind_fault (number_between low high) = fault.BadNumber
-kind_fault (state_of_size n) = fault.BadState
+abbrev pub is_fault_of : TextFault → Kind → Bool
+is_fault_of fault.BadChoice (choice_of words) = true
+is_fault_of fault.BadNumber (number_between low high) = true
+is_fault_of fault.BadState (state_of_size n) = true
+is_fault_of f kind = false
 
 abbrev pub is_bad : Kind → Word → Bool
 is_bad (choice_of words) word = not (list_any (λ w. is_word w word) words)
@@ -151,7 +150,7 @@ is_bad_count (exactly kinds) arguments = not (length kinds == length arguments)
 is_bad_count (any_number_of kind) arguments = false
 
 abbrev pub is_bad_by : TextFault → Kind → Word → Bool
-is_bad_by f kind word = is_word (fault_word f) (fault_word (kind_fault kind)) && is_bad kind word
+is_bad_by f kind word = is_fault_of f kind && is_bad kind word
 
 abbrev pub has_bad : TextFault → Form → List Word → Bool
 has_bad f (exactly kinds) arguments = list_any (λ (a : Kind × Word). is_bad_by f a.0 a.1) (zip kinds arguments)
@@ -206,8 +205,8 @@ abbrev pub arguments_at : Place → List Word → List Word
 arguments_at (picture n o x) words = map (λ b. b ∷ []) (symbols words)
 arguments_at p words = drop 1 words
 
-abbrev pub form_table : Place → Form → List Word → List Word → List (TextFault × Bool)
-form_table p form arguments words =
+abbrev pub rows_of_form : Place → Form → List Word → List Word → List (TextFault × Bool)
+rows_of_form p form arguments words =
     (fault.BadCount, is_bad_count form arguments)
     ∷ (fault.BadChoice, has_bad fault.BadChoice form arguments)
     ∷ (fault.BadNumber, has_bad fault.BadNumber form arguments)
@@ -218,22 +217,21 @@ form_table p form arguments words =
     ∷ (fault.NotCommuting, is_not_commuting p words)
     ∷ (fault.TooMany, is_one_too_many p words) ∷ []
 
-abbrev pub rows_of_form : Place → Option Form → List Word → List (TextFault × Bool)
-rows_of_form p None words = (fault.BadWord, true) ∷ []
-rows_of_form p (Some form) words = (fault.BadWord, false) ∷ form_table p form (arguments_at p words) words
-
 abbrev pub table : Place → List Word → List (TextFault × Bool)
-table p words = (fault.AfterEnd, is_after_end p) ∷ rows_of_form p (form_of_line p words) words
+table p words =
+    (fault.AfterEnd, is_after_end p)
+    ∷ (fault.BadWord, is_none (form_of_line p words))
+    ∷ option_map_or (λ form. rows_of_form p form (arguments_at p words) words) (form_of_line p words) []
 
 abbrev pub first_passed : List (TextFault × Bool) → Option TextFault
 first_passed [] = None
 first_passed (row ∷ rows) = if row.1 then Some row.0 else first_passed rows
 
-unfoldable pub table_fault : Place → List Word → Option TextFault
-table_fault p words = first_passed (table p words)
+unfoldable pub fault_in_table : Place → List Word → Option TextFault
+fault_in_table p words = first_passed (table p words)
 
-unfoldable pub fault_at : Place → List Word → Option TextFault
-fault_at p words = if is_blank words then None else table_fault p words
+unfoldable pub line_fault : Place → List Word → Option TextFault
+line_fault p words = if is_blank words then None else fault_in_table p words
 
 -- ---- the first fault
 
@@ -245,7 +243,7 @@ pub record HaveFault (lines : List (List Word)) (f : TextFault) (line : ℕ) : T
   pub place : Place
   pub split : lines ≡ before ++ words ∷ after
   pub path : Path head before place
-  pub faulty : fault_at place words ≡ Some f
+  pub faulty : line_fault place words ≡ Some f
   pub number : line ≡ length before + 1
 
 -- every line is allowed, and `end` was not met

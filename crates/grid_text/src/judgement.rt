@@ -4,10 +4,10 @@ ghost use Rattle.grid_text.specs.Limits.{max_commands, max_text};
 ghost use Rattle.grid_text.specs.Words.{Word, words_of as words_of_line, words_of_lines};
 ghost use Rattle.grid_text.specs.Script.{GridScript};
 ghost use Rattle.grid_text.specs.Document.{Place as PlaceOf, head, Leads, Path, IsDocument, IsHeadLine};
-ghost use Rattle.grid_text.specs.Faults.{fault_at, IsFirstFault};
+ghost use Rattle.grid_text.specs.Faults.{line_fault, IsFirstFault};
 ghost use Rattle.grid_text.specs.Inner.Reading.{IsPlace};
 ghost use Rattle.grid_text.specs.Inner.Next.{place_of, IsNext};
-ghost use Rattle.grid_text.specs.End.{IsEnd};
+ghost use Rattle.grid_text.specs.End.{IsTextEnd};
 
 use crate::commands::MAX_COMMANDS;
 use crate::faults::TextFault;
@@ -62,7 +62,7 @@ pub fn judge(alloc: Global, text: &[u8]) -> Result<Judged, TextEnd>
     requires { length text.now ≤ max_text }
     ensures document { IfOk result (λ j. IsDocument text.now j.script) }
     ensures head { IfOk result (λ j. IsHeadLine (words_of_lines text.now) j.grid_line) }
-    ensures refused { IfErr result (IsEnd text.now) }
+    ensures refused { IfErr result (IsTextEnd text.now) }
 
     // Every text is a document or has a first fault, and no text is both.
     ensures every_text { (other : List ℕ) → ((s : GridScript) × IsDocument other s)
@@ -83,7 +83,7 @@ pub fn judge(alloc: Global, text: &[u8]) -> Result<Judged, TextEnd>
     // At a place that lines lead to, a line is allowed exactly where no row of the table holds, and
     // then it leads to one place.
     ensures allowed { (lines : List (List Word)) (p : PlaceOf) (words : List Word) → Path head lines p
-        → (fault_at p words ≡ None) ↔ ((q : PlaceOf) × Leads p words q) }
+        → (line_fault p words ≡ None) ↔ ((q : PlaceOf) × Leads p words q) }
     ensures one_place { (lines : List (List Word)) (p q r : PlaceOf) (words : List Word)
         → Path head lines p → Leads p words q → Leads p words r → q ≡ r }
 
@@ -98,7 +98,7 @@ fn judge_lines(alloc: Global, text: &[u8]) -> Result<Judged, TextEnd>
     requires { length text.now ≤ max_text }
     ensures document { IfOk result (λ j. IsDocument text.now j.script) }
     ensures head { IfOk result (λ j. IsHeadLine (words_of_lines text.now) j.grid_line) }
-    ensures refused { IfErr result (IsEnd text.now) }
+    ensures refused { IfErr result (IsTextEnd text.now) }
 {
     let mut place = Place::Head;
     let mut rest = text;

@@ -5,7 +5,7 @@ ghost use Rattle.state_rank.specs.Bijection.{IsSize};
 ghost use Rattle.grid_text.specs.Words.{Word, symbols as symbols_of_words, is_word, is_blank};
 ghost use Rattle.grid_text.specs.Picture.{row_symbols, FitsRow};
 ghost use Rattle.grid_text.specs.Document.{picture as picture_at};
-ghost use Rattle.grid_text.specs.Faults.{choice_of, is_bad, symbol_words, stands_once, table_fault};
+ghost use Rattle.grid_text.specs.Faults.{choice_of, is_bad, symbol_words, stands_once, fault_in_table};
 ghost use Rattle.grid_text.specs.Inner.Pictures.{IsOnly, row_words};
 
 use crate::faults::TextFault;
@@ -53,7 +53,7 @@ pub(crate) fn read_row(picture: &Picture, row: &[u8]) -> Result<(u8, u8), TextFa
         × (row.now ≡ row_symbols picture.now.size p.0 p.1)) }
     ensures err { IfErr result (λ f. (words : List Word) → is_blank words ≡ false
         → symbols_of_words words ≡ row.now
-        → table_fault (picture_at picture.now.size picture.now.o.items picture.now.x.items) words ≡ Some f) }
+        → fault_in_table (picture_at picture.now.size picture.now.o.items picture.now.x.items) words ≡ Some f) }
 {
     if row.len() != usize::from(picture.size) {
         return Err(TextFault::BadCount);

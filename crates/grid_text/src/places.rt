@@ -6,7 +6,7 @@ ghost use Rattle.state_rank.specs.Bijection.{IsSize, IsBijection};
 ghost use Rattle.grid_text.specs.Words.{Word, is_blank};
 ghost use Rattle.grid_text.specs.Picture.{FitsRow};
 ghost use Rattle.grid_text.specs.Document.{Place as PlaceOf, head, o_line, x_line, picture as picture_at, body, below_row as below};
-ghost use Rattle.grid_text.specs.Faults.{form_at, size_form, table_fault, number_between, is_bad};
+ghost use Rattle.grid_text.specs.Faults.{form_at, size_form, fault_in_table, number_between, is_bad};
 ghost use Rattle.grid_text.specs.Inner.Reading.{IsPlace, IsRowPlace, AreNumerals};
 ghost use Rattle.grid_text.specs.Inner.Next.{place_of, IsNextOn};
 
@@ -81,7 +81,7 @@ fn read_head(words: &[&[u8]]) -> Result<Place, TextFault>
 fn read_size(arguments: &[&[u8]]) -> Result<u8, TextFault>
     ensures ok { IfOk result (λ n. IsSize n × (map (λ w. w.now) arguments.now ≡ decimal n ∷ [])) }
     ensures err { IfErr result (λ f. (word : Word) → form_at head word ≡ Some size_form
-        → table_fault head (word ∷ map (λ w. w.now) arguments.now) ≡ Some f) }
+        → fault_in_table head (word ∷ map (λ w. w.now) arguments.now) ≡ Some f) }
 {
     if arguments.len() != 1 {
         return Err(TextFault::BadCount);
@@ -178,7 +178,7 @@ fn read_rows(letter: &[u8], n: u8, words: &[&[u8]]) -> Result<State, TextFault>
     ensures ok { IfOk result (λ x. IsBijection n x
         × (map (λ w. w.now) words.now ≡ letter.now ∷ map decimal x)) }
     ensures err { IfErr result (λ f. (p : PlaceOf) → IsRowPlace letter.now n p
-        → table_fault p (map (λ w. w.now) words.now) ≡ Some f) }
+        → fault_in_table p (map (λ w. w.now) words.now) ≡ Some f) }
 {
     let Some(arguments) = words_after(letter, words) else {
         return Err(TextFault::BadWord);

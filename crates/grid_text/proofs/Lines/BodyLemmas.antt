@@ -23,7 +23,7 @@ use Rattle.grid_text.specs.States.{AreStates, AreAscending}
 use Rattle.grid_text.specs.Commands.{sign_word, signs, side_word, sides, corner_word, corners, axis_word, IsLineOf, IsAllowed, IsStateOf}
 use Rattle.grid_text.specs.Script.{GridScript, IsScript, grid_in_force}
 use Rattle.grid_text.specs.Document.{body}
-use Rattle.grid_text.specs.Faults.{Form, exactly, any_number_of, choice_of, number_between, state_of_size, is_bad, is_bad_by, is_bad_count, has_bad, form_at, has_repeated, fails_to_commute, is_not_commuting, table_fault}
+use Rattle.grid_text.specs.Faults.{Form, exactly, any_number_of, choice_of, number_between, state_of_size, is_bad, is_bad_by, is_bad_count, has_bad, form_at, has_repeated, fails_to_commute, is_not_commuting, fault_in_table}
 use Rattle.grid_text.specs.Inner.Reading.{example, keyword_word, keyword_form, stands_alone, IsReadLine, IsRead}
 use Rattle.grid_text.specs.declared.commands.Sign.{Sign}
 use Rattle.grid_moves.specs.declared.turns.Side.{Side}
@@ -38,8 +38,8 @@ use Rattle.grid_text.proofs.Lines.WordLemmas.{numeral-found, state_of-found}
 use Rattle.grid_text.proofs.Lines.KindLemmas.{count-other, list_any-never, word-find, bad-find, corner-good}
 use Rattle.grid_text.proofs.Lines.KeywordLemmas.{unknown_word, form_at-keyword, form-stands_alone}
 use Rattle.grid_text.proofs.Lines.SeenLemmas.{seen, seen-parts, seen-more}
-use Rattle.grid_text.proofs.Lines.FaultLemmas.{table_fault-no_word, table_fault-bad_word, table_fault-count, table_fault-choice, table_fault-number, table_fault-state, table_fault-repeated, table_fault-commuting}
-use Rattle.grid_text.proofs.Lines.CommandLemmas.{chain_words, states-good, faultless, table_fault-faultless}
+use Rattle.grid_text.proofs.Lines.FaultLemmas.{fault_in_table-no_word, fault_in_table-bad_word, fault_in_table-count, fault_in_table-choice, fault_in_table-number, fault_in_table-state, fault_in_table-repeated, fault_in_table-commuting}
+use Rattle.grid_text.proofs.Lines.CommandLemmas.{chain_words, states-good, faultless, fault_in_table-faultless}
 use Rattle.grid_text.proofs.Lines.ReadLemmas.{IsStateOf-from_bijection}
 use Rattle.grid_text.proofs.Lines.ScriptLemmas.{IsGridOf-grid_in_force}
 use Rattle.grid_text.proofs.States.ChainLemmas.{apart-states, AreStates-from_sorted}
@@ -47,18 +47,18 @@ use Rattle.grid_text.proofs.States.ChainLemmas.{apart-states, AreStates-from_sor
 -- ---- the first word
 
 -- no word
-pub table_fault-empty : (s : GridScript) (words : List Word) → words ≡ []
-    → table_fault (body s) words ≡ Some fault.BadWord
-table_fault-empty s words none = ap (table_fault (body s)) none ∙ table_fault-no_word (body s) refl
+pub fault_in_table-empty : (s : GridScript) (words : List Word) → words ≡ []
+    → fault_in_table (body s) words ≡ Some fault.BadWord
+fault_in_table-empty s words none = ap (fault_in_table (body s)) none ∙ fault_in_table-no_word (body s) refl
 
 -- a word that is no keyword
 pub unknown-read : (s : GridScript) (words : List (Bor (List ℕ))) (d : Bor (List ℕ)) (r : Option Keyword)
     → 1 ≤ length words
     → r ≡ find (λ k. is_word (keyword_word k) (get_or words 0 d).now) KEYWORDS → r ≡ None
-    → table_fault (body s) (seen words) ≡ Some fault.BadWord
+    → fault_in_table (body s) (seen words) ≡ Some fault.BadWord
 unknown-read s words d r some is none =
-    ap (table_fault (body s)) (seen-parts words d some)
-    ∙ table_fault-bad_word (body s) (get_or words 0 d).now (seen (take (length words - 1) (drop 1 words))) refl
+    ap (fault_in_table (body s)) (seen-parts words d some)
+    ∙ fault_in_table-bad_word (body s) (get_or words 0 d).now (seen (take (length words - 1) (drop 1 words))) refl
     (unknown_word (size (grid_in_force s)) (get_or words 0 d).now (sym is ∙ none))
 
 -- a keyword
@@ -85,9 +85,9 @@ command-read s words r line c is is_some read = subst (IsReadLine s words) is_so
 
 pub many-read : (s : GridScript) → IsScript s → (words : List Word) (c : Command)
     → IsLineOf words c × IsAllowed (grid_in_force s) c
-    → max_commands ≤ length s.commands → table_fault (body s) words ≡ Some fault.TooMany
+    → max_commands ≤ length s.commands → fault_in_table (body s) words ≡ Some fault.TooMany
 many-read s h words c read many =
-    table_fault-faultless s h words (faultless s h words c read.0 read.1)
+    fault_in_table-faultless s h words (faultless s h words c read.0 read.1)
     ∙ ap (λ b. cond b (Some fault.TooMany) None) (le-leb max_commands (length s.commands) many)
 
 -- ---- lines of a number of words
@@ -96,15 +96,15 @@ module _ (s : GridScript) (arguments : List Word) where
   -- too few or too many words after a keyword
   pub key-count : (k : Keyword) (kinds : ℕ)
       → is_bad_count (keyword_form (size (grid_in_force s)) k) arguments ≡ not (kinds == length arguments)
-      → length arguments ≢ kinds → table_fault (body s) (keyword_word k ∷ arguments) ≡ Some fault.BadCount
+      → length arguments ≢ kinds → fault_in_table (body s) (keyword_word k ∷ arguments) ≡ Some fault.BadCount
   key-count k kinds form other =
-      table_fault-count (body s) (keyword_form (size (grid_in_force s)) k) (keyword_word k ∷ arguments) arguments refl
+      fault_in_table-count (body s) (keyword_form (size (grid_in_force s)) k) (keyword_word k ∷ arguments) arguments refl
       (form_at-keyword s k) refl
       (form ∙ count-other kinds arguments other)
 
   -- a keyword that stands alone
   pub alone-count : (k : Keyword) → stands_alone k ≡ true → 0 < length arguments
-      → table_fault (body s) (keyword_word k ∷ arguments) ≡ Some fault.BadCount
+      → fault_in_table (body s) (keyword_word k ∷ arguments) ≡ Some fault.BadCount
   alone-count k alone some =
       key-count k 0 (ap (λ f. is_bad_count f arguments) (form-stands_alone (size (grid_in_force s)) k alone))
       (λ e. omega (arith, e, some))
@@ -130,19 +130,19 @@ module _ (s : GridScript) (arguments : List Word) where
 module _ (s : GridScript) (arguments : List Word) (w : Word) (one : arguments ≡ w ∷ []) where
   -- a choice that is none
   pub class-choice : (r : Option Sign) → r ≡ find (λ v. is_word (sign_word v) w) signs → r ≡ None
-      → table_fault (body s) (keyword_word keyword.Class ∷ arguments) ≡ Some fault.BadChoice
+      → fault_in_table (body s) (keyword_word keyword.Class ∷ arguments) ≡ Some fault.BadChoice
   class-choice r is none =
-      ap (λ a. table_fault (body s) (keyword_word keyword.Class ∷ a)) one
-      ∙ table_fault-choice (body s) (keyword_form (size (grid_in_force s)) keyword.Class)
+      ap (λ a. fault_in_table (body s) (keyword_word keyword.Class ∷ a)) one
+      ∙ fault_in_table-choice (body s) (keyword_form (size (grid_in_force s)) keyword.Class)
       (keyword_word keyword.Class ∷ w ∷ [])
       (w ∷ []) refl refl refl refl
       (ap (λ b. b || false) (bad-find sign_word signs w (sym is ∙ none)))
 
   pub turn-choice : (r : Option Side) → r ≡ find (λ v. is_word (side_word v) w) sides → r ≡ None
-      → table_fault (body s) (keyword_word keyword.Turn ∷ arguments) ≡ Some fault.BadChoice
+      → fault_in_table (body s) (keyword_word keyword.Turn ∷ arguments) ≡ Some fault.BadChoice
   turn-choice r is none =
-      ap (λ a. table_fault (body s) (keyword_word keyword.Turn ∷ a)) one
-      ∙ table_fault-choice (body s) (keyword_form (size (grid_in_force s)) keyword.Turn)
+      ap (λ a. fault_in_table (body s) (keyword_word keyword.Turn ∷ a)) one
+      ∙ fault_in_table-choice (body s) (keyword_form (size (grid_in_force s)) keyword.Turn)
       (keyword_word keyword.Turn ∷ w ∷ [])
       (w ∷ []) refl refl refl refl
       (ap (λ b. b || false) (bad-find side_word sides w (sym is ∙ none)))
@@ -176,10 +176,10 @@ module _ (s : GridScript) (g : Marks) (m : ℕ) (arguments : List Word) (w : Wor
     (one : arguments ≡ w ∷ [])
     (long : m ≡ size g) (is : g ≡ grid_in_force s) (value : r ≡ state_of m w) where
   -- a state that is none
-  pub border-state : r ≡ None → table_fault (body s) (keyword_word keyword.Border ∷ arguments) ≡ Some fault.BadState
+  pub border-state : r ≡ None → fault_in_table (body s) (keyword_word keyword.Border ∷ arguments) ≡ Some fault.BadState
   border-state none =
-      ap (λ a. table_fault (body s) (keyword_word keyword.Border ∷ a)) one
-      ∙ table_fault-state (body s) (keyword_form (size (grid_in_force s)) keyword.Border)
+      ap (λ a. fault_in_table (body s) (keyword_word keyword.Border ∷ a)) one
+      ∙ fault_in_table-state (body s) (keyword_form (size (grid_in_force s)) keyword.Border)
       (keyword_word keyword.Border ∷ w ∷ [])
       (w ∷ []) refl refl refl refl refl refl refl refl
       (ap (λ o. is_none o || false) (state_of-at s g m w r None long is value none))
@@ -206,18 +206,18 @@ module _ (s : GridScript) (axis : Axis) (arguments : List Word) where
       at Rows = refl
 
   -- too few or too many words
-  pub commute-count : length arguments ≢ 2 → table_fault (body s) (axis_word axis ∷ arguments) ≡ Some fault.BadCount
+  pub commute-count : length arguments ≢ 2 → fault_in_table (body s) (axis_word axis ∷ arguments) ≡ Some fault.BadCount
   commute-count other =
-      table_fault-count (body s) commute_form (axis_word axis ∷ arguments) arguments refl known refl
+      fault_in_table-count (body s) commute_form (axis_word axis ∷ arguments) arguments refl known refl
       (count-other 2 arguments other)
 
   -- a choice that is none
   pub commute-choice : (w u : Word) (r : Option Corner) → arguments ≡ w ∷ u ∷ []
       → r ≡ find (λ v. is_word (corner_word v) u) corners → r ≡ None
-      → table_fault (body s) (axis_word axis ∷ arguments) ≡ Some fault.BadChoice
+      → fault_in_table (body s) (axis_word axis ∷ arguments) ≡ Some fault.BadChoice
   commute-choice w u r e is none =
-      ap (λ a. table_fault (body s) (axis_word axis ∷ a)) e
-      ∙ table_fault-choice (body s) commute_form (axis_word axis ∷ w ∷ u ∷ []) (w ∷ u ∷ []) refl known refl refl
+      ap (λ a. fault_in_table (body s) (axis_word axis ∷ a)) e
+      ∙ fault_in_table-choice (body s) commute_form (axis_word axis ∷ w ∷ u ∷ []) (w ∷ u ∷ []) refl known refl refl
       (ap (λ b. b || false) (bad-find corner_word corners u (sym is ∙ none)))
 
   module _ (g : Marks) (m : ℕ) (w u : Word) (v : Corner) (r : Option ℕ) (corner : Option Corner)
@@ -236,19 +236,19 @@ module _ (s : GridScript) (axis : Axis) (arguments : List Word) where
     choice = or-false _ ∙ corner-good v
 
     -- a number that is none
-    pub commute-number : r ≡ None → table_fault (body s) (axis_word axis ∷ arguments) ≡ Some fault.BadNumber
+    pub commute-number : r ≡ None → fault_in_table (body s) (axis_word axis ∷ arguments) ≡ Some fault.BadNumber
     commute-number none =
-        ap (λ a. table_fault (body s) (axis_word axis ∷ a)) line
-        ∙ table_fault-number (body s) commute_form (axis_word axis ∷ w ∷ corner_word v ∷ []) (w ∷ corner_word v ∷ [])
+        ap (λ a. fault_in_table (body s) (axis_word axis ∷ a)) line
+        ∙ fault_in_table-number (body s) commute_form (axis_word axis ∷ w ∷ corner_word v ∷ []) (w ∷ corner_word v ∷ [])
         refl known refl refl choice
         (ap (λ o. is_none o || false) (numbered None none))
 
     -- columns or rows that do not commute
     pub commute-commuting : (c : ℕ) → r ≡ Some c → are_commuting axis g c ≡ false
-        → table_fault (body s) (axis_word axis ∷ arguments) ≡ Some fault.NotCommuting
+        → fault_in_table (body s) (axis_word axis ∷ arguments) ≡ Some fault.NotCommuting
     commute-commuting c found fails =
-        ap (λ a. table_fault (body s) (axis_word axis ∷ a)) line
-        ∙ table_fault-commuting (body s) commute_form (axis_word axis ∷ w ∷ corner_word v ∷ [])
+        ap (λ a. fault_in_table (body s) (axis_word axis ∷ a)) line
+        ∙ fault_in_table-commuting (body s) commute_form (axis_word axis ∷ w ∷ corner_word v ∷ [])
         (w ∷ corner_word v ∷ []) refl known refl refl choice
         (ap (λ o. is_none o || false) (numbered (Some c) found)) refl refl refl refl
         (at axis (ap (λ k. are_commuting axis k c) (sym is) ∙ fails))
@@ -280,10 +280,10 @@ module _ (s : GridScript) (axis : Axis) (arguments : List Word) where
 -- a word that is no state
 chain-state : (s : GridScript) (arguments : List Word)
     → list_any (is_bad (state_of_size (size (grid_in_force s)))) arguments ≡ true
-    → table_fault (body s) (keyword_word keyword.Chain ∷ arguments) ≡ Some fault.BadState
+    → fault_in_table (body s) (keyword_word keyword.Chain ∷ arguments) ≡ Some fault.BadState
 chain-state s arguments bad =
     let kind = state_of_size (size (grid_in_force s)) in
-    table_fault-state (body s) (any_number_of kind) (keyword_word keyword.Chain ∷ arguments) arguments
+    fault_in_table-state (body s) (any_number_of kind) (keyword_word keyword.Chain ∷ arguments) arguments
     refl refl refl refl
     (list_any-never (is_bad_by fault.BadChoice kind) arguments (λ w. refl))
     (list_any-never (is_bad_by fault.BadNumber kind) arguments (λ w. refl)) refl refl bad
@@ -292,10 +292,10 @@ chain-state s arguments bad =
 chain-repeated : (s : GridScript) (arguments : List Word)
     → list_any (is_bad (state_of_size (size (grid_in_force s)))) arguments ≡ false
     → has_repeated arguments ≡ true
-    → table_fault (body s) (keyword_word keyword.Chain ∷ arguments) ≡ Some fault.RepeatedState
+    → fault_in_table (body s) (keyword_word keyword.Chain ∷ arguments) ≡ Some fault.RepeatedState
 chain-repeated s arguments good twice =
     let kind = state_of_size (size (grid_in_force s)) in
-    table_fault-repeated (body s) (any_number_of kind) (keyword_word keyword.Chain ∷ arguments) arguments
+    fault_in_table-repeated (body s) (any_number_of kind) (keyword_word keyword.Chain ∷ arguments) arguments
     refl refl refl refl
     (list_any-never (is_bad_by fault.BadChoice kind) arguments (λ w. refl))
     (list_any-never (is_bad_by fault.BadNumber kind) arguments (λ w. refl)) refl refl good twice
@@ -319,7 +319,7 @@ module _ (s : GridScript) (g : Marks) (m : ℕ) (words : List Word) (long : m �
 
   -- a word that is no state
   pub chain-none : list_any (is_bad (state_of_size m)) words ≡ true
-      → table_fault (body s) (keyword_word keyword.Chain ∷ words) ≡ Some fault.BadState
+      → fault_in_table (body s) (keyword_word keyword.Chain ∷ words) ≡ Some fault.BadState
   chain-none bad = chain-state s words (subst (λ k. list_any (is_bad (state_of_size k)) words ≡ true) same bad)
 
   module _ (h : IsScript s) (xs ys : List (List ℕ)) (read : All (IsBijection m) xs × (words ≡ map state_word xs))
@@ -344,7 +344,7 @@ module _ (s : GridScript) (g : Marks) (m : ℕ) (words : List Word) (long : m �
 
     -- states that do not ascend when sorted: two are the same
     pub chain-twice : IsNonDecreasingBy rank ys → (AreStates ys → ⊥)
-        → table_fault (body s) (keyword_word keyword.Chain ∷ words) ≡ Some fault.RepeatedState
+        → fault_in_table (body s) (keyword_word keyword.Chain ∷ words) ≡ Some fault.RepeatedState
     chain-twice sorted none =
         let all : (x : List ℕ) → Contains xs x → IsBijection m x = λ x k. All-contains (IsBijection m) xs x read.0 k in
         chain-repeated s words

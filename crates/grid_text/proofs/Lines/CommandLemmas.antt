@@ -26,7 +26,7 @@ use Rattle.grid_text.specs.Words.{Word, is_comment, is_blank, is_word}
 use Rattle.grid_text.specs.Commands.{sign_word, side_word, corner_word, axis_word, state, argument_word, command_row, command_words, IsLineOf, IsAllowed, IsStateOf}
 use Rattle.grid_text.specs.Script.{GridScript, IsScript, grid_in_force}
 use Rattle.grid_text.specs.Document.{body, end_word}
-use Rattle.grid_text.specs.Faults.{Form, exactly, any_number_of, state_of_size, kind_of, is_bad, is_bad_by, form_at, has_repeated, fails_to_commute, is_not_commuting, table_fault}
+use Rattle.grid_text.specs.Faults.{Form, exactly, any_number_of, state_of_size, kind_of, is_bad, is_bad_by, form_at, has_repeated, fails_to_commute, is_not_commuting, fault_in_table}
 use Rattle.grid_text.specs.declared.commands.Sign.{Sign}
 use Rattle.grid_text.specs.declared.commands.Sign.TheVariants.{Plus, Minus}
 use Rattle.grid_text.specs.declared.commands.Command.{Command}
@@ -36,7 +36,7 @@ use Rattle.grid_text.proofs.Lines.WordLemmas.{is_word-same, numeral-decimal}
 use Rattle.state_rank.proofs.WordLemmas.{state_word_injective}
 use Rattle.grid_text.proofs.Lines.KindLemmas.{state-good, list_any-never, AreGood, arguments-good, arguments-count}
 use Rattle.grid_text.proofs.Lines.KeywordLemmas.{not_end}
-use Rattle.grid_text.proofs.Lines.FaultLemmas.{NoRowHolds, table_fault-last}
+use Rattle.grid_text.proofs.Lines.FaultLemmas.{NoRowHolds, fault_in_table-last}
 use Rattle.grid_text.proofs.Lines.ScriptLemmas.{IsGridOf-grid_in_force}
 use Rattle.grid_text.proofs.States.ChainLemmas.{repeated-none, same_chain}
 
@@ -186,18 +186,18 @@ module _ (s : GridScript) (h : IsScript s) where
   faultless words c e allowed = exact-faultless c words e refl (arguments-allowed (grid_in_force s) c allowed) refl
 
 -- then the last row decides
-pub table_fault-faultless : (s : GridScript) (h : IsScript s) (words : List Word) → IsFaultless s h words
-    → table_fault (body s) words ≡ cond (nat_le max_commands (length s.commands)) (Some fault.TooMany) None
-table_fault-faultless s h words f =
-    ap (table_fault (body s)) f.is
-    ∙ table_fault-last (body s) f.form (f.first ∷ f.arguments) f.arguments refl f.known refl f.rows
+pub fault_in_table-faultless : (s : GridScript) (h : IsScript s) (words : List Word) → IsFaultless s h words
+    → fault_in_table (body s) words ≡ cond (nat_le max_commands (length s.commands)) (Some fault.TooMany) None
+fault_in_table-faultless s h words f =
+    ap (fault_in_table (body s)) f.is
+    ∙ fault_in_table-last (body s) f.form (f.first ∷ f.arguments) f.arguments refl f.known refl f.rows
     ∙ ap (λ b. cond (not b && nat_le max_commands (length s.commands)) (Some fault.TooMany) None) f.no_end
 
 -- the line `end`
-pub table_fault-end : (s : GridScript) (words : List Word) → words ≡ end_word ∷ [] → table_fault (body s) words ≡ None
-table_fault-end s words e =
-    ap (table_fault (body s)) e
-    ∙ table_fault-last (body s) (exactly []) (end_word ∷ []) [] refl refl refl
+pub fault_in_table-end : (s : GridScript) (words : List Word) → words ≡ end_word ∷ [] → fault_in_table (body s) words ≡ None
+fault_in_table-end s words e =
+    ap (fault_in_table (body s)) e
+    ∙ fault_in_table-last (body s) (exactly []) (end_word ∷ []) [] refl refl refl
     (record {
       count = refl;
       choice = refl;

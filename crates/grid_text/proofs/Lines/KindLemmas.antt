@@ -15,9 +15,8 @@ use Rattle.grid_moves.specs.declared.turns.Side.TheVariants.{Left, Right, Up, Do
 use Rattle.pentagon_map.specs.declared.Corner.{Corner}
 use Rattle.pentagon_map.specs.declared.Corner.TheVariants.{Over, Under}
 use Rattle.grid_text.specs.Words.{Word, is_word, numeral, state_of}
-use Rattle.grid_text.specs.FaultWords.{fault_word}
 use Rattle.grid_text.specs.Commands.{sign_word, signs, side_word, sides, corner_word, corners, Argument, sign, side, corner, number, state, argument_word}
-use Rattle.grid_text.specs.Faults.{Kind, choice_of, number_between, state_of_size, kind_fault, is_bad, kind_of, is_bad_by, has_bad, exactly, is_bad_count}
+use Rattle.grid_text.specs.Faults.{Kind, choice_of, number_between, state_of_size, is_fault_of, is_bad, kind_of, is_bad_by, has_bad, exactly, is_bad_count}
 use Rattle.grid_text.specs.declared.commands.Sign.{Sign}
 use Rattle.grid_text.specs.declared.commands.Sign.TheVariants.{Plus, Minus}
 use Rattle.grid_text.specs.declared.faults.TextFault.{TextFault}
@@ -165,8 +164,8 @@ module _ (n : ℕ) (fits : n < 2 ^ 64) where
   arguments-good f [] h = refl
   arguments-good f (a ∷ arguments) h =
       let here : is_bad_by f (kind_of n a) (argument_word a) ≡ false =
-      ap (λ b. is_word (fault_word f) (fault_word (kind_fault (kind_of n a))) && b) (argument-good a h.0)
-      ∙ and-false (is_word (fault_word f) (fault_word (kind_fault (kind_of n a)))) in
+      ap (λ b. is_fault_of f (kind_of n a) && b) (argument-good a h.0)
+      ∙ and-false (is_fault_of f (kind_of n a)) in
       ap (λ b. b || list_any (λ (p : Kind × Word). is_bad_by f p.0 p.1)
       (zip (map (kind_of n) arguments) (map argument_word arguments))) here
       ∙ arguments-good f arguments h.1

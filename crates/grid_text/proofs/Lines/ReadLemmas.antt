@@ -22,7 +22,7 @@ use Rattle.grid_text.specs.Words.{Word, numeral}
 use Rattle.grid_text.specs.Commands.{sign_word, signs, side_word, sides, corner_word, corners, axis_word, IsLineOf, IsAllowed, IsStateOf}
 use Rattle.grid_text.specs.Script.{GridScript, IsScript, grid_in_force}
 use Rattle.grid_text.specs.Document.{body, end_word}
-use Rattle.grid_text.specs.Faults.{exactly, choice_of, number_between, state_of_size, is_bad, is_bad_count, has_bad, has_repeated, fails_to_commute, is_not_commuting, is_one_too_many, table_fault}
+use Rattle.grid_text.specs.Faults.{exactly, choice_of, number_between, state_of_size, is_bad, is_bad_count, has_bad, has_repeated, fails_to_commute, is_not_commuting, is_one_too_many, fault_in_table}
 use Rattle.grid_text.specs.Inner.Reading.{example, keyword_word, keyword_form}
 use Rattle.grid_text.specs.declared.keywords.Keyword.{Keyword}
 use Rattle.grid_text.specs.declared.keywords.Keyword.TheVariants as keyword
@@ -33,7 +33,7 @@ use Rattle.grid_text.proofs.Lines.WordLemmas.{numeral-decimal}
 use Rattle.grid_text.proofs.Lines.KindLemmas.{count-same, one_word, two_words, value_of_word, number_of_word, state_of_word}
 use Rattle.grid_text.proofs.Lines.KeywordLemmas.{keyword_cases, form_at-keyword, keyword_of_axis}
 use Rattle.grid_text.proofs.Lines.ScriptLemmas.{IsGridOf-grid_in_force}
-use Rattle.grid_text.proofs.Lines.FaultLemmas.{NoRowHolds, NoRowHolds-from_none, table_fault-no_word, table_fault-bad_word}
+use Rattle.grid_text.proofs.Lines.FaultLemmas.{NoRowHolds, NoRowHolds-from_none, fault_in_table-no_word, fault_in_table-bad_word}
 use Rattle.grid_text.proofs.Lines.CommandLemmas.{chain_words}
 use Rattle.grid_text.proofs.States.ChainLemmas.{apart-states, ascending_of}
 
@@ -88,7 +88,7 @@ module _ (s : GridScript) (h : IsScript s) where
       NoRowHolds (body s) (keyword_form n k) (keyword_word k ∷ arguments) arguments
       × (is_one_too_many (body s) (keyword_word k ∷ arguments) ≡ false)
 
-  rest_of : (k : Keyword) (arguments : List Word) → table_fault (body s) (keyword_word k ∷ arguments) ≡ None
+  rest_of : (k : Keyword) (arguments : List Word) → fault_in_table (body s) (keyword_word k ∷ arguments) ≡ None
       → Rest k arguments
   rest_of k arguments none =
       NoRowHolds-from_none (body s) (keyword_form n k) (keyword_word k ∷ arguments) arguments refl
@@ -197,14 +197,14 @@ module _ (s : GridScript) (h : IsScript s) where
   key-good k arguments r = alone-good k (option_map_or (λ c. c) (example k) command.Front) arguments refl refl tt refl r
 
   -- a line without a fault is `end`, or that of a command that may stand there
-  pub body-read : (words : List Word) → table_fault (body s) words ≡ None
+  pub body-read : (words : List Word) → fault_in_table (body s) words ≡ None
       → (words ≡ end_word ∷ []) ⊎ ((c : Command) × (IsLineOf words c × IsAllowed (grid_in_force s) c
       × (length s.commands < max_commands)))
-  body-read [] none = let clash : Some fault.BadWord ≡ None = sym (table_fault-no_word (body s) refl) ∙ none in cc
+  body-read [] none = let clash : Some fault.BadWord ≡ None = sym (fault_in_table-no_word (body s) refl) ∙ none in cc
   body-read (w ∷ arguments) none = elim (keyword_cases n w) [
     | inl k ↦ subst (λ v. IsGood (v ∷ arguments)) (sym k.1)
         (key-good k.0 arguments (rest_of k.0 arguments
-        (ap (λ v. table_fault (body s) (v ∷ arguments)) (sym k.1) ∙ none)))
+        (ap (λ v. fault_in_table (body s) (v ∷ arguments)) (sym k.1) ∙ none)))
     | inr unknown ↦ let clash : Some fault.BadWord ≡ None =
-        sym (table_fault-bad_word (body s) w arguments refl unknown) ∙ none in cc
+        sym (fault_in_table-bad_word (body s) w arguments refl unknown) ∙ none in cc
   ]

@@ -9,11 +9,11 @@ use Rattle.std.proofs.Math.Bool.{or-false}
 use Rattle.state_rank.specs.Bijection.{IsSize}
 use Rattle.grid_text.specs.Words.{Word, is_word, numeral}
 use Rattle.grid_text.specs.Document.{head, grid_word, picture_word}
-use Rattle.grid_text.specs.Faults.{number_between, is_bad, size_form, form_at, has_bad, table_fault}
+use Rattle.grid_text.specs.Faults.{number_between, is_bad, size_form, form_at, has_bad, fault_in_table}
 use Rattle.grid_text.specs.declared.faults.TextFault.TheVariants as fault
 use Rattle.grid_text.proofs.Lines.WordLemmas.{same_word, is_word-other}
 use Rattle.grid_text.proofs.Lines.KindLemmas.{count-other, count-same, one_word, number_of_word, number-good}
-use Rattle.grid_text.proofs.Lines.FaultLemmas.{NoRowHolds-from_none, table_fault-no_word, table_fault-bad_word, table_fault-last, table_fault-count, table_fault-number}
+use Rattle.grid_text.proofs.Lines.FaultLemmas.{NoRowHolds-from_none, fault_in_table-no_word, fault_in_table-bad_word, fault_in_table-last, fault_in_table-count, fault_in_table-number}
 
 -- another first word is not known there
 head-unknown : (w : Word) → is_word grid_word w ≡ false → is_word picture_word w ≡ false → form_at head w ≡ None
@@ -22,32 +22,32 @@ head-unknown w not_grid not_picture =
     ∙ ap (λ b. cond b (Some size_form) None) not_picture
 
 pub head-word : (words : List Word) → ((rest : List Word) → words ≢ picture_word ∷ rest)
-    → ((rest : List Word) → words ≢ grid_word ∷ rest) → table_fault head words ≡ Some fault.BadWord
-head-word [] not_picture not_grid = table_fault-no_word head refl
+    → ((rest : List Word) → words ≢ grid_word ∷ rest) → fault_in_table head words ≡ Some fault.BadWord
+head-word [] not_picture not_grid = fault_in_table-no_word head refl
 head-word (w ∷ arguments) not_picture not_grid =
-    table_fault-bad_word head w arguments refl
+    fault_in_table-bad_word head w arguments refl
     (head-unknown w (is_word-other grid_word w (λ e. not_grid arguments (ap (λ v. v ∷ arguments) (sym e))))
     (is_word-other picture_word w (λ e. not_picture arguments (ap (λ v. v ∷ arguments) (sym e)))))
 
 module _ (word : Word) (known : form_at head word ≡ Some size_form) where
   -- another number of words
   pub head-count : (arguments : List Word) → length arguments ≢ 1
-      → table_fault head (word ∷ arguments) ≡ Some fault.BadCount
+      → fault_in_table head (word ∷ arguments) ≡ Some fault.BadCount
   head-count arguments other =
-      table_fault-count head size_form (word ∷ arguments) arguments refl known refl (count-other 1 arguments other)
+      fault_in_table-count head size_form (word ∷ arguments) arguments refl known refl (count-other 1 arguments other)
 
   -- a word that is no size
   pub head-number : (arguments : List Word) (w : Word) → arguments ≡ w ∷ [] → numeral 2 9 w ≡ None
-      → table_fault head (word ∷ arguments) ≡ Some fault.BadNumber
+      → fault_in_table head (word ∷ arguments) ≡ Some fault.BadNumber
   head-number arguments w one bad =
-      ap (λ a. table_fault head (word ∷ a)) one
-      ∙ table_fault-number head size_form (word ∷ w ∷ []) (w ∷ []) refl known refl refl refl
+      ap (λ a. fault_in_table head (word ∷ a)) one
+      ∙ fault_in_table-number head size_form (word ∷ w ∷ []) (w ∷ []) refl known refl refl refl
       (ap (λ o. is_none o || false) bad)
 
   -- a right one has no fault
-  pub head-right : (n : ℕ) → IsSize n → table_fault head (word ∷ decimal n ∷ []) ≡ None
+  pub head-right : (n : ℕ) → IsSize n → fault_in_table head (word ∷ decimal n ∷ []) ≡ None
   head-right n small =
-      table_fault-last head size_form (word ∷ decimal n ∷ []) (decimal n ∷ []) refl known refl (record {
+      fault_in_table-last head size_form (word ∷ decimal n ∷ []) (decimal n ∷ []) refl known refl (record {
         count = refl;
         choice = refl;
         number = ap (λ b. b || false) (number-good 2 9 n small.least small.greatest (omega arith));
@@ -59,7 +59,7 @@ module _ (word : Word) (known : form_at head word ≡ Some size_form) where
       })
 
   -- and the other way round
-  head-read : (arguments : List Word) → table_fault head (word ∷ arguments) ≡ None
+  head-read : (arguments : List Word) → fault_in_table head (word ∷ arguments) ≡ None
       → (n : ℕ) × (IsSize n × (arguments ≡ decimal n ∷ []))
   head-read arguments e =
       let rows = NoRowHolds-from_none head size_form (word ∷ arguments) arguments refl known refl e in
@@ -69,22 +69,22 @@ module _ (word : Word) (known : form_at head word ≡ Some size_form) where
       (n.0, (record { least = n.1.1; greatest = n.1.2 }, one.1 ∙ ap (λ v. v ∷ []) n.1.0))
 
 -- what is known of a first line without a fault
-pub head-cases : (words : List Word) → table_fault head words ≡ None
+pub head-cases : (words : List Word) → fault_in_table head words ≡ None
     → (n : ℕ) × (IsSize n × ((words ≡ grid_word ∷ decimal n ∷ []) ⊎ (words ≡ picture_word ∷ decimal n ∷ [])))
-head-cases [] e = let none : Some fault.BadWord ≡ None = sym (table_fault-no_word head refl) ∙ e in cc
+head-cases [] e = let none : Some fault.BadWord ≡ None = sym (fault_in_table-no_word head refl) ∙ e in cc
 head-cases (w ∷ arguments) e = elim (cases_Bool (is_word grid_word w)) [
   | inl t ↦
       let same = same_word grid_word w t in
-      let r = head-read grid_word refl arguments (ap (λ v. table_fault head (v ∷ arguments)) same ∙ e) in
+      let r = head-read grid_word refl arguments (ap (λ v. fault_in_table head (v ∷ arguments)) same ∙ e) in
       (r.0, (r.1.0, inl (λ i. sym same i ∷ r.1.1 i)))
   | inr not_grid ↦ elim (cases_Bool (is_word picture_word w)) [
     | inl t ↦
         let same = same_word picture_word w t in
-        let r = head-read picture_word refl arguments (ap (λ v. table_fault head (v ∷ arguments)) same ∙ e) in
+        let r = head-read picture_word refl arguments (ap (λ v. fault_in_table head (v ∷ arguments)) same ∙ e) in
         (r.0, (r.1.0, inr (λ i. sym same i ∷ r.1.1 i)))
     | inr not_picture ↦
         let none : Some fault.BadWord ≡ None =
-        sym (table_fault-bad_word head w arguments refl (head-unknown w not_grid not_picture)) ∙ e in cc
+        sym (fault_in_table-bad_word head w arguments refl (head-unknown w not_grid not_picture)) ∙ e in cc
   ]
 ]
 

@@ -10,14 +10,14 @@ use Rattle.grid_text.specs.Picture.{grid_of_rows}
 use Rattle.grid_text.specs.Words.{Word, is_blank, lines_of, words_of, words_of_lines}
 use Rattle.grid_text.specs.Script.{GridScript}
 use Rattle.grid_text.specs.Document.{Place, head, o_line, x_line, picture, body, ended, body_of, below_row, LeadsOn, Leads, Path, AreLinesOf, IsDocument, IsHeadLine}
-use Rattle.grid_text.specs.Faults.{fault_at, is_after_end, HaveFirstFault, IsFirstFault}
+use Rattle.grid_text.specs.Faults.{line_fault, is_after_end, HaveFirstFault, IsFirstFault}
 use Rattle.grid_text.specs.Inner.Reading.{IsPlace}
 use Rattle.grid_text.specs.Inner.Next.{place_of, is_head, IsNextOn, IsNext}
 use Rattle.grid_text.specs.declared.places.Place.{Place as StoredPlace}
 use Rattle.grid_text.specs.declared.places.Place.TheVariants as stored
 use Rattle.grid_text.specs.declared.faults.TextFault.{TextFault}
 use Rattle.grid_text.specs.declared.faults.TextFault.TheVariants as fault
-use Rattle.grid_text.proofs.Paths.PlaceLemmas.{filled-leads_on, IsPlace-next, IsPlace-path, fault_at-leads, fault_at-filled, leads-no_fault, one_place}
+use Rattle.grid_text.proofs.Paths.PlaceLemmas.{filled-leads_on, IsPlace-next, IsPlace-path, line_fault-leads, line_fault-filled, leads-no_fault, one_place}
 
 -- at the head all lines are blank; past it, the line where it begins is known
 abbrev HasHead : List (List Word) → ℕ → Place → Type 0
@@ -139,7 +139,7 @@ HasRead-more text line grid_line begins rest bytes after p q h from e shorter ne
 -- a line with a fault is the first
 pub HasRead-fault : (text : List ℕ) (line grid_line : ℕ) (rest bytes after : List ℕ) (p : Place) (f : TextFault)
     → HasRead text line grid_line rest p → lines_of rest ≡ bytes ∷ lines_of after
-    → fault_at p (words_of bytes) ≡ Some f → IsFirstFault text f line
+    → line_fault p (words_of bytes) ≡ Some f → IsFirstFault text f line
 HasRead-fault text line grid_line rest bytes after p f h e faulty = inl (record {
   before = h.before;
   words = words_of bytes;
@@ -185,7 +185,7 @@ is_head-other p other = refl
 IsNext-on : (p : Place) (words : List Word) (r : Result StoredPlace TextFault) → is_blank words ≡ false
     → IsNextOn p words r → IsNext p words r
 IsNext-on p words (Ok q) filled next = (inr next.0, next.1)
-IsNext-on p words (Err f) filled faulty = fault_at-filled p words filled ∙ faulty
+IsNext-on p words (Err f) filled faulty = line_fault-filled p words filled ∙ faulty
 
 -- as the reader has it
 pub next-read : {E : Type 0} (p : Place) (words line : List Word) (blank : Bool)
@@ -239,7 +239,7 @@ pub no_document_of_lines : (lines : List (List Word)) (f : TextFault) (line : �
 no_document_of_lines lines f line s (inl first) d =
     let path = Path-rest head first.place (ended s) first.before (first.words ∷ first.after) tt first.path
     (subst (λ ls. Path head ls (ended s)) first.split d) in
-    let none = fault_at-leads first.place path.0 first.words
+    let none = line_fault-leads first.place path.0 first.words
     (IsPlace-path head first.place first.before tt first.path) path.1 in
     let clash : Some f ≡ None = sym first.faulty ∙ none in
     cc
@@ -254,10 +254,10 @@ no_document text f line s first d = no_document_of_lines (words_of_lines text) f
 
 -- a line is allowed at a place that lines lead to exactly where it has no fault
 pub allowed : (lines : List (List Word)) (p : Place) (words : List Word) → Path head lines p
-    → (fault_at p words ≡ None) ↔ ((q : Place) × Leads p words q)
+    → (line_fault p words ≡ None) ↔ ((q : Place) × Leads p words q)
 allowed lines p words path =
     let h = IsPlace-path head p lines tt path in
-    ((λ none. leads-no_fault p words h none), (λ l. fault_at-leads p l.0 words h l.1))
+    ((λ none. leads-no_fault p words h none), (λ l. line_fault-leads p l.0 words h l.1))
 
 -- and then leads to one place
 pub one_place_of_path : (lines : List (List Word)) (p q r : Place) (words : List Word) → Path head lines p

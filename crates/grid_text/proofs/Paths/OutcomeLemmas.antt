@@ -7,11 +7,11 @@ use Rattle.std.proofs.lemmas.List.{append-nil, append_assoc}
 use Rattle.grid_text.specs.Words.{Word, words_of_lines}
 use Rattle.grid_text.specs.Script.{GridScript}
 use Rattle.grid_text.specs.Document.{Place, head, o_line, x_line, picture, body, ended, Leads, Path, AreLinesOf, IsDocument}
-use Rattle.grid_text.specs.Faults.{fault_at, is_after_end, HaveFault, HaveNoEnd, HaveFirstFault, IsFirstFault}
+use Rattle.grid_text.specs.Faults.{line_fault, is_after_end, HaveFault, HaveNoEnd, HaveFirstFault, IsFirstFault}
 use Rattle.grid_text.specs.Inner.Reading.{IsPlace}
 use Rattle.grid_text.specs.declared.faults.TextFault.{TextFault}
 use Rattle.grid_text.specs.declared.faults.TextFault.TheVariants as fault
-use Rattle.grid_text.proofs.Paths.PlaceLemmas.{IsPlace-next, IsPlace-path, fault_at-leads, leads-no_fault, one_place}
+use Rattle.grid_text.proofs.Paths.PlaceLemmas.{IsPlace-next, IsPlace-path, line_fault-leads, leads-no_fault, one_place}
 use Rattle.grid_text.proofs.Paths.JudgementLemmas.{Path-more, Path-rest, head_of, tail_of}
 
 -- lines are those of a script, or have a first fault
@@ -43,7 +43,7 @@ at_the_end lines (body s) path = no_end lines (body s) path refl
 -- one line has a fault or leads on
 one_line : (lines before after : List (List Word)) (words : List Word) (p : Place) → lines ≡ before ++ words ∷ after
     → Path head before p → ((q : Place) → Leads p words q → Outcome lines) → (o : Option TextFault)
-    → fault_at p words ≡ o
+    → line_fault p words ≡ o
     → Outcome lines
 one_line lines before after words p e path next None none =
     let led = leads-no_fault p words (IsPlace-path head p before tt path) none in next led.0 led.1
@@ -72,7 +72,7 @@ from_place lines before (words ∷ after) p e path =
     one_line lines before after words p e path
     (λ q l. from_place lines (before ++ words ∷ []) after q (e ∙ sym (append_assoc before (words ∷ []) after))
     (Path-more head p q before words path l))
-    (fault_at p words) refl
+    (line_fault p words) refl
 
 -- any lines
 pub every_outcome : (lines : List (List Word)) → Outcome lines
@@ -88,22 +88,22 @@ every_text text = every_outcome (words_of_lines text)
 -- the first faults of the same lines are one
 same_fault : (p q r : Place) (a b after later : List (List Word)) (v w : List Word) (f g : TextFault) → IsPlace p
     → Path p a q → Path p b r
-    → a ++ v ∷ after ≡ b ++ w ∷ later → fault_at q v ≡ Some f → fault_at r w ≡ Some g → (f ≡ g) × (length a ≡ length b)
+    → a ++ v ∷ after ≡ b ++ w ∷ later → line_fault q v ≡ Some f → line_fault r w ≡ Some g → (f ≡ g) × (length a ≡ length b)
 unfolding head_of tail_of
 same_fault p q r [] [] after later v w f g h s t e x y =
     let words : v ≡ w = ap (head_of v) e in
     let places : q ≡ r = sym s ∙ t in
-    let both : Some f ≡ Some g = sym x ∙ ap (λ k. fault_at k v) places ∙ ap (fault_at r) words ∙ y in
+    let both : Some f ≡ Some g = sym x ∙ ap (λ k. line_fault k v) places ∙ ap (line_fault r) words ∙ y in
     (cc, refl)
 same_fault p q r [] (u ∷ b) after later v w f g h s t e x y =
     let words : v ≡ u = ap (head_of v) e in
-    let none = fault_at-leads p t.0 u h t.1 in
-    let clash : Some f ≡ None = sym x ∙ ap (λ k. fault_at k v) (sym s) ∙ ap (fault_at p) words ∙ none in
+    let none = line_fault-leads p t.0 u h t.1 in
+    let clash : Some f ≡ None = sym x ∙ ap (λ k. line_fault k v) (sym s) ∙ ap (line_fault p) words ∙ none in
     cc
 same_fault p q r (u ∷ a) [] after later v w f g h s t e x y =
     let words : u ≡ w = ap (head_of u) e in
-    let none = fault_at-leads p s.0 u h s.1 in
-    let clash : Some g ≡ None = sym y ∙ ap (λ k. fault_at k w) (sym t) ∙ ap (fault_at p) (sym words) ∙ none in
+    let none = line_fault-leads p s.0 u h s.1 in
+    let clash : Some g ≡ None = sym y ∙ ap (λ k. line_fault k w) (sym t) ∙ ap (line_fault p) (sym words) ∙ none in
     cc
 same_fault p q r (u ∷ a) (z ∷ b) after later v w f g h s t e x y =
     let words : u ≡ z = ap (head_of u) e in
@@ -118,7 +118,7 @@ not_open : (lines : List (List Word)) (f : TextFault) (line number : ℕ) → Ha
 not_open lines f line number first open_end =
     let path = Path-rest head first.place open_end.place first.before (first.words ∷ first.after) tt first.path
     (subst (λ ls. Path head ls open_end.place) first.split open_end.path) in
-    let none = fault_at-leads first.place path.0 first.words
+    let none = line_fault-leads first.place path.0 first.words
     (IsPlace-path head first.place first.before tt first.path) path.1 in
     let clash : Some f ≡ None = sym first.faulty ∙ none in
     cc

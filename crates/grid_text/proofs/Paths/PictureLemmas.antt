@@ -15,14 +15,14 @@ use Rattle.torus_geom.proofs.TransposeLemmas.{IsGrid-transposed}
 use Rattle.grid_text.specs.Words.{Word, symbols, is_word, is_blank}
 use Rattle.grid_text.specs.Picture.{row_symbols, FitsRow, o_symbol, x_symbol, grid_of_rows}
 use Rattle.grid_text.specs.Document.{Place, picture, body_of, below_row, LeadsOn, o_word, x_word}
-use Rattle.grid_text.specs.Faults.{choice_of, is_bad, is_bad_by, is_bad_count, has_bad, symbol_words, picture_form, form_of_line, stands_once, stands_in, is_not_permutation, table_fault}
+use Rattle.grid_text.specs.Faults.{choice_of, is_bad, is_bad_by, is_bad_count, has_bad, symbol_words, picture_form, form_of_line, stands_once, stands_in, is_not_permutation, fault_in_table}
 use Rattle.grid_text.specs.Inner.Pictures.{AreColumns, IsPartOfPicture, IsOnly, row_words}
 use Rattle.grid_text.specs.Inner.Reading.{IsPlace}
 use Rattle.grid_text.specs.declared.faults.TextFault.TheVariants as fault
 use Rattle.state_rank.specs.Bijection.{IsSize, IsBijection}
 use Rattle.grid_text.proofs.Lines.ScriptLemmas.{IsScript-no_command}
 use Rattle.grid_text.proofs.Lines.KindLemmas.{list_any-never, count-other, count-same, count-right}
-use Rattle.grid_text.proofs.Lines.FaultLemmas.{NoRowHolds-from_none, table_fault-last, table_fault-count, table_fault-choice, table_fault-permutation}
+use Rattle.grid_text.proofs.Lines.FaultLemmas.{NoRowHolds-from_none, fault_in_table-last, fault_in_table-count, fault_in_table-choice, fault_in_table-permutation}
 use Rattle.grid_text.proofs.States.RepeatedLemmas.{list_any-none, none-list_any, IsBijection-from_apart}
 use Rattle.grid_text.proofs.Paths.MarkLemmas.{once-IsOnly, IsOnly-once, length-row_words, length-row_symbols, get_or-row_symbols, IsOnly-o, IsOnly-x, row_symbols-good, symbol-here, row_of_marks, no_comment}
 use Rattle.grid_text.proofs.Paths.RowLemmas.{zip-replicate}
@@ -121,9 +121,9 @@ module _ (n : ℕ) (o x : List ℕ) (words : List Word) (filled : is_blank words
   its_words = row_words (symbols words)
 
   -- another number of symbols
-  picture-count : length (symbols words) ≢ n → table_fault (picture n o x) words ≡ Some fault.BadCount
+  picture-count : length (symbols words) ≢ n → fault_in_table (picture n o x) words ≡ Some fault.BadCount
   picture-count other =
-      table_fault-count (picture n o x) (picture_form n) words its_words refl (row-known n o x words filled) refl
+      fault_in_table-count (picture n o x) (picture_form n) words its_words refl (row-known n o x words filled) refl
       (count-other (length (replicate n (choice_of symbol_words))) its_words
       (λ same. other (sym (length-row_words (symbols words)) ∙ same ∙ length-replicate n (choice_of symbol_words))))
 
@@ -138,9 +138,9 @@ module _ (n : ℕ) (o x : List ℕ) (words : List Word) (filled : is_blank words
 
     -- a symbol that is none
     picture-choice : list_any (is_bad (choice_of symbol_words)) its_words ≡ true
-        → table_fault (picture n o x) words ≡ Some fault.BadChoice
+        → fault_in_table (picture n o x) words ≡ Some fault.BadChoice
     picture-choice bad =
-        table_fault-choice (picture n o x) (picture_form n) words its_words refl (row-known n o x words filled) refl
+        fault_in_table-choice (picture n o x) (picture_form n) words its_words refl (row-known n o x words filled) refl
         row-counted
         (zip-replicate (is_bad_by fault.BadChoice) (choice_of symbol_words) n its_words row-long ∙ bad)
 
@@ -159,15 +159,15 @@ module _ (n : ℕ) (o x : List ℕ) (words : List Word) (filled : is_blank words
 
       -- marks that may not stand there
       picture-permutation : is_not_permutation (picture n o x) its_words ≡ true
-          → table_fault (picture n o x) words ≡ Some fault.NotPermutation
+          → fault_in_table (picture n o x) words ≡ Some fault.NotPermutation
       picture-permutation wrong =
-          table_fault-permutation (picture n o x) (picture_form n) words its_words refl
+          fault_in_table-permutation (picture n o x) (picture_form n) words its_words refl
           (row-known n o x words filled) refl row-counted row-choices row-numbers wrong
 
       -- marks that may
-      row-right : is_not_permutation (picture n o x) its_words ≡ false → table_fault (picture n o x) words ≡ None
+      row-right : is_not_permutation (picture n o x) its_words ≡ false → fault_in_table (picture n o x) words ≡ None
       row-right right =
-          table_fault-last (picture n o x) (picture_form n) words its_words refl (row-known n o x words filled) refl
+          fault_in_table-last (picture n o x) (picture_form n) words its_words refl (row-known n o x words filled) refl
           (record {
             count = row-counted;
             choice = row-choices;
@@ -231,7 +231,7 @@ stands_in-new w columns arguments n c long below only new =
 -- a right row has no fault
 pub picture-right : (n : ℕ) (o x : List ℕ) (words : List Word) (c d : ℕ) → IsPartOfPicture n o x
     → FitsRow n o x c d → symbols words ≡ row_symbols n c d → is_blank words ≡ false
-    → table_fault (picture n o x) words ≡ None
+    → fault_in_table (picture n o x) words ≡ None
 picture-right n o x words c d h fits e filled =
     let long : length (symbols words) ≡ n = ap length e ∙ length-row_symbols n c d in
     let only_o = subst (λ r. IsOnly (is_word o_word) (row_words r) c) (sym e) (IsOnly-o n c d fits.o_within) in
@@ -278,7 +278,7 @@ new_column w columns arguments c only none m =
 
 -- a row without a fault has its marks in new columns
 pub picture-read : (n : ℕ) (o x : List ℕ) (words : List Word) → is_blank words ≡ false
-    → table_fault (picture n o x) words ≡ None
+    → fault_in_table (picture n o x) words ≡ None
     → (c : ℕ) × ((d : ℕ) × (FitsRow n o x c d × (symbols words ≡ row_symbols n c d)))
 picture-read n o x words filled none =
     let row = symbols words in
@@ -327,12 +327,12 @@ list_any-row_words p (b ∷ row) = ap (λ t. p (b ∷ []) || t) (list_any-row_wo
 
 module _ (n : ℕ) (o x row : List ℕ) (words : List Word) (filled : is_blank words ≡ false)
     (its_symbols : symbols words ≡ row) where
-  pub read-count : length row ≢ n → table_fault (picture n o x) words ≡ Some fault.BadCount
+  pub read-count : length row ≢ n → fault_in_table (picture n o x) words ≡ Some fault.BadCount
   read-count other = picture-count n o x words filled (λ same. other (ap length (sym its_symbols) ∙ same))
 
   module _ (long : length row ≡ n) where
     pub read-choice : list_any (λ b. is_bad (choice_of symbol_words) (b ∷ [])) row ≡ true
-        → table_fault (picture n o x) words ≡ Some fault.BadChoice
+        → fault_in_table (picture n o x) words ≡ Some fault.BadChoice
     read-choice bad =
         picture-choice n o x words filled (ap length its_symbols ∙ long)
         (ap (λ r. list_any (is_bad (choice_of symbol_words)) (row_words r)) its_symbols
@@ -340,7 +340,7 @@ module _ (n : ℕ) (o x row : List ℕ) (words : List Word) (filled : is_blank w
 
     pub read-permutation : list_any (λ b. is_bad (choice_of symbol_words) (b ∷ [])) row ≡ false
         → is_not_permutation (picture n o x) (row_words row) ≡ true
-        → table_fault (picture n o x) words ≡ Some fault.NotPermutation
+        → fault_in_table (picture n o x) words ≡ Some fault.NotPermutation
     read-permutation good wrong =
         picture-permutation n o x words filled (ap length its_symbols ∙ long)
         (ap (λ r. list_any (is_bad (choice_of symbol_words)) (row_words r)) its_symbols

@@ -14,7 +14,7 @@ use Rattle.torus_geom.specs.Marks.{IsGrid}
 use Rattle.grid_text.specs.Words.{Word, symbols, is_word, is_blank}
 use Rattle.grid_text.specs.Script.{with_command}
 use Rattle.grid_text.specs.Document.{Place, head, o_line, x_line, picture, body, below_row, ended, LeadsOn, Leads, Path, grid_word, o_word, x_word, picture_word}
-use Rattle.grid_text.specs.Faults.{table_fault, fault_at}
+use Rattle.grid_text.specs.Faults.{fault_in_table, line_fault}
 use Rattle.grid_text.specs.Inner.Reading.{IsPlace}
 use Rattle.grid_text.specs.Limits.{max_commands}
 use Rattle.grid_text.specs.declared.faults.TextFault.TheVariants as fault
@@ -22,8 +22,8 @@ use Rattle.grid_text.proofs.Lines.ScriptLemmas.{IsScript-with_command, IsScript-
 use Rattle.grid_text.proofs.Lines.ReadLemmas.{body-read}
 use Rattle.std.proofs.lemmas.Bool.{lt-leb, cases_Bool}
 use Rattle.grid_text.proofs.States.RepeatedLemmas.{below-IsBijection}
-use Rattle.grid_text.proofs.Lines.CommandLemmas.{faultless, table_fault-faultless, table_fault-end, command-not_end, command-filled, one_command}
-use Rattle.grid_text.proofs.Lines.FaultLemmas.{table_fault-ended}
+use Rattle.grid_text.proofs.Lines.CommandLemmas.{faultless, fault_in_table-faultless, fault_in_table-end, command-not_end, command-filled, one_command}
+use Rattle.grid_text.proofs.Lines.FaultLemmas.{fault_in_table-ended}
 use Rattle.grid_text.proofs.Lines.WordLemmas.{is_word-same}
 use Rattle.grid_text.proofs.Paths.HeadLemmas.{head-right, head-cases}
 use Rattle.grid_text.proofs.Paths.PictureLemmas.{IsPartOfPicture-none, IsPartOfPicture-more, IsPlace-below_row, picture-right, picture-read, filled-row}
@@ -63,22 +63,22 @@ few-last : (n : ℕ) → n < max_commands → nat_le max_commands n ≡ false
 few-last n few = lt-leb max_commands n few
 
 -- a line of a form that is allowed has no fault in the table
-table_fault-leads_on : (p q : Place) (words : List Word) → IsPlace p → LeadsOn p words q → table_fault p words ≡ None
-table_fault-leads_on head q words h (n, small, inl l) = ap (table_fault head) l.0 ∙ head-right grid_word refl n small
-table_fault-leads_on head q words h (n, small, inr l) =
-    ap (table_fault head) l.0 ∙ head-right picture_word refl n small
-table_fault-leads_on (o_line n) q words h l = o_line-right n l.0 words h l.1 l.2
-table_fault-leads_on (x_line n o) q words h l = x_line-right n o l.0 words h.0 h.1 l.1 l.2 l.3
-table_fault-leads_on (picture n o x) q words h l =
+fault_in_table-leads_on : (p q : Place) (words : List Word) → IsPlace p → LeadsOn p words q → fault_in_table p words ≡ None
+fault_in_table-leads_on head q words h (n, small, inl l) = ap (fault_in_table head) l.0 ∙ head-right grid_word refl n small
+fault_in_table-leads_on head q words h (n, small, inr l) =
+    ap (fault_in_table head) l.0 ∙ head-right picture_word refl n small
+fault_in_table-leads_on (o_line n) q words h l = o_line-right n l.0 words h l.1 l.2
+fault_in_table-leads_on (x_line n o) q words h l = x_line-right n o l.0 words h.0 h.1 l.1 l.2 l.3
+fault_in_table-leads_on (picture n o x) q words h l =
     picture-right n o x words l.0 l.1 h.1 l.2 l.3 (filled-row n words l.0 l.1 (omega (arith, h.2)) l.3)
-table_fault-leads_on (body s) q words h (inl l) = table_fault-end s words l.0
-table_fault-leads_on (body s) q words h (inr l) =
-    table_fault-faultless s h words (faultless s h words l.0 l.1 l.2)
+fault_in_table-leads_on (body s) q words h (inl l) = fault_in_table-end s words l.0
+fault_in_table-leads_on (body s) q words h (inr l) =
+    fault_in_table-faultless s h words (faultless s h words l.0 l.1 l.2)
     ∙ ap (λ b. cond b (Some fault.TooMany) None) (few-last (length s.commands) l.3)
-table_fault-leads_on (ended s) q words h l = absurd l
+fault_in_table-leads_on (ended s) q words h l = absurd l
 
 -- a line without a fault in the table has such a form
-leads_on-no_fault : (p : Place) (words : List Word) → IsPlace p → is_blank words ≡ false → table_fault p words ≡ None
+leads_on-no_fault : (p : Place) (words : List Word) → IsPlace p → is_blank words ≡ false → fault_in_table p words ≡ None
     → (q : Place) × LeadsOn p words q
 leads_on-no_fault head words h filled none =
     let r = head-cases words none in elim r.1.1 [
@@ -98,7 +98,7 @@ leads_on-no_fault (body s) words h filled none = elim (body-read s h words none)
   | inr c ↦ (body (with_command s c.0), inr (c.0, c.1.0, c.1.1, c.1.2, refl))
 ]
 leads_on-no_fault (ended s) words h filled none =
-    let clash : Some fault.AfterEnd ≡ None = sym (table_fault-ended (ended s) words refl) ∙ none in cc
+    let clash : Some fault.AfterEnd ≡ None = sym (fault_in_table-ended (ended s) words refl) ∙ none in cc
 
 -- rows below n with the same decimal forms are the same
 same_rows : (n : ℕ) (x y : List ℕ) → n < 2 ^ 64 → ((r : ℕ) → Contains x r → r < n) → ((r : ℕ) → Contains y r → r < n)
@@ -164,13 +164,13 @@ one_place_on (ended s) q r words h l m = absurd l
 -- ---- blank lines
 
 -- they have no fault, and other lines that of the table
-fault_at-blank : (p : Place) (words : List Word) → is_blank words ≡ true → fault_at p words ≡ None
-unfolding fault_at
-fault_at-blank p words blank = ap (λ b. cond b None (table_fault p words)) blank
+line_fault-blank : (p : Place) (words : List Word) → is_blank words ≡ true → line_fault p words ≡ None
+unfolding line_fault
+line_fault-blank p words blank = ap (λ b. cond b None (fault_in_table p words)) blank
 
-pub fault_at-filled : (p : Place) (words : List Word) → is_blank words ≡ false → fault_at p words ≡ table_fault p words
-unfolding fault_at
-fault_at-filled p words filled = ap (λ b. cond b None (table_fault p words)) filled
+pub line_fault-filled : (p : Place) (words : List Word) → is_blank words ≡ false → line_fault p words ≡ fault_in_table p words
+unfolding line_fault
+line_fault-filled p words filled = ap (λ b. cond b None (fault_in_table p words)) filled
 
 -- a line of a form is not blank
 pub filled-leads_on : (p q : Place) (words : List Word) → IsPlace p → LeadsOn p words q → is_blank words ≡ false
@@ -196,18 +196,18 @@ IsPlace-path p q [] h e = subst IsPlace e h
 IsPlace-path p q (words ∷ lines) h path = IsPlace-path path.0 q lines (IsPlace-next p path.0 words h path.1) path.2
 
 -- a line that is allowed has no fault
-pub fault_at-leads : (p q : Place) (words : List Word) → IsPlace p → Leads p words q → fault_at p words ≡ None
-fault_at-leads p q words h (inl stays) = fault_at-blank p words stays.0
-fault_at-leads p q words h (inr l) =
-    fault_at-filled p words (filled-leads_on p q words h l) ∙ table_fault-leads_on p q words h l
+pub line_fault-leads : (p q : Place) (words : List Word) → IsPlace p → Leads p words q → line_fault p words ≡ None
+line_fault-leads p q words h (inl stays) = line_fault-blank p words stays.0
+line_fault-leads p q words h (inr l) =
+    line_fault-filled p words (filled-leads_on p q words h l) ∙ fault_in_table-leads_on p q words h l
 
 -- a line without a fault is allowed
-pub leads-no_fault : (p : Place) (words : List Word) → IsPlace p → fault_at p words ≡ None
+pub leads-no_fault : (p : Place) (words : List Word) → IsPlace p → line_fault p words ≡ None
     → (q : Place) × Leads p words q
 leads-no_fault p words h none = elim (cases_Bool (is_blank words)) [
   | inl blank ↦ (p, inl (blank, refl))
   | inr filled ↦
-      let on = leads_on-no_fault p words h filled (sym (fault_at-filled p words filled) ∙ none) in (on.0, inr on.1)
+      let on = leads_on-no_fault p words h filled (sym (line_fault-filled p words filled) ∙ none) in (on.0, inr on.1)
 ]
 
 -- a line leads to one place

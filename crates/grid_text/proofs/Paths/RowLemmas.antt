@@ -16,23 +16,23 @@ use Rattle.torus_geom.specs.declared.grids.GridFault.{GridFault}
 use Rattle.torus_geom.specs.declared.grids.GridFault.TheVariants.{NotPermutation, SameSquare}
 use Rattle.std.proofs.lemmas.Fmt.{decimal_injective}
 use Rattle.grid_text.specs.Document.{Place, o_line, x_line, o_word, x_word}
-use Rattle.grid_text.specs.Faults.{Kind, Form, number_between, is_bad, is_bad_by, form_at, form_among, row_form, is_after_end, is_not_commuting, has_same_square, has_repeated, is_bad_count, has_bad, table_fault}
+use Rattle.grid_text.specs.Faults.{Kind, Form, number_between, is_bad, is_bad_by, form_at, form_among, row_form, is_after_end, is_not_commuting, has_same_square, has_repeated, is_bad_count, has_bad, fault_in_table}
 use Rattle.grid_text.specs.Inner.Reading.{IsRowPlace, AreNumerals}
 use Rattle.grid_text.specs.declared.faults.TextFault.TheVariants as fault
 use Rattle.grid_text.proofs.Lines.WordLemmas.{is_word-same, same_word, is_word-other}
 use Rattle.grid_text.proofs.Lines.KindLemmas.{list_any-never, count-other, count-same, count-right, number_of_word, number-good}
 use Rattle.grid_text.proofs.Lines.SeenLemmas.{seen, seen-more, seen-all}
 use Rattle.grid_text.proofs.States.RepeatedLemmas.{has_repeated-bijection, bijection-has_repeated, below-IsBijection}
-use Rattle.grid_text.proofs.Lines.FaultLemmas.{NoRowHolds, NoRowHolds-from_none, table_fault-no_word, table_fault-bad_word, table_fault-last, table_fault-count, table_fault-number, table_fault-permutation, table_fault-square}
+use Rattle.grid_text.proofs.Lines.FaultLemmas.{NoRowHolds, NoRowHolds-from_none, fault_in_table-no_word, fault_in_table-bad_word, fault_in_table-last, fault_in_table-count, fault_in_table-number, fault_in_table-permutation, fault_in_table-square}
 
 -- ---- a first word that is not the one expected
 
-pub table_fault-other_word : (p : Place) (expected : Word) (form : Form) → is_after_end p ≡ false
+pub fault_in_table-other_word : (p : Place) (expected : Word) (form : Form) → is_after_end p ≡ false
     → ((w : Word) → form_at p w ≡ form_among ((expected, form) ∷ []) w)
-    → (words : List Word) → ((rest : List Word) → words ≢ expected ∷ rest) → table_fault p words ≡ Some fault.BadWord
-table_fault-other_word p expected form here forms [] other = table_fault-no_word p here
-table_fault-other_word p expected form here forms (w ∷ words) other =
-    table_fault-bad_word p w words here
+    → (words : List Word) → ((rest : List Word) → words ≢ expected ∷ rest) → fault_in_table p words ≡ Some fault.BadWord
+fault_in_table-other_word p expected form here forms [] other = fault_in_table-no_word p here
+fault_in_table-other_word p expected form here forms (w ∷ words) other =
+    fault_in_table-bad_word p w words here
     (forms w ∙ ap (λ b. cond b (Some form) None)
     (is_word-other expected w (λ e. other words (ap (λ v. v ∷ words) (sym e)))))
 
@@ -59,15 +59,15 @@ module _ (p : Place) (letter : Word) (n : ℕ) (place : IsRowPlace letter n p) w
 
   -- another first word
   pub row-word : (words : List Word) → ((rest : List Word) → words ≢ letter ∷ rest)
-      → table_fault p words ≡ Some fault.BadWord
-  row-word words other = table_fault-other_word p letter (row_form n) place.not_ended place.form words other
+      → fault_in_table p words ≡ Some fault.BadWord
+  row-word words other = fault_in_table-other_word p letter (row_form n) place.not_ended place.form words other
 
   module _ (words arguments : List Word) (e : words ≡ letter ∷ arguments) where
     -- another number of words
-    pub row-count : length arguments ≢ n → table_fault p words ≡ Some fault.BadCount
+    pub row-count : length arguments ≢ n → fault_in_table p words ≡ Some fault.BadCount
     row-count other =
-        ap (table_fault p) e
-        ∙ table_fault-count p (row_form n) (letter ∷ arguments) arguments place.not_ended row-known
+        ap (fault_in_table p) e
+        ∙ fault_in_table-count p (row_form n) (letter ∷ arguments) arguments place.not_ended row-known
         (place.arguments letter arguments)
         (count-other (length (replicate n (number_between 0 (n - 1)))) arguments
         (λ same. other (same ∙ length-replicate n (number_between 0 (n - 1)))))
@@ -84,10 +84,10 @@ module _ (p : Place) (letter : Word) (n : ℕ) (place : IsRowPlace letter n p) w
 
       -- a word that is no number below n
       pub row-number : list_any (is_bad (number_between 0 (n - 1))) arguments ≡ true
-          → table_fault p words ≡ Some fault.BadNumber
+          → fault_in_table p words ≡ Some fault.BadNumber
       row-number bad =
-          ap (table_fault p) e
-          ∙ table_fault-number p (row_form n) (letter ∷ arguments) arguments place.not_ended row-known
+          ap (fault_in_table p) e
+          ∙ fault_in_table-number p (row_form n) (letter ∷ arguments) arguments place.not_ended row-known
           (place.arguments letter arguments) row-counted row-choices
           (zip-replicate (is_bad_by fault.BadNumber) (number_between 0 (n - 1)) n arguments long ∙ bad)
 
@@ -96,19 +96,19 @@ module _ (p : Place) (letter : Word) (n : ℕ) (place : IsRowPlace letter n p) w
         row-numbers = zip-replicate (is_bad_by fault.BadNumber) (number_between 0 (n - 1)) n arguments long ∙ good
 
         -- two rows that are the same
-        pub row-permutation : has_repeated arguments ≡ true → table_fault p words ≡ Some fault.NotPermutation
+        pub row-permutation : has_repeated arguments ≡ true → fault_in_table p words ≡ Some fault.NotPermutation
         row-permutation twice =
-            ap (table_fault p) e
-            ∙ table_fault-permutation p (row_form n) (letter ∷ arguments) arguments place.not_ended row-known
+            ap (fault_in_table p) e
+            ∙ fault_in_table-permutation p (row_form n) (letter ∷ arguments) arguments place.not_ended row-known
             (place.arguments letter arguments) row-counted row-choices
             row-numbers (place.permutation arguments ∙ twice)
 
         -- an O and an X in one square
         pub row-square : has_repeated arguments ≡ false → has_same_square p arguments ≡ true
-            → table_fault p words ≡ Some fault.SameSquare
+            → fault_in_table p words ≡ Some fault.SameSquare
         row-square once shared =
-            ap (table_fault p) e
-            ∙ table_fault-square p (row_form n) (letter ∷ arguments) arguments place.not_ended row-known
+            ap (fault_in_table p) e
+            ∙ fault_in_table-square p (row_form n) (letter ∷ arguments) arguments place.not_ended row-known
             (place.arguments letter arguments) row-counted row-choices
             row-numbers (place.permutation arguments ∙ once) shared
 
@@ -249,7 +249,7 @@ apart-squares o x same none c within e = true≢false (sym (squares-shared o x s
 -- the fault of an X line whose rows are right but for a square
 pub square-read : (o x : List ℕ) (words : List Word) → IsState o → IsBijection (length o) x
     → words ≡ x_word ∷ map decimal x → SharesSquare (record { o = o; x = x })
-    → table_fault (x_line (length o) o) words ≡ Some fault.SameSquare
+    → fault_in_table (x_line (length o) o) words ≡ Some fault.SameSquare
 square-read o x words state_o bijection e shares =
     let small = state_o.size.greatest in
     let same : length o ≡ length x = sym bijection.long in
@@ -270,16 +270,16 @@ fault_of_grid o x SameSquare state_o bijection none shares = shares refl
 
 module _ (p : Place) (letter : Word) (n : ℕ) (place : IsRowPlace letter n p) where
   -- a line without a fault has rows that are a bijection
-  pub row-read : IsSize n → (words : List Word) → table_fault p words ≡ None
+  pub row-read : IsSize n → (words : List Word) → fault_in_table p words ≡ None
       → (x : List ℕ) × (IsBijection n x × (words ≡ letter ∷ map decimal x)
       × (has_same_square p (map decimal x) ≡ false))
-  row-read small [] e = let none : Some fault.BadWord ≡ None = sym (table_fault-no_word p place.not_ended) ∙ e in cc
+  row-read small [] e = let none : Some fault.BadWord ≡ None = sym (fault_in_table-no_word p place.not_ended) ∙ e in cc
   row-read small (w ∷ arguments) e = elim (cases_Bool (is_word letter w)) [
     | inl t ↦
         let same = same_word letter w t in
         let rows = NoRowHolds-from_none p (row_form n) (letter ∷ arguments) arguments place.not_ended
         (row-known p letter n place) (place.arguments letter arguments)
-        (ap (λ v. table_fault p (v ∷ arguments)) same ∙ e) in
+        (ap (λ v. fault_in_table p (v ∷ arguments)) same ∙ e) in
         let long : length arguments ≡ n =
         count-same (length (replicate n (number_between 0 (n - 1)))) arguments rows.0.count
         ∙ length-replicate n (number_between 0 (n - 1)) in
@@ -300,7 +300,7 @@ module _ (p : Place) (letter : Word) (n : ℕ) (place : IsRowPlace letter n p) w
         )
     | inr f ↦
         let none : Some fault.BadWord ≡ None =
-        sym (table_fault-bad_word p w arguments place.not_ended
+        sym (fault_in_table-bad_word p w arguments place.not_ended
         (place.form w ∙ ap (λ b. cond b (Some (row_form n)) None) f)) ∙ e in cc
   ]
 
@@ -325,14 +325,14 @@ module _ (p : Place) (letter : Word) (n : ℕ) (place : IsRowPlace letter n p) w
 
 -- O lines
 pub o_line-right : (n : ℕ) (o : List ℕ) (words : List Word) → IsSize n → IsBijection n o
-    → words ≡ o_word ∷ map decimal o → table_fault (o_line n) words ≡ None
+    → words ≡ o_word ∷ map decimal o → fault_in_table (o_line n) words ≡ None
 o_line-right n o words small bijection e =
-    ap (table_fault (o_line n)) e
-    ∙ table_fault-last (o_line n) (row_form n) (o_word ∷ map decimal o) (map decimal o) refl
+    ap (fault_in_table (o_line n)) e
+    ∙ fault_in_table-last (o_line n) (row_form n) (o_word ∷ map decimal o) (map decimal o) refl
     (row-known (o_line n) o_word n (IsRowPlace-o_line n)) refl
     (row-right (o_line n) o_word n (IsRowPlace-o_line n) small o bijection refl refl)
 
-pub o_line-read : (n : ℕ) (words : List Word) → IsSize n → table_fault (o_line n) words ≡ None
+pub o_line-read : (n : ℕ) (words : List Word) → IsSize n → fault_in_table (o_line n) words ≡ None
     → (o : List ℕ) × (IsBijection n o × (words ≡ o_word ∷ map decimal o))
 o_line-read n words small none =
     let r = row-read (o_line n) o_word n (IsRowPlace-o_line n) small words none in (r.0, (r.1.0, r.1.1))
@@ -340,12 +340,12 @@ o_line-read n words small none =
 -- X lines
 pub x_line-right : (n : ℕ) (o x : List ℕ) (words : List Word) → IsSize n → IsBijection n o → IsBijection n x
     → ((c : ℕ) → c < n → slice_index o c ≢ slice_index x c) → words ≡ x_word ∷ map decimal x
-    → table_fault (x_line n o) words ≡ None
+    → fault_in_table (x_line n o) words ≡ None
 x_line-right n o x words small bijection_o bijection apart e =
     let most = small.greatest in
     let long = bijection_o.long in
-    ap (table_fault (x_line n o)) e
-    ∙ table_fault-last (x_line n o) (row_form n) (x_word ∷ map decimal x) (map decimal x) refl
+    ap (fault_in_table (x_line n o)) e
+    ∙ fault_in_table-last (x_line n o) (row_form n) (x_word ∷ map decimal x) (map decimal x) refl
     (row-known (x_line n o) x_word n (IsRowPlace-x_line n o)) refl
     (row-right (x_line n o) x_word n (IsRowPlace-x_line n o) small x bijection
     (squares-apart o x (bijection_o.long ∙ sym bijection.long) (λ c l. apart c (omega arith))
@@ -353,7 +353,7 @@ x_line-right n o x words small bijection_o bijection apart e =
     (λ r m. let b = below-IsBijection n x bijection r m in omega arith)) refl)
 
 pub x_line-read : (n : ℕ) (o : List ℕ) (words : List Word) → IsSize n → IsBijection n o
-    → table_fault (x_line n o) words ≡ None
+    → fault_in_table (x_line n o) words ≡ None
     → (x : List ℕ) × (IsBijection n x × ((c : ℕ) → c < n → slice_index o c ≢ slice_index x c)
     × (words ≡ x_word ∷ map decimal x))
 x_line-read n o words small bijection_o none =

@@ -9,7 +9,7 @@ use Rattle.std.specs.declared.result.Result.{Result}
 use Rattle.std.specs.declared.result.Result.TheVariants.{Ok, Err}
 use Rattle.grid_text.specs.Words.{Word}
 use Rattle.grid_text.specs.Document.{Place, head, o_line, x_line, picture, body, ended, LeadsOn, Leads}
-use Rattle.grid_text.specs.Faults.{table_fault, fault_at}
+use Rattle.grid_text.specs.Faults.{fault_in_table, line_fault}
 use Rattle.grid_text.specs.Inner.Reading.{IsPlace}
 use Rattle.grid_text.specs.declared.faults.TextFault.{TextFault}
 use Rattle.grid_text.specs.declared.places.Place.{Place as StoredPlace}
@@ -29,8 +29,8 @@ is_head p = false
 
 abbrev pub IsNextOn : Place → List Word → Result StoredPlace TextFault → Type 0
 IsNextOn p words (Ok q) = LeadsOn p words (place_of q) × IsPlace (place_of q)
-IsNextOn p words (Err f) = table_fault p words ≡ Some f
+IsNextOn p words (Err f) = fault_in_table p words ≡ Some f
 
 abbrev pub IsNext : Place → List Word → Result StoredPlace TextFault → Type 0
 IsNext p words (Ok q) = Leads p words (place_of q) × IsPlace (place_of q)
-IsNext p words (Err f) = fault_at p words ≡ Some f
+IsNext p words (Err f) = line_fault p words ≡ Some f

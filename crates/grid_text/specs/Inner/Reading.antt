@@ -23,7 +23,7 @@ use Rattle.grid_text.specs.Words.{Word}
 use Rattle.grid_text.specs.Commands.{command_row, IsLineOf, IsAllowed}
 use Rattle.grid_text.specs.Script.{GridScript, IsScript, grid_in_force}
 use Rattle.grid_text.specs.Document.{Place, head, o_line, x_line, picture, body, ended, end_word}
-use Rattle.grid_text.specs.Faults.{Form, exactly, form_of, is_after_end, form_at, form_among, row_form, arguments_at, is_not_permutation, has_repeated, table_fault}
+use Rattle.grid_text.specs.Faults.{Form, exactly, form_of, is_after_end, form_at, form_among, row_form, arguments_at, is_not_permutation, has_repeated, fault_in_table}
 use Rattle.grid_text.specs.Inner.Pictures.{IsPartOfPicture}
 use Rattle.grid_text.specs.declared.commands.Command.{Command}
 use Rattle.grid_text.specs.declared.commands.Command.TheVariants as command
@@ -76,7 +76,7 @@ IsReadLine s words (Some c) = IsLineOf words c × IsAllowed (grid_in_force s) c
 
 abbrev pub IsRead : GridScript → List Word → Result (Option Command) TextFault → Type 0
 IsRead s words (Ok line) = IsReadLine s words line
-IsRead s words (Err f) = table_fault (body s) words ≡ Some f
+IsRead s words (Err f) = fault_in_table (body s) words ≡ Some f
 
 pub record IsRowPlace (letter : Word) (n : ℕ) (p : Place) : Type 0 where
   pub not_ended : is_after_end p ≡ false

@@ -1,12 +1,12 @@
 use Rattle.std.proofs.Common.{IfOk, sym, subst, arith}
 use Rattle.grid_text.specs.Inner.Reading.{IsRead}
 use Rattle.grid_text.proofs.Lines.SeenLemmas.{seen, seen-none}
-use Rattle.grid_text.proofs.Lines.BodyLemmas.{table_fault-empty, unknown-read, keyword-first}
+use Rattle.grid_text.proofs.Lines.BodyLemmas.{fault_in_table-empty, unknown-read, keyword-first}
 use Rattle.grid_text.proofs.bodies.read_line.Goals as goal
 
 pub returns-in_default : goal.returns-in_default
 returns-in_default c =
-    table_fault-empty c.args.script.now (seen c.args.words.now) (seen-none c.args.words.now (omega arith))
+    fault_in_table-empty c.args.script.now (seen c.args.words.now) (seen-none c.args.words.now (omega arith))
 
 pub returns-in_default-read_keyword : goal.returns-in_default-read_keyword
 returns-in_default-read_keyword c =
