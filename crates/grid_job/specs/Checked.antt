@@ -17,7 +17,8 @@ use Rattle.homology_cert.specs.CertificateText.{certificate_text, IsFirstBadLine
 use Rattle.homology_cert.specs.declared.verdicts.CertTest.{CertTest}
 use Rattle.homology_cert.specs.declared.verdicts.CertTest.TheVariants.{Count, Degree, Cycle, Cocycle, Pairing, Probe, Missing}
 use Rattle.homology_cert.specs.declared.verdicts.CertVerdict.TheVariants.{Yes, No}
-use Rattle.report_text.specs.Lines.{line, refused_line}
+use Rattle.report_text.specs.Lines.{refused_line}
+use Rattle.text_lines.specs.Lines.{line}
 
 abbrev pub test_word : CertTest → List ℕ
 test_word Count = codes "count"

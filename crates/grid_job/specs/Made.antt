@@ -1,13 +1,12 @@
 -- What `make` writes: the script of its size and its seed, and below it a line that sums up its grid.
 --     TellsAlive verdict alive   the verdict of a cycle is alive, or it is null
 --     HasClassVerdict g sign alive   the class of x+ or x- has such a verdict
---     verdict_word alive         the word of it
 --     summary_line tb rot total plus minus
 --                                the numbers of the front, the sum of the ranks of the table, and the verdicts of x+
 --                                and x-
 --     IsSummary g text           the line of the grid g
 --     IsMade n seed answer       the plain form of the script of this size and seed, and the summary of its grid
-use Rattle.std.specs.Prelude.{◌≡◌, ℕ, ℤ, Bool, true, false, List, map, ◌++◌, codes, if◌then◌else◌}
+use Rattle.std.specs.Prelude.{◌≡◌, ℕ, ℤ, Bool, true, false, List, map, ◌++◌, codes}
 use Rattle.std.specs.List.{sum_by}
 use Rattle.std.specs.Fmt.{decimal, signed_decimal}
 use Rattle.torus_geom.specs.Front.{thurston_bennequin, rotation}
@@ -18,7 +17,8 @@ use Rattle.homology_cert.specs.Tables.{homology_row}
 use Rattle.legendrian_class.specs.Verdicts.{IsVerdict}
 use Rattle.legendrian_class.specs.declared.verdicts.ClassVerdict.{ClassVerdict}
 use Rattle.legendrian_class.specs.declared.verdicts.ClassVerdict.TheVariants.{NotCycle, Null, Alive}
-use Rattle.report_text.specs.Lines.{line}
+use Rattle.text_lines.specs.Lines.{line}
+use Rattle.report_text.specs.Lines.{verdict_word}
 use Rattle.grid_text.specs.declared.commands.Sign.{Sign}
 use Rattle.grid_text.specs.declared.commands.Sign.TheVariants.{Plus, Minus}
 use Rattle.grid_text.specs.PlainForm.{plain_form}
@@ -35,9 +35,6 @@ pub record HasClassVerdict (g : Marks) (sign : Sign) (alive : Bool) : Type 0 whe
   pub verdict : ClassVerdict
   pub is_verdict : IsVerdict g (class_chain g sign) verdict
   pub told : TellsAlive verdict alive
-
-abbrev pub verdict_word : Bool → List ℕ
-verdict_word alive = if alive then codes "alive" else codes "null"
 
 abbrev pub summary_line : ℤ → ℤ → ℕ → Bool → Bool → List ℕ
 summary_line tb rot total plus minus = line

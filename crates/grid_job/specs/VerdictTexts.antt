@@ -17,7 +17,8 @@ use Rattle.grid_text.specs.declared.commands.Sign.TheVariants.{Plus, Minus}
 use Rattle.legendrian_class.specs.Verdicts.{IsVerdict}
 use Rattle.legendrian_class.specs.declared.verdicts.ClassVerdict.{ClassVerdict}
 use Rattle.legendrian_class.specs.declared.verdicts.ClassVerdict.TheVariants.{NotCycle, Null, Alive}
-use Rattle.report_text.specs.Lines.{line, class_line, set_line}
+use Rattle.report_text.specs.Lines.{class_line}
+use Rattle.text_lines.specs.Lines.{line, set_line}
 
 abbrev pub class_state : Marks → Sign → List ℕ
 class_state g Plus = plus_state g
@@ -33,8 +34,8 @@ verdict_line g sign alive =
 -- the text tells this verdict of a class: it is null or alive, and never "not a cycle"
 abbrev pub TellsClass : Marks → Sign → ClassVerdict → List ℕ → Type 0
 TellsClass g sign (NotCycle s) text = ⊥
-TellsClass g sign (Null bound) text = text ≡ verdict_line g sign false ++ set_line (codes "bound") (size g) bound
-TellsClass g sign (Alive cocycle) text = text ≡ verdict_line g sign true ++ set_line (codes "cocycle") (size g) cocycle
+TellsClass g sign (Null bound) text = text ≡ verdict_line g sign false ++ line (set_line (codes "bound") (size g) bound)
+TellsClass g sign (Alive cocycle) text = text ≡ verdict_line g sign true ++ line (set_line (codes "cocycle") (size g) cocycle)
 
 pub record IsClassText (g : Marks) (sign : Sign) (text : List ℕ) : Type 0 where
   pub verdict : ClassVerdict
@@ -42,9 +43,9 @@ pub record IsClassText (g : Marks) (sign : Sign) (text : List ℕ) : Type 0 wher
   pub told : TellsClass g sign verdict text
 
 abbrev pub bounds_text : Marks → ClassVerdict → List ℕ
-bounds_text g (NotCycle state) = set_line (codes "bounds notcycle") (size g) (single state)
-bounds_text g (Null bound) = line (codes "bounds null") ++ set_line (codes "bound") (size g) bound
-bounds_text g (Alive cocycle) = line (codes "bounds alive") ++ set_line (codes "cocycle") (size g) cocycle
+bounds_text g (NotCycle state) = line (set_line (codes "bounds notcycle") (size g) (single state))
+bounds_text g (Null bound) = line (codes "bounds null") ++ line (set_line (codes "bound") (size g) bound)
+bounds_text g (Alive cocycle) = line (codes "bounds alive") ++ line (set_line (codes "cocycle") (size g) cocycle)
 
 pub record IsBoundsText (g : Marks) (z : Chain) (text : List ℕ) : Type 0 where
   pub verdict : ClassVerdict

@@ -14,12 +14,9 @@ use crate::refusals::refuse;
 use crate::statuses::Status;
 use grid_ports::{NoMemory, ReadEnd, Sink, Source, read_all, write_all};
 use grid_text::{Judged, MAX_TEXT, TextEnd, fault_word, judge};
-use homology_cert::{make_cert, print_cert};
+use homology_cert::{MAX_CERTIFIED_SIZE, make_cert, print_cert};
 use std::alloc::Global;
 use torus_geom::Grid;
-
-// The greatest size of a grid that has certificates.
-const MAX_SIZE: u8 = 6;
 
 /// Reads a document, and writes a certificate of the grid in force at its end.
 pub(crate) fn cert<S: Source, K: Sink>(alloc: Global, src: &mut S, out: &mut K) -> Status
@@ -64,7 +61,7 @@ fn certify_script<K: Sink>(alloc: Global, judged: &Judged, out: &mut K) -> Statu
     ensures memory { result ≡ Status.NoMemory → out.new ≡ out.old }
 {
     let g = judged.script.in_force();
-    if g.size() > MAX_SIZE {
+    if g.size() > MAX_CERTIFIED_SIZE {
         return refuse(alloc, "TooLarge", judged.grid_line, out);
     }
     write_certificate(alloc, g, out)

@@ -8,16 +8,15 @@ ghost use Rattle.grid_job.specs.Checked.{test_word as test_word_of, no_line as n
 ghost use Rattle.grid_job.specs.Outcome.{IsOutcome, IsEnd};
 ghost use Rattle.grid_job.specs.Inner.Written.{HasWritten, Tells, TellsVerdict};
 
-use crate::made::push_number;
 use crate::modes::Mode;
 use crate::refusals::refuse;
 use crate::statuses::Status;
 use grid_ports::{NoMemory, ReadEnd, Sink, Source, read_all, write_all};
-use homology_cert::{Cert, CertEnd, CertTest, CertVerdict, check_cert, read_cert};
+use homology_cert::{
+    Cert, CertEnd, CertTest, CertVerdict, MAX_CERTIFICATE, check_cert, read_cert,
+};
 use std::alloc::Global;
-
-// The greatest number of bytes of a text that is read as a certificate.
-const MAX_CERTIFICATE: usize = 16_777_216;
+use text_lines::push_number;
 
 /// Reads a certificate, and writes whether it passes or the first test that it fails.
 pub(crate) fn check<S: Source, K: Sink>(alloc: Global, src: &mut S, out: &mut K) -> Status

@@ -4,7 +4,7 @@ ghost use Rattle.f2_algebra.specs.Chain.{codes as codes_of};
 ghost use Rattle.state_rank.specs.Bijection.{IsSize};
 ghost use Rattle.state_rank.specs.States.{factorial};
 ghost use Rattle.torus_geom.specs.Marks.{size};
-ghost use Rattle.report_text.specs.Lines.{line as line_of, set_line as set_line_of};
+ghost use Rattle.text_lines.specs.Lines.{line as line_of, set_line as set_line_of};
 ghost use Rattle.grid_job.specs.VerdictTexts.{class_state as class_state_of, verdict_line as verdict_line_of, IsClassText, IsBoundsText};
 ghost use Rattle.legendrian_class.specs.States.{HasStates};
 
@@ -97,7 +97,7 @@ fn with_set(
 ) -> Result<Vec<u8>, NoMemory>
     requires size { IsSize n }
     requires ranks { All (λ code. code < factorial n) (codes_of z.now) }
-    ensures { IfOk result (λ lines. lines.items ≡ text.items ++ set_line_of word.now n z.now) }
+    ensures { IfOk result (λ lines. lines.items ≡ text.items ++ line_of (set_line_of word.now n z.now)) }
 {
     let set = set_line(alloc, word, n, z)?;
     text.extend_from_slice(&set)?;

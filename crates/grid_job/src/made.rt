@@ -1,8 +1,8 @@
 //! What `make` writes.
-ghost use Rattle.std.specs.Prelude.{◌≡◌, ◌≢◌, ◌++◌, ◌^◌, ◌<◌, IfOk, OnOk};
+ghost use Rattle.std.specs.Prelude.{◌≡◌, ◌≢◌, ◌^◌, ◌<◌, IfOk};
 ghost use Rattle.state_rank.specs.Bijection.{IsSize};
 ghost use Rattle.grid_job.specs.Inner.Written.{HasWritten};
-ghost use Rattle.grid_job.specs.Made.{HasClassVerdict, verdict_word as verdict_word_of, summary_line as summary_line_of, IsSummary, IsMade};
+ghost use Rattle.grid_job.specs.Made.{HasClassVerdict, summary_line as summary_line_of, IsSummary, IsMade};
 
 use crate::classes::class_state;
 use crate::make_script;
@@ -12,9 +12,10 @@ use front_data::{FrontNumbers, front};
 use grid_ports::{NoMemory, Sink, write_all};
 use grid_text::{Sign, print};
 use homology_cert::rank_table;
-use itoa::{Buffer, Integer};
 use legendrian_class::{ClassVerdict, verdict};
+use report_text::verdict_word;
 use std::alloc::Global;
+use text_lines::push_number;
 use torus_geom::Grid;
 
 /// Writes the script of this size and seed, and the summary of its grid.
@@ -98,19 +99,4 @@ fn summary_line(
     line.extend_from_slice(verdict_word(minus).as_bytes())?;
     line.push(b'\n')?;
     Ok(line)
-}
-
-fn verdict_word(alive: bool) -> &'static str
-    ensures { result.now ≡ verdict_word_of alive }
-{
-    if alive { "alive" } else { "null" }
-}
-
-/// Appends the decimal digits of a number.
-pub(crate) fn push_number<I: Integer>(line: &mut Vec<u8>, number: I) -> Result<(), NoMemory>
-    ensures { OnOk result (line.new.items ≡ line.old.items ++ I.text number) }
-{
-    let mut buffer = Buffer::new();
-    line.extend_from_slice(buffer.format(number).as_bytes())?;
-    Ok(())
 }

@@ -3,7 +3,7 @@ ghost use Rattle.std.specs.Prelude.{◌≡◌, ◌↔◌, ℕ, List, length, IfO
 ghost use Rattle.std.specs.Io.KnownBytes.{Appends};
 ghost use Rattle.grid_ports.specs.Bytes.{AppendsPrefix};
 ghost use Rattle.grid_ports.specs.Faults.{count_up};
-ghost use Rattle.report_text.specs.Lines.{set_line as set_line_of};
+ghost use Rattle.text_lines.specs.Lines.{line, set_line as set_line_of};
 ghost use Rattle.torus_geom.specs.Inner.CodeBorder.{border_of_state as border_of};
 ghost use Rattle.torus_geom.specs.Marks.{size};
 ghost use Rattle.grid_text.specs.Commands.{IsAllowed};
@@ -141,7 +141,7 @@ fn hat_of(alloc: Global, g: &Grid, table: &mut Option<Table>) -> Result<Vec<u8>,
 fn border_line(alloc: Global, g: &Grid, x: &State) -> Result<Vec<u8>, NoMemory>
     requires { length x.now ≡ size g.now }
     ensures { IfOk result (λ text.
-        text.items ≡ set_line_of (codes "border") (size g.now) (border_of g.now x.now)) }
+        text.items ≡ line (set_line_of (codes "border") (size g.now) (border_of g.now x.now))) }
 {
     let border = border_of_state(alloc, g, x)?;
     set_line(alloc, "border", g.size(), &border)

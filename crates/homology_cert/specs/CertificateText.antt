@@ -1,6 +1,5 @@
 -- The text of a certificate, and the first bad line of a text that is not one. Each line is ended by one line feed,
 -- words stand one space apart, numbers are plain decimals. So a certificate has one text.
---     set_line word n z          a word, and the states of size n of a set, in ascending order
 --     marks_line word rows       a word, and the rows of marks from column 0 on
 --     degree_line d              the word `cell`, the Maslov degree and the Alexander degree
 --     cycle_lines n p            a line with the cycle and one with the cocycle of a cycle pair
@@ -16,14 +15,10 @@
 use Rattle.std.specs.Prelude.{◌≡◌, ℕ, ◌+◌, ◌≤◌, ℤ, List, [], ◌∷◌, ◌++◌, length, take, codes}
 use Rattle.std.specs.List.{flat_map}
 use Rattle.std.specs.Fmt.{decimal, signed_decimal}
-use Rattle.f2_algebra.specs.Chain.{Chain, codes as ranks}
 use Rattle.f2_algebra.specs.Certificate.{CyclePair, StepPair}
-use Rattle.state_rank.specs.States.{unrank, state_word}
+use Rattle.text_lines.specs.Lines.{line, set_line}
 use Rattle.torus_geom.specs.Marks.{Marks, size}
 use Rattle.homology_cert.specs.Certificates.{Cell, Certificate, IsCertificate}
-
-abbrev pub set_line : List ℕ → ℕ → Chain → List ℕ
-set_line word n z = word ++ flat_map (λ s. 32 ∷ state_word (unrank n s)) (ranks z)
 
 abbrev pub marks_line : List ℕ → List ℕ → List ℕ
 marks_line word rows = word ++ flat_map (λ r. 32 ∷ decimal r) rows
@@ -48,7 +43,7 @@ unfoldable pub certificate_lines : Certificate → List (List ℕ)
 certificate_lines c = head_lines c.grid ++ flat_map (cell_lines (size c.grid)) c.cells ++ codes "end" ∷ []
 
 abbrev pub text_of_lines : List (List ℕ) → List ℕ
-text_of_lines lines = flat_map (λ line. line ++ 10 ∷ []) lines
+text_of_lines lines = flat_map line lines
 
 abbrev pub certificate_text : Certificate → List ℕ
 certificate_text c = text_of_lines (certificate_lines c)

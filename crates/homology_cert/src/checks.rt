@@ -44,66 +44,57 @@ pub fn check_cert(alloc: Global, c: &Cert) -> Result<CertVerdict, NoMemory>
     verdict_on(alloc, c)
 }
 
-// Whether the state of rank `code` has this bidegree.
-pub(crate) fn has_degree(g: &Grid, d: &Bidegree, code: u32) -> bool
-    requires { code < factorial (size g.now) }
-    ensures { result ≡ has_degree_of g.now (d.now.m, d.now.a) code }
+// What the check of a certificate says.
+fn verdict_on(alloc: Global, c: &Cert) -> Result<CertVerdict, NoMemory>
+    ensures { IfOk result (λ v. v ≡ verdict_of c.now) }
 {
-    let here = degree(g, &State::unrank(g.size(), code));
-    here.m == d.m && here.a == d.a
-}
-
-// Whether each state of the set has this bidegree.
-fn all_have(g: &Grid, d: &Bidegree, z: &Chain) -> bool
-    requires { AreStates g.now z.now }
-    ensures { result ≡ all_have_of g.now (d.now.m, d.now.a) z.now }
-{
-    z.codes().iter().all(|code| has_degree(g, d, *code))
-}
-
-// The number of states of this bidegree.
-fn state_count_at(g: &Grid, d: &Bidegree) -> u32
-    ensures { result ≡ count_at g.now (d.now.m, d.now.a) }
-{
-    let mut count = 0;
-    for code in 0..state_count(g.size()) {
-        count += u32::from(has_degree(g, d, code));
+    let borders = borders_of_states(alloc, c.grid())?;
+    let mut entry = 1;
+    for cell in c.cells() {
+        if let Some((entry, test)) = cell_failure(alloc, c, &borders, cell, entry)? {
+            return Ok(CertVerdict::No { entry, test });
+        }
+        entry += 1 + cell.cycles().len() as u32 + cell.steps().len() as u32;
     }
-    count
-}
-
-// The borders of all states of the grid, by rank.
-fn borders_of_states(alloc: Global, g: &Grid) -> Result<Vec<Chain>, NoMemory>
-    ensures { IfOk result (λ borders. AreBorders g.now borders.items) }
-{
-    let n = g.size();
-    let mut borders = Vec::new(alloc);
-    for code in 0..state_count(n) {
-        borders.push(border_of_state(alloc, g, &State::unrank(n, code))?)?;
+    if none_missing(c) {
+        Ok(CertVerdict::Yes)
+    } else {
+        Ok(CertVerdict::No {
+            entry,
+            test: CertTest::Missing,
+        })
     }
-    Ok(borders)
 }
 
-// Whether the cochain pairs evenly with each of these chains.
-fn pairs_evenly(chains: &[Chain], f: &Cochain) -> bool
-    ensures { result ≡ list_all (λ z. not (pairs_oddly z f.now)) chains.now }
+// The first test that a cell or one of its pairs fails. The cell is the entry with the number `entry`.
+fn cell_failure(
+    alloc: Global,
+    c: &Cert,
+    borders: &[Chain],
+    cell: &CertCell,
+    entry: u32,
+) -> Result<Option<(u32, CertTest)>, NoMemory>
+    requires small { HasSmallDegrees cell.now.at }
+    requires states { HasPairStates c.now.grid cell.now }
+    requires borders { AreBorders c.now.grid borders.now }
+    requires few { entry + 1 + length cell.now.cycles + length cell.now.steps < 2 ^ 32 }
+    ensures { IfOk result (λ failure. failure ≡ first_failing (cell_questions c.now entry cell.now)) }
 {
-    chains.iter().all(|z| !z.pair(f))
-}
-
-// Whether the cocycle pairs evenly with the cycle of each of these pairs.
-fn cycles_pair_evenly(pairs: &[CyclePair], f: &Cochain) -> bool
-    ensures { result ≡ list_all (λ (p : Pair). not (pairs_oddly p.cycle f.now)) pairs.now }
-{
-    pairs.iter().all(|p| !p.cycle.pair(f))
-}
-
-// The bidegree with a Maslov degree one lower.
-fn one_below(d: &Bidegree) -> Bidegree
-    requires { HasSmallDegrees (d.now.m, d.now.a) }
-    ensures { (result.m, result.a) ≡ one_below_of (d.now.m, d.now.a) }
-{
-    Bidegree { m: d.m - 1, a: d.a }
+    if !count_passes(c, cell) {
+        return Ok(Some((entry, CertTest::Count)));
+    }
+    let first = entry + 1 + cell.cycles().len() as u32;
+    match cycles_failure(
+        alloc,
+        c.grid(),
+        borders,
+        cell.degree(),
+        cell.cycles(),
+        entry + 1,
+    )? {
+        Some(failure) => Ok(Some(failure)),
+        None => steps_failure(alloc, c.grid(), cell.degree(), cell.steps(), first),
+    }
 }
 
 // Whether there are as many states of the bidegree of the cell as its pairs and the step pairs of the cell above
@@ -133,6 +124,14 @@ fn steps_above(cells: &[CertCell], d: &Bidegree) -> u64
     0
 }
 
+// Whether the cell is one Maslov degree above `d`.
+fn is_above(cell: &CertCell, d: &Bidegree) -> bool
+    requires small { HasSmallDegrees (d.now.m, d.now.a) }
+    ensures { result ≡ same_degree cell.now.at (up_m (d.now.m, d.now.a)) }
+{
+    cell.degree.m == d.m + 1 && cell.degree.a == d.a
+}
+
 // Whether each degree of a state has a cell.
 fn none_missing(c: &Cert) -> bool
     ensures { result ≡ none_missing_of c.now }
@@ -154,12 +153,36 @@ fn has_cell(g: &Grid, cells: &[CertCell], code: u32) -> bool
     cells.iter().any(|cell| has_degree(g, &cell.degree, code))
 }
 
-// Whether the cell is one Maslov degree above `d`.
-fn is_above(cell: &CertCell, d: &Bidegree) -> bool
-    requires small { HasSmallDegrees (d.now.m, d.now.a) }
-    ensures { result ≡ same_degree cell.now.at (up_m (d.now.m, d.now.a)) }
+// The first test that the cycle pairs of a cell fail. The first of them is the entry with the number `entry`.
+fn cycles_failure(
+    alloc: Global,
+    g: &Grid,
+    borders: &[Chain],
+    d: &Bidegree,
+    pairs: &[CyclePair],
+    entry: u32,
+) -> Result<Option<(u32, CertTest)>, NoMemory>
+    requires states { All (HasCycleStates g.now) pairs.now }
+    requires borders { AreBorders g.now borders.now }
+    requires few { entry + length pairs.now < 2 ^ 32 }
+    ensures { IfOk result (λ failure. failure
+        ≡ first_failing (cycle_questions g.now (d.now.m, d.now.a) entry [] pairs.now)) }
 {
-    cell.degree.m == d.m + 1 && cell.degree.a == d.a
+    for k in 0..pairs.len() {
+        let failure = cycle_pair_failure(
+            alloc,
+            g,
+            borders,
+            d,
+            &pairs[k],
+            &pairs[..k],
+            &pairs[k + 1..],
+        )?;
+        if let Some(test) = failure {
+            return Ok(Some((entry + k as u32, test)));
+        }
+    }
+    Ok(None)
 }
 
 // The first test that a cycle pair of a cell fails. `earlier` and `later` are the other pairs of the cell.
@@ -219,32 +242,30 @@ fn pairs_with_own_alone(pair: &CyclePair, earlier: &[CyclePair], later: &[CycleP
         && cycles_pair_evenly(later, &pair.cocycle)
 }
 
-// The first test that the cycle pairs of a cell fail. The first of them is the entry with the number `entry`.
-fn cycles_failure(
+// Whether the cocycle pairs evenly with the cycle of each of these pairs.
+fn cycles_pair_evenly(pairs: &[CyclePair], f: &Cochain) -> bool
+    ensures { result ≡ list_all (λ (p : Pair). not (pairs_oddly p.cycle f.now)) pairs.now }
+{
+    pairs.iter().all(|p| !p.cycle.pair(f))
+}
+
+// The first test that the step pairs of a cell fail. The first of them is the entry with the number `entry`.
+fn steps_failure(
     alloc: Global,
     g: &Grid,
-    borders: &[Chain],
     d: &Bidegree,
-    pairs: &[CyclePair],
+    pairs: &[StepPair],
     entry: u32,
 ) -> Result<Option<(u32, CertTest)>, NoMemory>
-    requires states { All (HasCycleStates g.now) pairs.now }
-    requires borders { AreBorders g.now borders.now }
+    requires small { HasSmallDegrees (d.now.m, d.now.a) }
+    requires states { All (HasStepStates g.now) pairs.now }
     requires few { entry + length pairs.now < 2 ^ 32 }
     ensures { IfOk result (λ failure. failure
-        ≡ first_failing (cycle_questions g.now (d.now.m, d.now.a) entry [] pairs.now)) }
+        ≡ first_failing (step_questions g.now (d.now.m, d.now.a) entry pairs.now)) }
 {
+    let borders = borders_of_steps(alloc, g, pairs)?;
     for k in 0..pairs.len() {
-        let failure = cycle_pair_failure(
-            alloc,
-            g,
-            borders,
-            d,
-            &pairs[k],
-            &pairs[..k],
-            &pairs[k + 1..],
-        )?;
-        if let Some(test) = failure {
+        if let Some(test) = step_pair_failure(g, d, &pairs[k], &borders[k], &borders[k + 1..]) {
             return Ok(Some((entry + k as u32, test)));
         }
     }
@@ -297,6 +318,14 @@ fn has_step_degrees(g: &Grid, d: &Bidegree, pair: &StepPair) -> bool
     all_have(g, d, &pair.step) && all_have(g, &one_below(d), &pair.probe)
 }
 
+// The bidegree with a Maslov degree one lower.
+fn one_below(d: &Bidegree) -> Bidegree
+    requires { HasSmallDegrees (d.now.m, d.now.a) }
+    ensures { (result.m, result.a) ≡ one_below_of (d.now.m, d.now.a) }
+{
+    Bidegree { m: d.m - 1, a: d.a }
+}
+
 // Whether the probe pairs oddly with one chain, and evenly with each of the others.
 fn is_probe(own: &Chain, others: &[Chain], probe: &Cochain) -> bool
     ensures { result ≡ (pairs_oddly own.now probe.now
@@ -305,78 +334,49 @@ fn is_probe(own: &Chain, others: &[Chain], probe: &Cochain) -> bool
     own.pair(probe) && pairs_evenly(others, probe)
 }
 
-// The first test that the step pairs of a cell fail. The first of them is the entry with the number `entry`.
-fn steps_failure(
-    alloc: Global,
-    g: &Grid,
-    d: &Bidegree,
-    pairs: &[StepPair],
-    entry: u32,
-) -> Result<Option<(u32, CertTest)>, NoMemory>
-    requires small { HasSmallDegrees (d.now.m, d.now.a) }
-    requires states { All (HasStepStates g.now) pairs.now }
-    requires few { entry + length pairs.now < 2 ^ 32 }
-    ensures { IfOk result (λ failure. failure
-        ≡ first_failing (step_questions g.now (d.now.m, d.now.a) entry pairs.now)) }
+// Whether the cochain pairs evenly with each of these chains.
+fn pairs_evenly(chains: &[Chain], f: &Cochain) -> bool
+    ensures { result ≡ list_all (λ z. not (pairs_oddly z f.now)) chains.now }
 {
-    let borders = borders_of_steps(alloc, g, pairs)?;
-    for k in 0..pairs.len() {
-        if let Some(test) = step_pair_failure(g, d, &pairs[k], &borders[k], &borders[k + 1..]) {
-            return Ok(Some((entry + k as u32, test)));
-        }
-    }
-    Ok(None)
+    chains.iter().all(|z| !z.pair(f))
 }
 
-// The first test that a cell or one of its pairs fails. The cell is the entry with the number `entry`.
-fn cell_failure(
-    alloc: Global,
-    c: &Cert,
-    borders: &[Chain],
-    cell: &CertCell,
-    entry: u32,
-) -> Result<Option<(u32, CertTest)>, NoMemory>
-    requires small { HasSmallDegrees cell.now.at }
-    requires states { HasPairStates c.now.grid cell.now }
-    requires borders { AreBorders c.now.grid borders.now }
-    requires few { entry + 1 + length cell.now.cycles + length cell.now.steps < 2 ^ 32 }
-    ensures { IfOk result (λ failure. failure ≡ first_failing (cell_questions c.now entry cell.now)) }
+// The borders of all states of the grid, by rank.
+fn borders_of_states(alloc: Global, g: &Grid) -> Result<Vec<Chain>, NoMemory>
+    ensures { IfOk result (λ borders. AreBorders g.now borders.items) }
 {
-    if !count_passes(c, cell) {
-        return Ok(Some((entry, CertTest::Count)));
+    let n = g.size();
+    let mut borders = Vec::new(alloc);
+    for code in 0..state_count(n) {
+        borders.push(border_of_state(alloc, g, &State::unrank(n, code))?)?;
     }
-    let first = entry + 1 + cell.cycles().len() as u32;
-    match cycles_failure(
-        alloc,
-        c.grid(),
-        borders,
-        cell.degree(),
-        cell.cycles(),
-        entry + 1,
-    )? {
-        Some(failure) => Ok(Some(failure)),
-        None => steps_failure(alloc, c.grid(), cell.degree(), cell.steps(), first),
-    }
+    Ok(borders)
 }
 
-// What the check of a certificate says.
-fn verdict_on(alloc: Global, c: &Cert) -> Result<CertVerdict, NoMemory>
-    ensures { IfOk result (λ v. v ≡ verdict_of c.now) }
+// The number of states of this bidegree.
+fn state_count_at(g: &Grid, d: &Bidegree) -> u32
+    ensures { result ≡ count_at g.now (d.now.m, d.now.a) }
 {
-    let borders = borders_of_states(alloc, c.grid())?;
-    let mut entry = 1;
-    for cell in c.cells() {
-        if let Some((entry, test)) = cell_failure(alloc, c, &borders, cell, entry)? {
-            return Ok(CertVerdict::No { entry, test });
-        }
-        entry += 1 + cell.cycles().len() as u32 + cell.steps().len() as u32;
+    let mut count = 0;
+    for code in 0..state_count(g.size()) {
+        count += u32::from(has_degree(g, d, code));
     }
-    if none_missing(c) {
-        Ok(CertVerdict::Yes)
-    } else {
-        Ok(CertVerdict::No {
-            entry,
-            test: CertTest::Missing,
-        })
-    }
+    count
+}
+
+// Whether each state of the set has this bidegree.
+fn all_have(g: &Grid, d: &Bidegree, z: &Chain) -> bool
+    requires { AreStates g.now z.now }
+    ensures { result ≡ all_have_of g.now (d.now.m, d.now.a) z.now }
+{
+    z.codes().iter().all(|code| has_degree(g, d, *code))
+}
+
+/// Whether the state of rank `code` has this bidegree.
+pub(crate) fn has_degree(g: &Grid, d: &Bidegree, code: u32) -> bool
+    requires { code < factorial (size g.now) }
+    ensures { result ≡ has_degree_of g.now (d.now.m, d.now.a) code }
+{
+    let here = degree(g, &State::unrank(g.size(), code));
+    here.m == d.m && here.a == d.a
 }

@@ -18,17 +18,19 @@ mod certificates;
 mod checks;
 mod degrees;
 mod making;
+mod places;
 mod printing;
 mod ranks;
 mod reading;
 mod tables;
 mod verdicts;
+mod words;
 
 pub use certificates::Cert;
 pub use checks::check_cert;
-pub use making::make_cert;
+pub use making::{MAX_CERTIFIED_SIZE, make_cert};
 pub use printing::print_cert;
-pub use reading::{CertEnd, read_cert};
+pub use reading::{CertEnd, MAX_CERTIFICATE, read_cert};
 pub use tables::rank_table;
 pub use verdicts::{CertTest, CertVerdict};
 

@@ -26,6 +26,9 @@ use std::alloc::Global;
 use std::collections::BTreeSet;
 use torus_geom::Grid;
 
+/// The greatest size of a grid that has certificates.
+pub const MAX_CERTIFIED_SIZE: u8 = 6;
+
 /// A certificate of the table of the grid, which passes all its tests.
 ///
 /// The arrows of each bidegree's slice are cancelled with a log. A state that is left gives a cycle pair, its
@@ -44,6 +47,9 @@ pub fn make_cert(alloc: Global, g: &Grid) -> Result<Cert, NoMemory>
     // Whatever the call answers: each grid of this size has a certificate that passes.
     ensures some_certificate { (h : Marks) → IsGrid h → size h ≤ max_certified_size → (c : Certificate) × IsCertificate c
         × (c.grid ≡ h) × (verdict_of c ≡ CertVerdict.Yes) × (length (certificate_text c) < max_certificate) }
+
+    // The limit is that of the definitions.
+    ensures limit { MAX_CERTIFIED_SIZE ≡ max_certified_size }
 {
     let _size = g.size();
     certificate_of(alloc, g)

@@ -1,18 +1,17 @@
 //! The text of a certificate.
 ghost use Rattle.std.specs.Prelude.{◌≡◌, ◌∷◌, [], ◌++◌, IfOk, OnOk, All};
 ghost use Rattle.std.specs.List.{flat_map};
-ghost use Rattle.state_rank.specs.States.{state_word};
 ghost use Rattle.torus_geom.specs.Marks.{size};
 ghost use Rattle.homology_cert.specs.Certificates.{AreStates, HasCycleStates, HasStepStates, HasPairStates};
-ghost use Rattle.homology_cert.specs.CertificateText.{text_of_lines, certificate_text, head_lines, cell_lines, degree_line, cycle_lines, step_lines, set_line, marks_line};
+ghost use Rattle.homology_cert.specs.CertificateText.{text_of_lines, certificate_text, head_lines, cell_lines, degree_line, cycle_lines, step_lines, marks_line};
+ghost use Rattle.text_lines.specs.Lines.{set_line};
 
 use crate::certificates::{Cert, CertCell, CyclePair, StepPair};
 use f2_chain::Chain;
 use gradings::Bidegree;
 use grid_ports::NoMemory;
-use itoa::{Buffer, Integer};
-use state_rank::State;
 use std::alloc::Global;
+use text_lines::{push_number, push_set_line};
 use torus_geom::Grid;
 
 /// The text of the certificate, as docs/FORMATS.md says.
@@ -121,31 +120,5 @@ fn push_set(text: &mut Vec<u8>, word: &[u8], g: &Grid, z: &Chain) -> Result<(), 
     requires { AreStates g.now z.now }
     ensures { OnOk result (text.new.items ≡ text.old.items ++ (set_line word.now (size g.now) z.now ++ 10 ∷ [])) }
 {
-    let n = g.size();
-    text.extend_from_slice(word)?;
-    for code in z.codes() {
-        push_state(text, &State::unrank(n, *code))?;
-    }
-    text.push(b'\n')?;
-    Ok(())
-}
-
-// Appends a space and the word of a state.
-fn push_state(text: &mut Vec<u8>, x: &State) -> Result<(), NoMemory>
-    ensures { OnOk result (text.new.items ≡ text.old.items ++ 32 ∷ state_word x.now) }
-{
-    text.push(b' ')?;
-    for row in x.rows() {
-        text.push(b'0' + *row)?;
-    }
-    Ok(())
-}
-
-// Appends the decimal digits of a number.
-fn push_number<I: Integer>(text: &mut Vec<u8>, number: I) -> Result<(), NoMemory>
-    ensures { OnOk result (text.new.items ≡ text.old.items ++ I.text number) }
-{
-    let mut buffer = Buffer::new();
-    text.extend_from_slice(buffer.format(number).as_bytes())?;
-    Ok(())
+    push_set_line(text, word, g.size(), z)
 }

@@ -4,7 +4,7 @@ use Rattle.std.proofs.lemmas.Int.{to_z-of_z}
 use Rattle.std.specs.Fmt.{signed_decimal}
 use mir.Syntax.{w32}
 use mir.Val.{SFits, to_z, of_z}
-use Rattle.report_text.specs.Lines.{line}
+use Rattle.text_lines.specs.Lines.{line}
 
 -- what is printed of a signed number of 32 bits is the number
 pub printed : (old new : List ℕ) (z : ℤ) → SFits w32 z → new ≡ old ++ signed_decimal (to_z w32 (of_z w32 z))
@@ -19,6 +19,6 @@ row_line-pieces l m a d = simp append_assoc
 
 -- the pieces of the line of a class make one line
 pub class_line-pieces : (s x m a v : List ℕ)
-    → (((((((codes "class " ++ s) ++ 32 ∷ x) ++ codes " at ") ++ m) ++ 32 ∷ []) ++ a) ++ v) ++ 10 ∷ []
-    ≡ line (codes "class " ++ s ++ 32 ∷ x ++ codes " at " ++ m ++ 32 ∷ a ++ v)
+    → (((((((((codes "class " ++ s) ++ 32 ∷ []) ++ x) ++ codes " at ") ++ m) ++ 32 ∷ []) ++ a) ++ 32 ∷ []) ++ v) ++ 10 ∷ []
+    ≡ line (codes "class " ++ s ++ 32 ∷ x ++ codes " at " ++ m ++ 32 ∷ a ++ 32 ∷ v)
 class_line-pieces s x m a v = simp append_assoc

@@ -1,38 +1,37 @@
 -- The lines that a report has, as bytes. One space stands between words, and one line feed ends each
 -- line. Whole numbers are decimal, with `-` before negative ones.
---     line words                 the words as a line
 --     front_line tb rot l        the Thurston-Bennequin number, the rotation number and the number of
 --                                components of a front
 --     row_line row               the line of a row of a table: its Maslov degree, its Alexander degree and its rank
+--     verdict_word alive         the word for what a class is
 --     class_line sign x m a alive
 --                                the state x+ or x- of a grid, its Maslov and its Alexander degree, and whether its
 --                                class is alive or null
 --     table_lines rows           the number of rows of a table, and a line for each row
 --     hat_lines exponent hat     the exponent, the number of rows and a line for each row of a hat, or that there is
 --                                none
---     set_line word n z          a word, and the states of size n of a chain, in ascending order
 --     refused_line word number   the word of a fault, and the number of its line
-use Rattle.std.specs.Prelude.{ℕ, ℤ, Bool, List, [], ◌∷◌, ◌++◌, length, codes, Option, None, Some, if◌then◌else◌}
+use Rattle.std.specs.Prelude.{ℕ, ℤ, Bool, List, ◌∷◌, ◌++◌, length, codes, Option, None, Some, if◌then◌else◌}
 use Rattle.std.specs.List.{flat_map}
 use Rattle.std.specs.Fmt.{decimal, signed_decimal}
-use Rattle.f2_algebra.specs.Chain.{Chain, codes as ranks}
-use Rattle.state_rank.specs.States.{unrank, state_word}
+use Rattle.state_rank.specs.States.{state_word}
+use Rattle.text_lines.specs.Lines.{line}
 use Rattle.hat_division.specs.declared.tables.TableRow.{TableRow}
 use Rattle.grid_text.specs.Commands.{sign_word}
 use Rattle.grid_text.specs.declared.commands.Sign.{Sign}
-
-abbrev pub line : List ℕ → List ℕ
-line words = words ++ 10 ∷ []
 
 abbrev pub front_line : ℤ → ℤ → ℕ → List ℕ
 front_line tb rot components = line
     (codes "front tb " ++ signed_decimal tb ++ codes " rot " ++ signed_decimal rot
     ++ codes " components " ++ decimal components)
 
+abbrev pub verdict_word : Bool → List ℕ
+verdict_word alive = if alive then codes "alive" else codes "null"
+
 abbrev pub class_line : Sign → List ℕ → ℤ → ℤ → Bool → List ℕ
 class_line sign x m a alive = line
     (codes "class " ++ sign_word sign ++ 32 ∷ state_word x ++ codes " at " ++ signed_decimal m ++ 32 ∷ signed_decimal a
-    ++ (if alive then codes " alive" else codes " null"))
+    ++ 32 ∷ verdict_word alive)
 
 abbrev pub row_line : TableRow → List ℕ
 row_line row = line
@@ -45,9 +44,6 @@ abbrev pub hat_lines : ℕ → Option (List TableRow) → List ℕ
 hat_lines exponent None = line (codes "hat none")
 hat_lines exponent (Some rows) = line
     (codes "hat exponent " ++ decimal exponent ++ codes " rows " ++ decimal (length rows)) ++ flat_map row_line rows
-
-abbrev pub set_line : List ℕ → ℕ → Chain → List ℕ
-set_line word n z = line (word ++ flat_map (λ k. 32 ∷ state_word (unrank n k)) (ranks z))
 
 abbrev pub refused_line : List ℕ → ℕ → List ℕ
 refused_line word number = line (codes "refused " ++ word ++ codes " line " ++ decimal number)

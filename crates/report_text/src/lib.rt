@@ -10,7 +10,9 @@
 
 mod lines;
 
-pub use lines::{class_line, front_line, hat_lines, refused_line, set_line, table_lines};
+pub use lines::{
+    class_line, front_line, hat_lines, refused_line, set_line, table_lines, verdict_word,
+};
 
 #[cfg(test)]
 mod tests;

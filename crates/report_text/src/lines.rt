@@ -4,9 +4,10 @@ ghost use Rattle.std.specs.List.{flat_map};
 ghost use Rattle.std.specs.Option.{option_copied};
 ghost use Rattle.f2_algebra.specs.Chain.{codes as codes_of};
 ghost use Rattle.state_rank.specs.Bijection.{IsSize};
-ghost use Rattle.state_rank.specs.States.{factorial, state_word};
+ghost use Rattle.state_rank.specs.States.{factorial};
 ghost use Rattle.grid_text.specs.Commands.{sign_word};
-ghost use Rattle.report_text.specs.Lines.{front_line as front_line_of, class_line as class_line_of, row_line, table_lines as table_lines_of, hat_lines as hat_lines_of, set_line as set_line_of, refused_line as refused_line_of};
+ghost use Rattle.report_text.specs.Lines.{front_line as front_line_of, class_line as class_line_of, verdict_word as verdict_word_of, row_line, table_lines as table_lines_of, hat_lines as hat_lines_of, refused_line as refused_line_of};
+ghost use Rattle.text_lines.specs.Lines.{line, set_line as set_line_of};
 
 use f2_chain::Chain;
 use front_data::FrontNumbers;
@@ -14,9 +15,9 @@ use gradings::Bidegree;
 use grid_ports::NoMemory;
 use grid_text::Sign;
 use hat_division::{Table, TableRow};
-use itoa::{Buffer, Integer};
 use state_rank::State;
 use std::alloc::Global;
+use text_lines::{push_number, push_set_line};
 
 /// The line of the classical invariants of a front: `front tb T rot R components L`.
 ///
@@ -54,14 +55,23 @@ pub fn class_line(
 {
     let mut line = Vec::from_slice(alloc, b"class ")?;
     line.push(sign_byte(sign))?;
-    push_word(&mut line, x)?;
+    line.push(b' ')?;
+    x.push_word(&mut line)?;
     line.extend_from_slice(b" at ")?;
     push_number(&mut line, d.m)?;
     line.push(b' ')?;
     push_number(&mut line, d.a)?;
-    line.extend_from_slice(verdict_word(alive))?;
+    line.push(b' ')?;
+    line.extend_from_slice(verdict_word(alive).as_bytes())?;
     line.push(b'\n')?;
     Ok(line)
+}
+
+/// The word for what a class is: `alive` or `null`.
+pub fn verdict_word(alive: bool) -> &'static str
+    ensures { result.now ≡ verdict_word_of alive }
+{
+    if alive { "alive" } else { "null" }
 }
 
 /// The lines of a table of ranks: `ranks K` with the number of rows, then a line `rank M A D` for each
@@ -105,14 +115,11 @@ pub fn hat_lines(alloc: Global, exponent: u8, q: Option<&Table>) -> Result<Vec<u
 pub fn set_line(alloc: Global, word: &str, n: u8, z: &Chain) -> Result<Vec<u8>, NoMemory>
     requires size { IsSize n }
     requires ranks { All (λ code. code < factorial n) (codes_of z.now) }
-    ensures { IfOk result (λ line. line.items ≡ set_line_of word.now n z.now) }
+    ensures { IfOk result (λ text. text.items ≡ line (set_line_of word.now n z.now)) }
 {
-    let mut line = Vec::from_slice(alloc, word.as_bytes())?;
-    for code in z.codes() {
-        push_word(&mut line, &State::unrank(n, *code))?;
-    }
-    line.push(b'\n')?;
-    Ok(line)
+    let mut text = Vec::new(alloc);
+    push_set_line(&mut text, word.as_bytes(), n, z)?;
+    Ok(text)
 }
 
 /// The line of a refusal: `refused WORD line L` with the word of the fault and the number of its line.
@@ -155,22 +162,6 @@ fn sign_byte(sign: Sign) -> u8
     }
 }
 
-// A space, and the word for what a class is.
-fn verdict_word(alive: bool) -> &'static [u8]
-    ensures { result.now ≡ (if alive then codes " alive" else codes " null") }
-{
-    if alive { b" alive" } else { b" null" }
-}
-
-// Appends the decimal digits of a number.
-fn push_number<I: Integer>(line: &mut Vec<u8>, number: I) -> Result<(), NoMemory>
-    ensures { OnOk result (line.new.items ≡ line.old.items ++ I.text number) }
-{
-    let mut buffer = Buffer::new();
-    line.extend_from_slice(buffer.format(number).as_bytes())?;
-    Ok(())
-}
-
 // Appends the lines of rows.
 fn push_rows(lines: &mut Vec<u8>, rows: &[TableRow]) -> Result<(), NoMemory>
     ensures { OnOk result (lines.new.items ≡ lines.old.items ++ flat_map row_line rows.now) }
@@ -192,16 +183,5 @@ fn push_row(lines: &mut Vec<u8>, row: &TableRow) -> Result<(), NoMemory>
     lines.push(b' ')?;
     push_number(lines, row.rank)?;
     lines.push(b'\n')?;
-    Ok(())
-}
-
-// Appends a space and the word of a state.
-fn push_word(line: &mut Vec<u8>, state: &State) -> Result<(), NoMemory>
-    ensures { OnOk result (line.new.items ≡ line.old.items ++ 32 ∷ state_word state.now) }
-{
-    line.push(b' ')?;
-    for row in state.rows() {
-        line.push(b'0' + row)?;
-    }
     Ok(())
 }

@@ -33,7 +33,8 @@ use Rattle.torus_geom.specs.Degrees.{bidegree}
 use Rattle.gradings.specs.Degrees.{IsSmallDegree}
 use Rattle.homology_cert.specs.Certificates.{Cell, Certificate, comes_first, HasSmallDegrees, AreStates, HasCycleStates, HasStepStates, HasPairStates, entry_count}
 use Rattle.homology_cert.specs.CertificateTests.{same_degree, has_degree, state_count_at}
-use Rattle.homology_cert.specs.CertificateText.{set_line, marks_line, degree_line, cycle_lines, step_lines, cell_lines, head_lines, text_of_lines, certificate_text}
+use Rattle.homology_cert.specs.CertificateText.{marks_line, degree_line, cycle_lines, step_lines, cell_lines, head_lines, text_of_lines, certificate_text}
+use Rattle.text_lines.specs.Lines.{set_line}
 use Rattle.homology_cert.proofs.Texts.TextLemmas.{text_of_lines-append, certificate_text-parts}
 use Rattle.homology_cert.proofs.Certified.CertifiedLemmas.{same_degree-is}
 

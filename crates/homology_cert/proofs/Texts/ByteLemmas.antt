@@ -1,5 +1,5 @@
--- The bytes of lines, as the reader goes through them: where a line feed stands, digits, and words of states.
-use Rattle.std.proofs.Common.{◌≡◌, ◌≢◌, ℕ, zero, suc, ◌+◌, ◌-◌, ◌<◌, ◌≤◌, List, [], ◌∷◌, ◌++◌, length, take, drop, get_or, codes, Option, None, Some, IsNone, IfSome, OnSome, MatchOption, ◌↔◌, refl, sym, ap, ap₂, subst, ◌∙◌, arith, ℤ, pos, negsuc, append_assoc, length-append, Result, Ok, ◌^◌, w32, w64, unsigned_abs, to_z, of_z, to_z-of_z}
+-- The bytes of lines, as the reader goes through them: the first part of a line, digits, and words of states.
+use Rattle.std.proofs.Common.{true, false, ◌||◌, true≢false, inl, inr, ◌≡◌, ℕ, suc, ◌+◌, ◌-◌, ◌<◌, ◌≤◌, List, [], ◌∷◌, ◌++◌, length, take, drop, get_or, codes, Option, None, Some, IfSome, IfNone, ◌↔◌, refl, sym, ap, ap₂, subst, ◌∙◌, arith, ℤ, pos, negsuc, append_assoc, length-append, Result, Ok, ◌^◌, w32, w64, unsigned_abs, to_z, of_z, to_z-of_z}
 use Rattle.std.proofs.lemmas.Int.{ints, fits_signed_from_abs}
 use Rattle.std.proofs.lemmas.Str.{IsUtf8-from_ascii}
 use Rattle.std.specs.Str.{IsUtf8, IsAscii}
@@ -8,30 +8,51 @@ use Rattle.itoa.proofs.Decimal.{IsAscii-signed_decimal}
 use Rattle.gradings.specs.Degrees.{IsSmallDegree}
 use Rattle.std.specs.Option.{option_map}
 use Rattle.std.specs.Fmt.{signed_decimal}
-use Rattle.std.proofs.lemmas.List.{take_more, drop_more, take-append-drop, append_cancel_left, length-map, take_all}
+use Rattle.std.proofs.lemmas.List.{take-append-drop, append_cancel_left, take_all, length-take-le}
 use Rattle.std.proofs.lemmas.Fmt.{decimal_digit, parse-signed_decimal}
 use Rattle.std.proofs.Math.Seq.{take-append_seam}
 use Rattle.std.proofs.Math.ListN.{length-drop}
-use Rattle.state_rank.specs.Bijection.{IsSize, IsBijection}
-use Rattle.state_rank.specs.States.{state_word, IsState, factorial, rank, unrank}
+use Rattle.state_rank.specs.Bijection.{IsBijection}
+use Rattle.state_rank.specs.States.{IsState, state_word, factorial, rank, unrank}
 use Rattle.state_rank.proofs.RankLemmas.{length-unrank, unrank-rank}
+use Rattle.state_rank.proofs.WordLemmas.{length-state_word}
+use Rattle.text_lines.specs.Parts.{is_one_of, HasNone, IsFirstPart}
+use Rattle.std.proofs.lemmas.Bool.{cases_eq, eq-eqb, ne_eqb}
 use Rattle.homology_cert.specs.Certificates.{HasSmallDegrees}
 use Rattle.homology_cert.specs.CertificateText.{degree_line}
 use Rattle.homology_cert.specs.Inner.Reading.{IsFree, size_line, IsSmallSize}
-use Rattle.homology_cert.proofs.Texts.LineLemmas.{state_word-injective, free-signed, split_at_free, small_mag}
-use Rattle.homology_cert.proofs.Texts.ReadLemmas.{free-append}
+use Rattle.homology_cert.proofs.Texts.LineLemmas.{free-signed, split_at_free, small_mag}
 
--- ---- line feeds
--- one more byte is not the one
-pub free-take_more : (b : ℕ) (xs : List ℕ) (k : ℕ) → k < length xs → IsFree b (take k xs) → get_or xs k 0 ≢ b
-    → IsFree b (take (k + 1) xs)
-free-take_more b xs k within free other =
-    subst (IsFree b) (sym (take_more xs k 0 within)) (free-append b (take k xs) (get_or xs k 0 ∷ []) free (other, tt))
+-- ---- the first part
+-- bytes of which none is the one
+free-none : (b : ℕ) (bytes : List ℕ) → HasNone (b ∷ []) bytes → IsFree b bytes
+free-none b [] none = tt
+free-none b (c ∷ bytes) none = (
+  λ e. true≢false (sym (ap (λ t. t || false) (eq-eqb c b e)) ∙ none 0 c (omega arith)),
+  free-none b bytes (λ k d l. none (suc k) d (omega arith)),
+)
 
--- a list is what stands before a place, what stands there, and the rest
-pub parts_at : (xs : List ℕ) (k b : ℕ) → k < length xs → get_or xs k 0 ≡ b → xs ≡ take k xs ++ b ∷ drop (k + 1) xs
-parts_at xs k b within is =
-    sym (take-append-drop k xs) ∙ ap (λ r. take k xs ++ r) (drop_more xs k 0 within ∙ ap (λ c. c ∷ drop (k + 1) xs) is)
+-- a byte that is the one
+is_the_one : (b c : ℕ) → is_one_of (b ∷ []) c ≡ true → c ≡ b
+is_the_one b c t = elim (cases_eq c b) [
+  | inl e ↦ e
+  | inr other ↦ absurd (true≢false (sym t ∙ ap (λ s. s || false) (ne_eqb c b other)))
+]
+
+-- the bytes up to the first that is the one, and those after it
+pub first_part-one : {X : Type 0} (b : ℕ) (bytes : List ℕ) (part after : X → List ℕ) (r : Option X)
+    → IfSome r (λ p. IsFirstPart (b ∷ []) bytes (part p) (after p))
+    → IfSome r (λ p. (bytes ≡ part p ++ b ∷ after p) × IsFree b (part p))
+first_part-one b bytes part after None h = tt
+first_part-one b bytes part after (Some p) h = (
+  h.split ∙ ap (λ c. part p ++ c ∷ after p) (is_the_one b h.end h.is_end),
+  free-none b (part p) h.none,
+)
+
+pub first_part-none : {X : Type 0} (b : ℕ) (bytes : List ℕ) (r : Option X) → IfNone r (HasNone (b ∷ []) bytes)
+    → IfNone r (IsFree b bytes)
+first_part-none b bytes None h = free-none b bytes h
+first_part-none b bytes (Some p) h = tt
 
 -- ---- the line of a size
 pub size_digit : (n : ℕ) (line digits : List ℕ) → n < 10 → line ≡ codes "grid " ++ digits
@@ -45,38 +66,6 @@ pub one_digit : (d n : ℕ) (digits : List ℕ) → length digits ≡ 1 → get_
 one_digit d n [] long is = absurd (omega (arith, long))
 one_digit d n (c ∷ []) long is = ap (λ b. b ∷ []) is
 one_digit d n (c ∷ b ∷ cs) long is = absurd (omega (arith, long))
-
--- ---- the words of states
-get_or-state_word : (x : List ℕ) (k : ℕ) → k < length (state_word x) → 48 ≤ get_or (state_word x) k 0
-get_or-state_word [] k within = absurd (omega (arith, within))
-get_or-state_word (r ∷ x) zero within = omega arith
-get_or-state_word (r ∷ x) (suc k) within = get_or-state_word x k (omega (arith, within))
-
--- a word with a byte below the digits is that of no state
-pub state_word-none : (word : List ℕ) (k : ℕ) → k < length word → get_or word k 0 < 48 → (x : List ℕ)
-    → word ≢ state_word x
-state_word-none word k within below x e =
-    let high = get_or-state_word x k (subst (λ w. k < length w) e within) in
-    absurd (omega (arith, high, subst (λ w. get_or w k 0 < 48) e below))
-
--- what is read of the word of a state is the state
-pub state_of-read : (n : ℕ) (digits rows : List ℕ) (r : Option (List ℕ)) → IsSize n → length digits ≡ n
-    → digits ≡ state_word rows
-    → IfSome r (λ x. x ≡ rows) → OnSome r (IsState rows) → (IsNone r → IsState rows → ⊥)
-    → MatchOption r ((x : List ℕ) → IsBijection n x → digits ≢ state_word x) (λ x. IsBijection n x
-    × (digits ≡ state_word x))
-state_of-read n digits rows (Some x) small long e same state none =
-    let size : length rows ≡ n = sym (length-map rows (λ (q : ℕ). 48 + q)) ∙ sym (ap length e) ∙ long in (
-      subst (λ y. IsBijection n y) (sym same) (subst (λ m. IsBijection m rows) size state.bijection),
-      e ∙ ap state_word (sym same),
-    )
-state_of-read n digits rows None small long e same state none =
-    λ x bijection is.
-    let rows_is : rows ≡ x = state_word-injective rows x (sym e ∙ is) in
-    none refl (subst IsState (sym rows_is) (record {
-      size = subst IsSize (sym bijection.long) small;
-      bijection = subst (λ m. IsBijection m x) (sym bijection.long) bijection;
-    }))
 
 -- ---- the line of a bidegree
 pub not_free : (b : ℕ) (xs ys : List ℕ) → IsFree b (xs ++ b ∷ ys) → ⊥
@@ -116,7 +105,7 @@ pub state_first : (n s : ℕ) (bytes more : List ℕ) → s < factorial n → by
     → (n < length bytes) × (get_or bytes 0 0 ≡ 32) × (take n (drop 1 bytes) ≡ state_word (unrank n s))
 state_first n s bytes more below e =
     let word = state_word (unrank n s) in
-    let long : length word ≡ n = length-map (unrank n s) (λ (q : ℕ). 48 + q) ∙ length-unrank n s below in (
+    let long : length word ≡ n = length-state_word (unrank n s) ∙ length-unrank n s below in (
       omega (arith, ap length e, long, length-append word more),
       ap (λ b. get_or b 0 0) e,
       ap (λ b. take n (drop 1 b)) e ∙ ap (λ k. take k (word ++ more)) (sym long) ∙ take-append_seam word more,
@@ -164,11 +153,13 @@ parsed z word r small e parses = parse-signed_decimal w32 z word r (fits_signed_
     (small_mag z small) e parses
 
 -- the bytes of a state, by its rank
-pub state_bytes : (n : ℕ) (bytes x : List ℕ) (r : ℕ) → n < length bytes → get_or bytes 0 0 ≡ 32 → IsBijection n x
+pub state_bytes : (n : ℕ) (bytes x : List ℕ) (r : ℕ) → n < length bytes → get_or bytes 0 0 ≡ 32 → IsState x
     → take n (drop 1 bytes) ≡ state_word x → r ≡ rank x → r < factorial (length x)
     → (r < factorial n) × (n < length bytes) × (bytes ≡ (32 ∷ state_word (unrank n r)) ++ drop (n + 1) bytes)
-state_bytes n [] x r long space is word same below = absurd (omega (arith, long))
-state_bytes n (b ∷ bs) x r long space is word same below =
+state_bytes n [] x r long space state word same below = absurd (omega (arith, long))
+state_bytes n (b ∷ bs) x r long space state word same below =
+    let size : length x ≡ n = sym (length-state_word x) ∙ sym (ap length word) ∙ length-take-le n bs (omega (arith, long)) in
+    let is = subst (λ m. IsBijection m x) size state.bijection in
     let unranked : unrank n r ≡ x = ap (unrank n) same ∙ unrank-rank n x is in
     let one : suc n ≡ n + 1 = omega arith in (
       subst (λ k. r < factorial k) is.long below,

@@ -22,10 +22,11 @@ use Rattle.torus_geom.specs.Range.{one_up}
 use Rattle.torus_geom.proofs.Circles.TurnLemmas.{one_up-below, one_up-last, one_up_below, one_up_one}
 use Rattle.torus_geom.proofs.Sums.TabulateLemmas.{slice_index-tabulate}
 use Rattle.homology_cert.specs.Certificates.{Cell, Certificate, IsCertificate, comes_first, HasSmallDegrees, AreStates, HasCycleStates, HasStepStates, HasPairStates, entry_count}
-use Rattle.homology_cert.specs.CertificateText.{set_line, marks_line, degree_line, cycle_lines, step_lines, cell_lines, head_lines, certificate_lines}
+use Rattle.homology_cert.specs.CertificateText.{marks_line, degree_line, cycle_lines, step_lines, cell_lines, head_lines, certificate_lines}
+use Rattle.text_lines.specs.Lines.{set_line}
 use Rattle.homology_cert.specs.Inner.Reading.{size_line, new_cell, with_cycle, with_step, IsSmallSize, IsSmallGrid, LeadsTo, lines_in, lines_at, AreClosed, IsAt}
-use Rattle.homology_cert.specs.declared.reading.Place.{Place}
-use Rattle.homology_cert.specs.declared.reading.Place.TheVariants.{Start, Size, OLine, XLine, NoCell, InCell, InCycle, InStep, End}
+use Rattle.homology_cert.specs.declared.places.Place.{Place}
+use Rattle.homology_cert.specs.declared.places.Place.TheVariants.{Start, Size, OLine, XLine, NoCell, InCell, InCycle, InStep, End}
 
 -- ---- the last cell
 abbrev Before : Cell → Cell → Type 0

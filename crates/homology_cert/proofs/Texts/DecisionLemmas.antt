@@ -16,10 +16,11 @@ use Rattle.state_rank.proofs.RankLemmas.{IsBijection-unrank, unrank-rank, rank-b
 use Rattle.gradings.specs.Degrees.{IsSmallDegree}
 use Rattle.torus_geom.specs.Marks.{Marks, size, IsGrid}
 use Rattle.homology_cert.specs.Certificates.{Cell, Certificate, IsCertificate, comes_first, HasSmallDegrees, AreStates}
-use Rattle.homology_cert.specs.CertificateText.{set_line, marks_line, degree_line, certificate_text, IsFirstBadLine}
+use Rattle.homology_cert.specs.CertificateText.{marks_line, degree_line, certificate_text, IsFirstBadLine}
+use Rattle.text_lines.specs.Lines.{set_line}
 use Rattle.homology_cert.specs.Inner.Reading.{size_line, new_cell, with_cycle, with_step, IsSmallSize, LeadsTo, IsAt, IsFree, IsRead}
-use Rattle.homology_cert.specs.declared.reading.Place.{Place}
-use Rattle.homology_cert.specs.declared.reading.Place.TheVariants.{Start, Size, OLine, XLine, NoCell, InCell, InCycle, InStep, End}
+use Rattle.homology_cert.specs.declared.places.Place.{Place}
+use Rattle.homology_cert.specs.declared.places.Place.TheVariants.{Start, Size, OLine, XLine, NoCell, InCell, InCycle, InStep, End}
 use Rattle.homology_cert.proofs.Texts.LineLemmas.{marks_line-injective}
 use Rattle.homology_cert.proofs.Texts.PlaceLemmas.{not_after, small_rows}
 use Rattle.homology_cert.proofs.Texts.SetLemmas.{state_bytes_of, length-state_bytes, IsReadSet, IsReadSet-start, IsReadSet-next, IsReadSet-end, no_set-no_code, no_set-not_above}

@@ -1,5 +1,5 @@
 -- The lines of a certificate: none has a line feed in it, and each tells what it is made of.
-use Rattle.std.proofs.Common.{◌≡◌, ◌≢◌, ℕ, suc, ◌+◌, ◌<◌, ◌≤◌, ◌^◌, List, [], ◌∷◌, ◌++◌, length, codes, ℤ, pos, negsuc, All, refl, sym, ap, ap₂, ◌∙◌, arith, length-append, append_assoc}
+use Rattle.std.proofs.Common.{◌≡◌, ◌≢◌, ℕ, suc, ◌<◌, ◌≤◌, ◌^◌, List, [], ◌∷◌, ◌++◌, length, codes, ℤ, pos, negsuc, All, refl, sym, ap, ap₂, ◌∙◌, arith, length-append, append_assoc}
 use Rattle.std.specs.List.{flat_map}
 use Rattle.std.specs.Fmt.{decimal, signed_decimal}
 use Rattle.std.specs.Char.{digit_value}
@@ -12,9 +12,11 @@ use Rattle.f2_algebra.specs.Chain.{Chain, codes as ranks}
 use Rattle.f2_algebra.proofs.Chains.Sets.{any, same_chain, holds-codes}
 use Rattle.state_rank.specs.States.{factorial, unrank, rank, state_word}
 use Rattle.state_rank.proofs.RankLemmas.{length-unrank, rank-unrank}
+use Rattle.state_rank.proofs.WordLemmas.{state_word_injective, length-state_word}
 use Rattle.gradings.specs.Degrees.{IsSmallDegree}
 use Rattle.homology_cert.specs.Certificates.{HasSmallDegrees}
-use Rattle.homology_cert.specs.CertificateText.{set_line, marks_line, degree_line}
+use Rattle.homology_cert.specs.CertificateText.{marks_line, degree_line}
+use Rattle.text_lines.specs.Lines.{set_line}
 use Rattle.homology_cert.specs.Inner.Reading.{IsFree}
 
 -- ---- two lists in parts
@@ -51,20 +53,6 @@ flat_map-injective f k P long apart (x ∷ xs) (y ∷ ys) p q e =
     parts.1)
 
 -- ---- sets of states
-pub state_word-injective : (x y : List ℕ) → state_word x ≡ state_word y → x ≡ y
-state_word-injective [] [] e = refl
-state_word-injective [] (s ∷ y) e = absurd (omega (arith, ap length e))
-state_word-injective (r ∷ x) [] e = absurd (omega (arith, ap length e))
-state_word-injective (r ∷ x) (s ∷ y) e =
-    let head : 48 + r ≡ 48 + s = cc in
-    let tail : state_word x ≡ state_word y = cc in
-    let same : r ≡ s = omega arith in
-    ap₂ (λ h t. h ∷ t) same (state_word-injective x y tail)
-
-length-state_word : (x : List ℕ) → length (state_word x) ≡ length x
-length-state_word [] = refl
-length-state_word (r ∷ x) = ap suc (length-state_word x)
-
 pub set_line-injective : (word : List ℕ) (n : ℕ) (z w : Chain) → All (λ s. s < factorial n) (ranks z)
     → All (λ s. s < factorial n) (ranks w)
     → set_line word n z ≡ set_line word n w → z ≡ w
@@ -73,7 +61,7 @@ set_line-injective word n z w p q e =
     (λ s l. ap suc (length-state_word (unrank n s) ∙ length-unrank n s l))
     (λ s t l m h.
     let tail : state_word (unrank n s) ≡ state_word (unrank n t) = cc in
-    sym (rank-unrank n s l) ∙ ap rank (state_word-injective (unrank n s) (unrank n t) tail) ∙ rank-unrank n t m)
+    sym (rank-unrank n s l) ∙ ap rank (state_word_injective (unrank n s) (unrank n t) tail) ∙ rank-unrank n t m)
     (ranks z) (ranks w) p q (append_cancel_left word _ _ e) in
     same_chain z w (λ s. holds-codes z s ∙ ap (any s) same ∙ sym (holds-codes w s))
 

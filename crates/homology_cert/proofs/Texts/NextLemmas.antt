@@ -8,10 +8,11 @@ use Rattle.f2_algebra.specs.Chain.{Chain}
 use Rattle.state_rank.specs.Bijection.{IsBijection}
 use Rattle.torus_geom.specs.Marks.{Marks, size, IsGrid}
 use Rattle.homology_cert.specs.Certificates.{Cell, HasSmallDegrees, AreStates}
-use Rattle.homology_cert.specs.CertificateText.{set_line, marks_line, degree_line}
+use Rattle.homology_cert.specs.CertificateText.{marks_line, degree_line}
+use Rattle.text_lines.specs.Lines.{set_line}
 use Rattle.homology_cert.specs.Inner.Reading.{size_line, with_cycle, with_step, IsSmallSize, LeadsTo, IsAt}
-use Rattle.homology_cert.specs.declared.reading.Place.{Place}
-use Rattle.homology_cert.specs.declared.reading.Place.TheVariants.{Start, Size, OLine, XLine, NoCell, InCell, InCycle, InStep}
+use Rattle.homology_cert.specs.declared.places.Place.{Place}
+use Rattle.homology_cert.specs.declared.places.Place.TheVariants.{Start, Size, OLine, XLine, NoCell, InCell, InCycle, InStep}
 
 -- what a test says that fails
 pub not_true : (b : Bool) → b ≡ false → IsTrue b → ⊥

@@ -12,8 +12,8 @@ use Rattle.torus_geom.specs.Marks.{Marks, size}
 use Rattle.homology_cert.specs.Certificates.{Cell, Certificate, IsCertificate, comes_first, HasSmallDegrees, HasCycleStates, HasStepStates, HasPairStates}
 use Rattle.homology_cert.specs.CertificateText.{cycle_lines, step_lines, cell_lines, head_lines, certificate_lines}
 use Rattle.homology_cert.specs.Inner.Reading.{new_cell, with_cycle, with_step, Path}
-use Rattle.homology_cert.specs.declared.reading.Place.{Place}
-use Rattle.homology_cert.specs.declared.reading.Place.TheVariants.{Start, Size, OLine, XLine, NoCell, InCell, InCycle, InStep, End}
+use Rattle.homology_cert.specs.declared.places.Place.{Place}
+use Rattle.homology_cert.specs.declared.places.Place.TheVariants.{Start, Size, OLine, XLine, NoCell, InCell, InCycle, InStep, End}
 
 -- ---- paths
 -- two paths, one after the other

@@ -4,10 +4,11 @@ use Rattle.f2_algebra.specs.Chain.{Chain}
 use Rattle.state_rank.specs.Bijection.{IsBijection}
 use Rattle.torus_geom.specs.Marks.{Marks, size}
 use Rattle.homology_cert.specs.Certificates.{Cell, comes_first, HasSmallDegrees}
-use Rattle.homology_cert.specs.CertificateText.{set_line, degree_line}
+use Rattle.homology_cert.specs.CertificateText.{degree_line}
+use Rattle.text_lines.specs.Lines.{set_line}
 use Rattle.homology_cert.specs.Inner.Reading.{new_cell, with_cycle, with_step, LeadsTo, IsAt}
-use Rattle.homology_cert.specs.declared.reading.Place.{Place}
-use Rattle.homology_cert.specs.declared.reading.Place.TheVariants.{Start, Size, OLine, XLine, NoCell, InCell, InCycle, InStep, End}
+use Rattle.homology_cert.specs.declared.places.Place.{Place}
+use Rattle.homology_cert.specs.declared.places.Place.TheVariants.{Start, Size, OLine, XLine, NoCell, InCell, InCycle, InStep, End}
 use Rattle.std.proofs.lemmas.List.{append_cancel_left}
 use Rattle.std.proofs.lemmas.Fmt.{decimal_injective}
 use Rattle.std.proofs.lemmas.Grind.{get_or_default_zero}

@@ -15,10 +15,11 @@ use Rattle.state_rank.specs.Bijection.{IsBijection}
 use Rattle.state_rank.specs.States.{unrank, state_word}
 use Rattle.torus_geom.specs.Marks.{Marks, size}
 use Rattle.homology_cert.specs.Certificates.{Cell, Certificate, IsCertificate, HasSmallDegrees}
-use Rattle.homology_cert.specs.CertificateText.{set_line, marks_line, degree_line, cycle_lines, step_lines, cell_lines, head_lines, certificate_lines, text_of_lines, certificate_text, HasFirstLines, IsFirstBadLine}
+use Rattle.homology_cert.specs.CertificateText.{marks_line, degree_line, cycle_lines, step_lines, cell_lines, head_lines, certificate_lines, text_of_lines, certificate_text, HasFirstLines, IsFirstBadLine}
+use Rattle.text_lines.specs.Lines.{set_line}
 use Rattle.homology_cert.specs.Inner.Reading.{LeadsTo, Path, lines_at, IsAt, IsFree, AreFree, IsRead}
-use Rattle.homology_cert.specs.declared.reading.Place.{Place}
-use Rattle.homology_cert.specs.declared.reading.Place.TheVariants.{Start, End}
+use Rattle.homology_cert.specs.declared.places.Place.{Place}
+use Rattle.homology_cert.specs.declared.places.Place.TheVariants.{Start, End}
 use Rattle.homology_cert.proofs.Texts.TextLemmas.{text_of_lines-append}
 use Rattle.homology_cert.proofs.Texts.LineLemmas.{free-decimal, free-signed, split_at_free, small_mag}
 use Rattle.homology_cert.proofs.Texts.PlaceLemmas.{small_rows, leads_to-one}

@@ -8,24 +8,25 @@ use Rattle.std.specs.List.Sorted.{IsStrictlyIncreasing}
 use Rattle.std.proofs.lemmas.Bool.{cases_lt}
 use Rattle.std.proofs.Math.ListN.{get_or-append}
 use Rattle.std.proofs.Math.Seq.{get_or-append_seam}
-use Rattle.std.proofs.lemmas.List.{append-nil, append_cancel_left, length-map}
+use Rattle.std.proofs.lemmas.List.{append-nil, append_cancel_left}
 use Rattle.f2_algebra.specs.Chain.{Chain, nothing, single, ◌⊕◌, of_codes, codes as ranks}
 use Rattle.f2_algebra.proofs.Chains.Lists.{of_codes-push, codes-of_codes, any-above, rises, rising-codes}
 use Rattle.state_rank.specs.States.{factorial, rank, unrank, state_word}
 use Rattle.state_rank.proofs.RankLemmas.{length-unrank, rank-unrank}
-use Rattle.homology_cert.specs.CertificateText.{set_line}
-use Rattle.homology_cert.proofs.Texts.LineLemmas.{append-parts, state_word-injective}
+use Rattle.text_lines.specs.Lines.{set_line}
+use Rattle.state_rank.proofs.WordLemmas.{state_word_injective, length-state_word}
+use Rattle.homology_cert.proofs.Texts.LineLemmas.{append-parts}
 
 abbrev pub state_bytes_of : ℕ → ℕ → List ℕ
 state_bytes_of n s = 32 ∷ state_word (unrank n s)
 
 pub length-state_bytes : (n s : ℕ) → s < factorial n → length (state_bytes_of n s) ≡ suc n
-length-state_bytes n s l = ap suc (length-map (unrank n s) (λ (q : ℕ). 48 + q) ∙ length-unrank n s l)
+length-state_bytes n s l = ap suc (length-state_word (unrank n s) ∙ length-unrank n s l)
 
 same_code : (n s t : ℕ) → s < factorial n → t < factorial n → state_bytes_of n s ≡ state_bytes_of n t → s ≡ t
 same_code n s t l m h =
     let tail : state_word (unrank n s) ≡ state_word (unrank n t) = cc in
-    sym (rank-unrank n s l) ∙ ap rank (state_word-injective (unrank n s) (unrank n t) tail) ∙ rank-unrank n t m
+    sym (rank-unrank n s l) ∙ ap rank (state_word_injective (unrank n s) (unrank n t) tail) ∙ rank-unrank n t m
 
 -- the codes that were read are the first of any list with this text
 first_codes : (n : ℕ) (xs ys rest : List ℕ) → All (λ s. s < factorial n) xs → All (λ s. s < factorial n) ys

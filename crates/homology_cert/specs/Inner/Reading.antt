@@ -24,10 +24,11 @@ use Rattle.state_rank.specs.Bijection.{IsSize, IsBijection}
 use Rattle.torus_geom.specs.Marks.{Marks, size, IsGrid}
 use Rattle.homology_cert.specs.CertificateLimits.{max_certified_size}
 use Rattle.homology_cert.specs.Certificates.{Cell, comes_first, HasSmallDegrees, AreStates, HasPairStates}
-use Rattle.homology_cert.specs.CertificateText.{set_line, marks_line, degree_line, cell_lines, head_lines, text_of_lines}
+use Rattle.homology_cert.specs.CertificateText.{marks_line, degree_line, cell_lines, head_lines, text_of_lines}
+use Rattle.text_lines.specs.Lines.{set_line}
 pub use Rattle.homology_cert.specs.Inner.Cells.{new_cell, with_cycle, with_step}
-use Rattle.homology_cert.specs.declared.reading.Place.{Place}
-use Rattle.homology_cert.specs.declared.reading.Place.TheVariants.{Start, Size, OLine, XLine, NoCell, InCell, InCycle, InStep, End}
+use Rattle.homology_cert.specs.declared.places.Place.{Place}
+use Rattle.homology_cert.specs.declared.places.Place.TheVariants.{Start, Size, OLine, XLine, NoCell, InCell, InCycle, InStep, End}
 
 abbrev pub size_line : ℕ → List ℕ
 size_line n = codes "grid " ++ decimal n

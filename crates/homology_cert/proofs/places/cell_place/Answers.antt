@@ -1,0 +1,22 @@
+use Rattle.std.proofs.Common.{◌≡◌, sym, ap, ◌∙◌, false}
+use Rattle.homology_cert.specs.Certificates.{comes_first}
+use Rattle.homology_cert.specs.Inner.Cells.{new_cell}
+use Rattle.homology_cert.proofs.Texts.NextLemmas.{next-in_cell, not_told, not_true}
+use Rattle.homology_cert.proofs.Texts.PlaceLemmas.{not_after}
+use Rattle.homology_cert.proofs.places.cell_place.Goals as goal
+
+pub returns-in_default : goal.returns-in_default
+returns-in_default c =
+    next-in_cell c.args.cells.now.items c.args.line.now c.args.g c.args.cell c.pair_place.result
+    (not_told c.is_last_line.result _ c.is_last_line.ensures c.if-is_last_line.false) c.in_default.ensures.none
+    c.pair_place.ensures
+
+pub returns-then-not-comes_first : goal.returns-then-not-comes_first
+returns-then-not-comes_first c q es leads =
+    let at = c.degree.ensures in
+    let none : comes_first (new_cell c.args.cell.at) (new_cell (c.in-Some.d.m, c.in-Some.d.a)) ≡ false =
+    ap (λ d. comes_first (new_cell d) (new_cell (c.in-Some.d.m, c.in-Some.d.a))) (sym at) ∙ sym c.comes_first.ensures
+    ∙ c.if-not-comes_first.true in
+    not_after c.args.g c.args.cell c.args.cells.now.items c.args.line.now (c.in-Some.d.m, c.in-Some.d.a) q es
+    c.in-Some.ensures.some.0 c.in-Some.ensures.some.1
+    (λ h. not_true _ none h) leads
