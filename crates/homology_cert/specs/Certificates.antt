@@ -8,7 +8,7 @@
 --     cycle_pair_code, step_pair_code, cell_code, certificate_code   how the values of these are told apart
 --     comes_first p q       p stands before q: its Alexander degree is higher, or that is the same and its Maslov
 --                           degree is higher
---     HasSmallDegrees d     both degrees are from -1,000 to 1,000
+--     AreSmallDegrees d     both degrees are from -1,000 to 1,000
 --     AreStates g z         the codes of z are ranks of states of the grid
 --     HasCycleStates g p, HasStepStates g p, HasPairStates g c
 --                           so are those of both sets of a cycle pair, of a step pair, and of all pairs of a cell
@@ -63,7 +63,7 @@ certificate_code =
 abbrev pub comes_first : Cell → Cell → Bool
 comes_first p q = stands_before p.at q.at
 
-pub record HasSmallDegrees (d : ℤ × ℤ) : Type 0 where
+pub record AreSmallDegrees (d : ℤ × ℤ) : Type 0 where
   pub maslov : IsSmallDegree d.0
   pub alexander : IsSmallDegree d.1
 
@@ -89,6 +89,6 @@ pub record IsCertificate (c : Certificate) : Type 0 where
   pub grid : IsGrid c.grid
   pub small : size c.grid ≤ max_certified_size
   pub ordered : AllPairs (λ p q. IsTrue (comes_first p q)) c.cells
-  pub degrees : All (λ (cell : Cell). HasSmallDegrees cell.at) c.cells
+  pub degrees : All (λ (cell : Cell). AreSmallDegrees cell.at) c.cells
   pub states : All (HasPairStates c.grid) c.cells
   pub few : entry_count c.cells < 2 ^ 32 - 1

@@ -5,3 +5,4 @@ pub mod Making
 pub mod Checks
 pub mod Cells
 pub mod Reading
+pub mod Questions

@@ -10,9 +10,11 @@ ghost use Rattle.torus_geom.specs.Marks.{size};
 ghost use Rattle.torus_geom.specs.Degrees.{bidegree};
 ghost use Rattle.torus_geom.specs.Inner.CodeBorder.{border_of_state as border_of, border as border_of_chain};
 ghost use Rattle.torus_geom.specs.Inner.CodeHomology.{IsHomologyTable};
-ghost use Rattle.homology_cert.specs.Certificates.{Cell, Certificate, IsCertificate, AreStates, HasSmallDegrees, HasCycleStates, HasStepStates, HasPairStates, entry_count};
-ghost use Rattle.homology_cert.specs.Inner.Checks.{AreBorders, step_borders, at_entry};
-ghost use Rattle.homology_cert.specs.CertificateTests.{verdict_of, first_failing, is_empty, cycle_pair_questions, cycle_questions, step_pair_questions, step_questions, cell_questions, is_cocycle as is_cocycle_of, certified_rows, same_degree, count_passes as count_passes_of, none_missing as none_missing_of, one_below as one_below_of, has_degree as has_degree_of, all_have as all_have_of, state_count_at as count_at};
+ghost use Rattle.homology_cert.specs.Certificates.{Cell, Certificate, IsCertificate, AreStates, AreSmallDegrees, HasCycleStates, HasStepStates, HasPairStates, entry_count};
+ghost use Rattle.homology_cert.specs.Inner.Checks.{AreBorders, step_borders};
+ghost use Rattle.homology_cert.specs.Inner.Questions.{at_entry};
+ghost use Rattle.homology_cert.specs.CertificateTests.{verdict_of, is_empty_chain, is_cocycle as is_cocycle_of, certified_rows, same_degree, count_passes as count_passes_of, none_missing as none_missing_of, one_below as one_below_of, has_bidegree as has_bidegree_of, all_have as all_have_of, state_count_at as count_at};
+ghost use Rattle.homology_cert.specs.Inner.Questions.{first_failing, cycle_pair_questions, cycle_questions, step_pair_questions, step_questions, cell_questions};
 
 use crate::certificates::{Cert, CertCell, CyclePair, StepPair};
 use crate::verdicts::{CertTest, CertVerdict};
@@ -74,7 +76,7 @@ fn cell_failure(
     cell: &CertCell,
     entry: u32,
 ) -> Result<Option<(u32, CertTest)>, NoMemory>
-    requires small { HasSmallDegrees cell.now.at }
+    requires small { AreSmallDegrees cell.now.at }
     requires states { HasPairStates c.now.grid cell.now }
     requires borders { AreBorders c.now.grid borders.now }
     requires few { entry + 1 + length cell.now.cycles + length cell.now.steps < 2 ^ 32 }
@@ -100,7 +102,7 @@ fn cell_failure(
 // Whether there are as many states of the bidegree of the cell as its pairs and the step pairs of the cell above
 // ask for, and at least one.
 fn count_passes(c: &Cert, cell: &CertCell) -> bool
-    requires small { HasSmallDegrees cell.now.at }
+    requires small { AreSmallDegrees cell.now.at }
     requires few { length cell.now.cycles + length cell.now.steps < 2 ^ 32 }
     ensures { result ≡ count_passes_of c.now cell.now }
 {
@@ -111,7 +113,7 @@ fn count_passes(c: &Cert, cell: &CertCell) -> bool
 
 // The number of step pairs of the cell one Maslov degree above, 0 where there is none.
 fn steps_above(cells: &[CertCell], d: &Bidegree) -> u64
-    requires small { HasSmallDegrees (d.now.m, d.now.a) }
+    requires small { AreSmallDegrees (d.now.m, d.now.a) }
     requires few { entry_count cells.now < 2 ^ 32 }
     ensures steps { result ≡ length (steps_at same_degree cells.now (up_m (d.now.m, d.now.a))) }
     ensures few { result < 2 ^ 32 }
@@ -126,7 +128,7 @@ fn steps_above(cells: &[CertCell], d: &Bidegree) -> u64
 
 // Whether the cell is one Maslov degree above `d`.
 fn is_above(cell: &CertCell, d: &Bidegree) -> bool
-    requires small { HasSmallDegrees (d.now.m, d.now.a) }
+    requires small { AreSmallDegrees (d.now.m, d.now.a) }
     ensures { result ≡ same_degree cell.now.at (up_m (d.now.m, d.now.a)) }
 {
     cell.degree.m == d.m + 1 && cell.degree.a == d.a
@@ -148,9 +150,9 @@ fn none_missing(c: &Cert) -> bool
 // Whether one of the cells is at the bidegree of the state of rank `code`.
 fn has_cell(g: &Grid, cells: &[CertCell], code: u32) -> bool
     requires { code < factorial (size g.now) }
-    ensures { result ≡ list_any (λ (cell : Cell). has_degree_of g.now cell.at code) cells.now }
+    ensures { result ≡ list_any (λ (cell : Cell). has_bidegree_of g.now cell.at code) cells.now }
 {
-    cells.iter().any(|cell| has_degree(g, &cell.degree, code))
+    cells.iter().any(|cell| has_bidegree(g, &cell.degree, code))
 }
 
 // The first test that the cycle pairs of a cell fail. The first of them is the entry with the number `entry`.
@@ -218,7 +220,7 @@ fn cycle_pair_failure(
 // Whether the border of the chain is empty.
 fn is_cycle(alloc: Global, g: &Grid, z: &Chain) -> Result<bool, NoMemory>
     requires { AreStates g.now z.now }
-    ensures { IfOk result (λ empty. empty ≡ is_empty (border_of_chain g.now z.now)) }
+    ensures { IfOk result (λ empty. empty ≡ is_empty_chain (border_of_chain g.now z.now)) }
 {
     let border = border(alloc, g, z)?;
     Ok(border.codes().is_empty())
@@ -257,7 +259,7 @@ fn steps_failure(
     pairs: &[StepPair],
     entry: u32,
 ) -> Result<Option<(u32, CertTest)>, NoMemory>
-    requires small { HasSmallDegrees (d.now.m, d.now.a) }
+    requires small { AreSmallDegrees (d.now.m, d.now.a) }
     requires states { All (HasStepStates g.now) pairs.now }
     requires few { entry + length pairs.now < 2 ^ 32 }
     ensures { IfOk result (λ failure. failure
@@ -293,7 +295,7 @@ fn step_pair_failure(
     own: &Chain,
     later: &[Chain],
 ) -> Option<CertTest>
-    requires small { HasSmallDegrees (d.now.m, d.now.a) }
+    requires small { AreSmallDegrees (d.now.m, d.now.a) }
     requires states { HasStepStates g.now pair.now }
     requires own { own.now ≡ border_of_chain g.now pair.now.step }
     ensures { (entry : ℕ) (pairs : List Step) → later.now ≡ step_borders g.now pairs → at_entry entry result
@@ -310,7 +312,7 @@ fn step_pair_failure(
 
 // Whether the states of the step have the bidegree of its cell, and those of the probe one Maslov degree less.
 fn has_step_degrees(g: &Grid, d: &Bidegree, pair: &StepPair) -> bool
-    requires small { HasSmallDegrees (d.now.m, d.now.a) }
+    requires small { AreSmallDegrees (d.now.m, d.now.a) }
     requires states { HasStepStates g.now pair.now }
     ensures { result ≡ (all_have_of g.now (d.now.m, d.now.a) pair.now.step
         && all_have_of g.now (one_below_of (d.now.m, d.now.a)) pair.now.probe) }
@@ -320,7 +322,7 @@ fn has_step_degrees(g: &Grid, d: &Bidegree, pair: &StepPair) -> bool
 
 // The bidegree with a Maslov degree one lower.
 fn one_below(d: &Bidegree) -> Bidegree
-    requires { HasSmallDegrees (d.now.m, d.now.a) }
+    requires { AreSmallDegrees (d.now.m, d.now.a) }
     ensures { (result.m, result.a) ≡ one_below_of (d.now.m, d.now.a) }
 {
     Bidegree { m: d.m - 1, a: d.a }
@@ -359,7 +361,7 @@ fn state_count_at(g: &Grid, d: &Bidegree) -> u32
 {
     let mut count = 0;
     for code in 0..state_count(g.size()) {
-        count += u32::from(has_degree(g, d, code));
+        count += u32::from(has_bidegree(g, d, code));
     }
     count
 }
@@ -369,13 +371,13 @@ fn all_have(g: &Grid, d: &Bidegree, z: &Chain) -> bool
     requires { AreStates g.now z.now }
     ensures { result ≡ all_have_of g.now (d.now.m, d.now.a) z.now }
 {
-    z.codes().iter().all(|code| has_degree(g, d, *code))
+    z.codes().iter().all(|code| has_bidegree(g, d, *code))
 }
 
 /// Whether the state of rank `code` has this bidegree.
-pub(crate) fn has_degree(g: &Grid, d: &Bidegree, code: u32) -> bool
+pub(crate) fn has_bidegree(g: &Grid, d: &Bidegree, code: u32) -> bool
     requires { code < factorial (size g.now) }
-    ensures { result ≡ has_degree_of g.now (d.now.m, d.now.a) code }
+    ensures { result ≡ has_bidegree_of g.now (d.now.m, d.now.a) code }
 {
     let here = degree(g, &State::unrank(g.size(), code));
     here.m == d.m && here.a == d.a

@@ -9,12 +9,12 @@ ghost use Rattle.torus_geom.specs.Inner.GridComplex.{grid_complex};
 ghost use Rattle.torus_geom.specs.Marks.{Marks, size, IsGrid};
 ghost use Rattle.homology_cert.specs.CertificateLimits.{max_certified_size, max_certificate};
 ghost use Rattle.homology_cert.specs.Certificates.{Certificate, IsCertificate};
-ghost use Rattle.homology_cert.specs.CertificateTests.{has_degree as has_degree_of, verdict_of};
+ghost use Rattle.homology_cert.specs.CertificateTests.{has_bidegree as has_bidegree_of, verdict_of};
 ghost use Rattle.homology_cert.specs.CertificateText.{certificate_text};
-ghost use Rattle.homology_cert.specs.Inner.Making.{HasBidegrees, HasState, AreMade, IsMade, cycle_pair, degree_is, left_codes, steps_after};
+ghost use Rattle.homology_cert.specs.Inner.Making.{HasBidegrees, HasState, AreMade, IsMadeCell, cycle_pair, degree_is, left_codes, steps_after};
 
 use crate::certificates::{Cert, CertCell, CyclePair, StepPair};
-use crate::checks::has_degree;
+use crate::checks::has_bidegree;
 use crate::verdicts::CertVerdict;
 use bumpalo::Bump;
 use cancel::{CancelLog, lift, lift_before, pull, pull_before, reduce};
@@ -99,7 +99,7 @@ fn bidegrees(alloc: Global, g: &Grid) -> Result<BTreeSet<(i32, i32)>, NoMemory>
 // The cell of a bidegree that some state has. The slice of its Alexander degree is reduced for this cell alone.
 fn cell_at(alloc: Global, g: &Grid, m: i32, a: i32) -> Result<CertCell, NoMemory>
     requires { HasState g.now (m, a) }
-    ensures { IfOk result (λ cell. IsMade g.now cell × (cell.at ≡ (m, a))) }
+    ensures { IfOk result (λ cell. IsMadeCell g.now cell × (cell.at ≡ (m, a))) }
 {
     cell_of_slice(alloc, g, m, a, AlexSlice::build(alloc, g, a)?)
 }
@@ -114,7 +114,7 @@ fn cell_of_slice(
 ) -> Result<CertCell, NoMemory>
     requires state { HasState g.now (m, a) }
     requires built { slice_complex slice.slice ≡ at_alexander a (grid_complex g.now) }
-    ensures { IfOk result (λ cell. IsMade g.now cell × (cell.at ≡ (m, a))) }
+    ensures { IfOk result (λ cell. IsMadeCell g.now cell × (cell.at ≡ (m, a))) }
 {
     let _size = g.size();
     let bump = Bump::new(alloc);
@@ -170,7 +170,7 @@ fn steps_of(
     log: &CancelLog,
 ) -> Result<Vec<StepPair>, NoMemory>
     requires { IsLog (at_alexander a (grid_complex g.now)) (log_of log.now) }
-    ensures { IfOk result (λ pairs. pairs.items ≡ steps_after (has_degree_of g.now (m, a)) [] (log_of log.now)) }
+    ensures { IfOk result (λ pairs. pairs.items ≡ steps_after (has_bidegree_of g.now (m, a)) [] (log_of log.now)) }
 {
     let _size = g.size();
     let entries = log.entries();
@@ -178,7 +178,7 @@ fn steps_of(
     let mut pairs = Vec::new(alloc);
     for k in 0..entries.len() {
         let entry = entries[k];
-        if has_degree(g, &degree, entry.x) {
+        if has_bidegree(g, &degree, entry.x) {
             let step = lift_before(alloc, log, k, entry.x)?;
             let probe = pull_before(alloc, log, k, entry.y)?;
             pairs.push(StepPair { step, probe })?;

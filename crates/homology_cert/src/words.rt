@@ -6,7 +6,7 @@ ghost use Rattle.state_rank.specs.Bijection.{IsSize, IsBijection};
 ghost use Rattle.state_rank.specs.States.{factorial, unrank, state_word};
 ghost use Rattle.gradings.specs.Degrees.{IsSmallDegree};
 ghost use Rattle.torus_geom.specs.Marks.{size};
-ghost use Rattle.homology_cert.specs.Certificates.{HasSmallDegrees, AreStates};
+ghost use Rattle.homology_cert.specs.Certificates.{AreSmallDegrees, AreStates};
 ghost use Rattle.homology_cert.specs.CertificateText.{marks_line, degree_line};
 ghost use Rattle.text_lines.specs.Lines.{set_line};
 ghost use Rattle.homology_cert.specs.Inner.Reading.{IsSmallSize, spaced, IsFree};
@@ -55,8 +55,8 @@ fn spaced_digits(bytes: &[u8], count: usize) -> Option<[u8; ROOM]>
 
 /// The bidegree of a line.
 pub(crate) fn degree_of(line: &[u8]) -> Option<Bidegree>
-    ensures some { IfSome result (λ d. HasSmallDegrees (d.m, d.a) × (line.now ≡ degree_line (d.m, d.a))) }
-    ensures none { IfNone result ((d : ℤ × ℤ) → HasSmallDegrees d → line.now ≢ degree_line d) }
+    ensures some { IfSome result (λ d. AreSmallDegrees (d.m, d.a) × (line.now ≡ degree_line (d.m, d.a))) }
+    ensures none { IfNone result ((d : ℤ × ℤ) → AreSmallDegrees d → line.now ≢ degree_line d) }
 {
     let Some(words) = after_prefix(line, b"cell ".as_slice()) else {
         return None;

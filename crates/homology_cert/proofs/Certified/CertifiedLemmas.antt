@@ -42,7 +42,7 @@ use Rattle.torus_geom.proofs.Sums.AllBelowLemmas.{at_all_below}
 use Rattle.rectangles.proofs.Square.BorderLemmas.{border-grid_complex}
 use Rattle.rectangles.proofs.Law.GridComplexLemmas.{grid_complex_rules}
 use Rattle.homology_cert.specs.Certificates.{Cell, Certificate, comes_first, AreStates, HasCycleStates, HasStepStates, HasPairStates, IsCertificate}
-use Rattle.homology_cert.specs.CertificateTests.{same_degree, one_below, has_degree, all_have, state_count_at, is_empty, is_cocycle, verdict_of, certified_rows}
+use Rattle.homology_cert.specs.CertificateTests.{same_degree, one_below, has_bidegree, all_have, state_count_at, is_empty_chain, is_cocycle, verdict_of, certified_rows}
 use Rattle.homology_cert.specs.declared.verdicts.CertVerdict.TheVariants.{Yes}
 use Rattle.homology_cert.proofs.Homology.CellLemmas.{IsApart-pairs}
 use Rattle.homology_cert.proofs.Certified.PassingLemmas.{PassesCycle, PassesStep, PassesCell, ArePairedApart, member_of_all, not-true, passes_of_yes}
@@ -69,7 +69,7 @@ pub tested_code : (p : ℕ → Bool) (z : Chain) → list_all p (codes z) ≡ tr
 tested_code p z all s held =
     member_of_all p (codes z) all s (Contains-from_any (λ a b. eqb-true a b) s (codes z) (sym (holds-codes z s) ∙ held))
 
-pub nothing_of_empty : (z : Chain) → is_empty z ≡ true → z ≡ nothing
+pub nothing_of_empty : (z : Chain) → is_empty_chain z ≡ true → z ≡ nothing
 nothing_of_empty z h =
     same_chain z nothing (λ s. holds-codes z s ∙ ap (any s) (no_codes (codes z) h) ∙ sym (holds-nothing s))
   where
@@ -93,17 +93,17 @@ module _ (g : Marks) (grid : IsGrid g) where
       by_test false e = cc (sym (ap (λ b. if b then Some (bidegree g (unrank (size g) s)) else None) e) ∙ is)
 
   -- a state with the bidegree has this degree in the complex
-  pub degree_of_test : (d : ℤ × ℤ) (s : ℕ) → s < factorial (size g) → has_degree g d s ≡ true → G.degree s ≡ Some d
+  pub degree_of_test : (d : ℤ × ℤ) (s : ℕ) → s < factorial (size g) → has_bidegree g d s ≡ true → G.degree s ≡ Some d
   degree_of_test d s within h =
       degree_of_state s within ∙ ap Some ((same_degree-is (bidegree g (unrank (size g) s)) d).0 h)
 
   pub all_of_degree : (d : ℤ × ℤ) (z : Chain) → AreStates g z → all_have g d z ≡ true → AllOfDegree G d z
   all_of_degree d z states h s held =
       degree_of_test d s (at_code (λ code. code < factorial (size g)) z states s held)
-      (tested_code (has_degree g d) z h s held)
+      (tested_code (has_bidegree g d) z h s held)
 
   -- ---- pairs
-  no_border : (z : Chain) → is_empty (border g z) ≡ true → border_in G z ≡ nothing
+  no_border : (z : Chain) → is_empty_chain (border g z) ≡ true → border_in G z ≡ nothing
   no_border z h = border-grid_complex g z ∙ nothing_of_empty (border g z) h
 
   even_with_borders : (f : Chain) → is_cocycle g f ≡ true → (s : ℕ) → pairs_oddly (G.targets s) f ≡ false
@@ -190,7 +190,7 @@ module _ (g : Marks) (grid : IsGrid g) where
     cells_of same_degree same_degree-is G xs d,
     cells_of-all same_degree same_degree-is G xs in_states d,
     sym (cardinality-length _) ∙ cardinality-of_codes (filter (λ s. has_degree_in same_degree d (G.degree s)) xs) apart
-        ∙ count-same (λ s. has_degree_in same_degree d (G.degree s)) (has_degree g d) xs
+        ∙ count-same (λ s. has_degree_in same_degree d (G.degree s)) (has_bidegree g d) xs
         (λ s inside. ap (has_degree_in same_degree d)
         (degree_of_state s (member_of_ascending (factorial (size g)) s inside))),
   )
@@ -265,7 +265,7 @@ module _ (c : Certificate) (is : IsCertificate c) (told : verdict_of c ≡ Yes) 
             let within = state_of_degree c.grid is.grid s d at in
             let here =
             at_all_below (factorial (size c.grid))
-            (λ t. list_any (λ (cell : Cell). has_degree c.grid cell.at t) c.cells) shown.1 s within in
+            (λ t. list_any (λ (cell : Cell). has_bidegree c.grid cell.at t) c.cells) shown.1 s within in
             let bidegree_is = degree_of_state c.grid is.grid s within in
             at_bidegree d c.cells (ap (λ e. list_any (λ (cell : Cell). same_degree e cell.at) c.cells)
             (same_some d _ (sym at ∙ bidegree_is)) ∙ here),

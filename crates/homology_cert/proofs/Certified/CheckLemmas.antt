@@ -14,8 +14,11 @@ use Rattle.torus_geom.proofs.Sums.TabulateLemmas.{tabulate-suc, length-filter-as
 use Rattle.torus_geom.specs.Marks.{Marks}
 use Rattle.homology_cert.specs.Certificates.{Cell, Certificate, entry_count}
 use Rattle.torus_geom.specs.Inner.CodeBorder.{border}
-use Rattle.homology_cert.specs.CertificateTests.{Question, first_failing, cycle_pair_questions, cycle_questions, step_pair_questions, step_questions, cell_questions, all_questions, questions, none_missing, verdict_of_first, verdict_of}
-use Rattle.homology_cert.specs.Inner.Checks.{step_borders, at_entry}
+use Rattle.homology_cert.specs.CertificateTests.{none_missing, verdict_of}
+use Rattle.homology_cert.specs.Inner.Questions.{Question, first_failing, cycle_pair_questions, cycle_questions, step_pair_questions, step_questions, cell_questions, all_questions, questions, verdict_of_first}
+use Rattle.homology_cert.specs.Inner.Checks.{step_borders}
+use Rattle.homology_cert.specs.Inner.Questions.{at_entry}
+use Rattle.homology_cert.proofs.Certified.NumberLemmas.{or_later, first_failing-append, verdict_of-questions}
 use Rattle.homology_cert.specs.declared.verdicts.CertTest.{CertTest}
 use Rattle.homology_cert.specs.declared.verdicts.CertTest.TheVariants.{Missing}
 use Rattle.homology_cert.specs.declared.verdicts.CertVerdict.TheVariants.{Yes, No}
@@ -58,22 +61,6 @@ ascending-count p (suc n) =
     at_most_one : (b : Bool) → cond b 1 0 ≤ 1
     at_most_one true = omega arith
     at_most_one false = omega arith
-
--- ---- the first question that is not passed
-abbrev pub or_later : {A : Type 0} → Option A → Option A → Option A
-or_later None later = later
-or_later (Some a) later = Some a
-
-pub first_failing-append : (qs rs : List Question)
-    → first_failing (qs ++ rs) ≡ or_later (first_failing qs) (first_failing rs)
-first_failing-append [] rs = refl
-first_failing-append (q ∷ qs) rs = by_pass q.passes (first_failing-append qs rs)
-  where
-    by_pass : (b : Bool) → first_failing (qs ++ rs) ≡ or_later (first_failing qs) (first_failing rs)
-        → cond b (first_failing (qs ++ rs)) (Some (q.entry, q.test))
-        ≡ or_later (cond b (first_failing qs) (Some (q.entry, q.test))) (first_failing rs)
-    by_pass true h = h
-    by_pass false h = refl
 
 -- ---- slices
 -- the slice from n on
@@ -217,7 +204,7 @@ module _ (c : Certificate) where
       → No failure.0 failure.1 ≡ verdict_of c
   unfolding questions
   verdict_of-no failure told =
-      sym (ap verdict_of_first (first_failing-append (all_questions c 1 c.cells) _
+      sym (verdict_of-questions c ∙ ap verdict_of_first (first_failing-append (all_questions c 1 c.cells) _
       ∙ ap (λ f. or_later f (first_failing (last_question c))) (sym told)))
 
   -- where no cell fails, the last question decides
@@ -225,7 +212,8 @@ module _ (c : Certificate) where
       → verdict_of c ≡ verdict_of_first (first_failing (last_question c))
   unfolding questions
   verdict_of-last told =
-      ap verdict_of_first (first_failing-append (all_questions c 1 c.cells) (last_question c)
+      verdict_of-questions c
+      ∙ ap verdict_of_first (first_failing-append (all_questions c 1 c.cells) (last_question c)
       ∙ ap (λ f. or_later f (first_failing (last_question c))) (sym told))
 
   pub verdict_of-yes : None ≡ first_failing (all_questions c 1 c.cells) → none_missing c ≡ true → Yes ≡ verdict_of c

@@ -1,7 +1,6 @@
 -- What a certificate that passes shows, question by question: of each cell, of its cycle pairs and of its step pairs.
 --
--- Where no question fails, each is passed. So each cell has the facts of its tests, with what is asked of a pair and
--- the
+-- Where no question fails, each is passed. So each cell has the facts of its tests, with what is asked of a pair and the
 -- pairs before and after it as a fact of each two pairs.
 use Rattle.std.proofs.Common.{◌≡◌, ℕ, ◌+◌, Bool, true, false, not, cond, List, [], ◌∷◌, ◌++◌, length, ℤ, refl, sym, ap, ◌∙◌, inl, inr}
 use Rattle.std.specs.List.{list_all, Contains}
@@ -19,7 +18,9 @@ use Rattle.std.proofs.lemmas.List.Elements.{Contains-append_left, Contains-appen
 use Rattle.torus_geom.specs.Marks.{Marks}
 use Rattle.torus_geom.specs.Inner.CodeBorder.{border}
 use Rattle.homology_cert.specs.Certificates.{Cell, Certificate}
-use Rattle.homology_cert.specs.CertificateTests.{Question, all_have, one_below, count_passes, is_cocycle, is_empty, cycle_pair_questions, cycle_questions, step_pair_questions, step_questions, cell_questions, all_questions, none_missing, questions, first_failing, verdict_of_first, verdict_of}
+use Rattle.homology_cert.specs.CertificateTests.{all_have, one_below, count_passes, is_cocycle, is_empty_chain, none_missing, verdict_of}
+use Rattle.homology_cert.specs.Inner.Questions.{Question, cycle_pair_questions, cycle_questions, step_pair_questions, step_questions, cell_questions, all_questions, questions, first_failing, verdict_of_first}
+use Rattle.homology_cert.proofs.Certified.NumberLemmas.{verdict_of-questions}
 use Rattle.homology_cert.specs.declared.verdicts.CertTest.{CertTest}
 use Rattle.homology_cert.specs.declared.verdicts.CertVerdict.TheVariants.{Yes}
 
@@ -71,7 +72,7 @@ passed-first (q ∷ qs) h = by_pass q.passes refl (λ (k : first_failing qs ≡ 
 pub record PassesCycle (g : Marks) (d : ℤ × ℤ) (p : CyclePair) : Type 0 where
   pub cycle_degree : all_have g d p.cycle ≡ true
   pub cocycle_degree : all_have g d p.cocycle ≡ true
-  pub cycle : is_empty (border g p.cycle) ≡ true
+  pub cycle : is_empty_chain (border g p.cycle) ≡ true
   pub cocycle : is_cocycle g p.cocycle ≡ true
   pub own : pairs_oddly p.cycle p.cocycle ≡ true
 
@@ -217,6 +218,6 @@ module _ (c : Certificate) where
   pub passes_of_yes : verdict_of c ≡ Yes → Every (PassesCell c) c.cells × (none_missing c ≡ true)
   unfolding questions
   passes_of_yes told =
-      let passed = passed-first (questions c) (yes-none (first_failing (questions c)) told) in
+      let passed = passed-first (questions c) (yes-none (first_failing (questions c)) (sym (verdict_of-questions c) ∙ told)) in
       let parts = every_parts _ (all_questions c 1 c.cells) _ passed in
       (cells_pass 1 c.cells parts.0, parts.1.0)

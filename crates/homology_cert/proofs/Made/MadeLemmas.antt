@@ -39,14 +39,14 @@ use Rattle.torus_geom.specs.Inner.GridComplex.{grid_complex}
 use Rattle.torus_geom.proofs.Sums.AllBelowLemmas.{at_all_below}
 use Rattle.rectangles.proofs.Law.GridComplexLemmas.{grid_complex_rules}
 use Rattle.gradings.proofs.TableLemmas.{maslov_small, alexander_small}
-use Rattle.homology_cert.specs.Certificates.{Cell, Certificate, HasSmallDegrees, HasPairStates}
-use Rattle.homology_cert.specs.CertificateTests.{same_degree, has_degree, state_count_at, count_passes, verdict_of}
-use Rattle.homology_cert.specs.Inner.Making.{degree_is, left_codes, cycle_pair, step_pair, steps_after, IsMade, AreMade}
+use Rattle.homology_cert.specs.Certificates.{Cell, Certificate, AreSmallDegrees, HasPairStates}
+use Rattle.homology_cert.specs.CertificateTests.{same_degree, has_bidegree, state_count_at, count_passes, verdict_of}
+use Rattle.homology_cert.specs.Inner.Making.{degree_is, left_codes, cycle_pair, step_pair, steps_after, IsMadeCell, AreMade}
 use Rattle.homology_cert.specs.declared.verdicts.CertVerdict.TheVariants.{Yes}
 use Rattle.homology_cert.proofs.Homology.SliceRanks.{slice_of, IsReduction, left-below}
 use Rattle.homology_cert.proofs.Certified.PassingLemmas.{PassesCell}
 use Rattle.homology_cert.proofs.Certified.CertifiedLemmas.{same_degree-is, state_of_degree, degree_of_state, cells_at}
-use Rattle.homology_cert.proofs.Made.SlicePairLemmas.{IsTest-has_degree, cycle_passes, cycles_apart, cycle_states, step_passes, steps_apart, step_states}
+use Rattle.homology_cert.proofs.Made.SlicePairLemmas.{IsTest-has_bidegree, cycle_passes, cycles_apart, cycle_states, step_passes, steps_apart, step_states}
 use Rattle.homology_cert.proofs.Made.StepCountLemmas.{counted_steps, same_steps}
 use Rattle.homology_cert.proofs.Made.YesLemmas.{yes_of_passes}
 
@@ -99,11 +99,11 @@ module _ (g : Marks) (grid : IsGrid g) (a : ℤ) where
 
   -- the test of a degree
   abbrev tests : ℤ → ℕ → Bool
-  tests m = has_degree g (m, a)
+  tests m = has_bidegree g (m, a)
 
   -- it tells the cells of the degree
   are_tests : (m : ℤ) → IsTest S m (tests m)
-  are_tests m = IsTest-has_degree g grid m a
+  are_tests m = IsTest-has_bidegree g grid m a
 
   -- a degree that no state has
   none_at : (m : ℤ) → ((s : ℕ) → (grid_complex g).degree s ≡ Some (m, a) → ⊥) → cardinality (states_at m) ≡ 0
@@ -113,11 +113,11 @@ module _ (g : Marks) (grid : IsGrid g) (a : ℤ) where
       ∙ cardinality-of_codes [] tt
 
   -- a bidegree that some state has is small
-  small_state : (s : ℕ) (d : ℤ × ℤ) → (grid_complex g).degree s ≡ Some d → HasSmallDegrees d
+  small_state : (s : ℕ) (d : ℤ × ℤ) → (grid_complex g).degree s ≡ Some d → AreSmallDegrees d
   small_state s d is =
       let below = state_of_degree g grid s d is in
       let at : bidegree g (unrank (size g) s) ≡ d = same_some _ _ (sym (degree_of_state g grid s below) ∙ is) in
-      subst HasSmallDegrees at (record {
+      subst AreSmallDegrees at (record {
         maslov = maslov_small g grid (unrank (size g) s) (IsBijection-unrank (size g) s below);
         alexander = alexander_small g grid (unrank (size g) s) (IsBijection-unrank (size g) s below);
       })
@@ -202,7 +202,7 @@ module _ (g : Marks) (grid : IsGrid g) (a : ℤ) where
         (all_kept other also reduced_also) (pos 1000) none_above
 
 -- ---- a cell
-module _ (g : Marks) (grid : IsGrid g) (cell : Cell) (made : IsMade g cell) where
+module _ (g : Marks) (grid : IsGrid g) (cell : Cell) (made : IsMadeCell g cell) where
   -- the log of the cell leaves no arrow
   pub reduction : IsReduction g cell.at.1 made.left made.log
   reduction = record { stands = made.stands; is_after = made.is_after; no_arrow = made.no_arrow }
@@ -235,14 +235,14 @@ module _ (g : Marks) (grid : IsGrid g) (cell : Cell) (made : IsMade g cell) wher
       omega (arith, counted, cycles, stepped)
 
   -- its bidegree is small
-  pub small_here : HasSmallDegrees cell.at
+  pub small_here : AreSmallDegrees cell.at
   small_here = small_state g grid cell.at.1 made.state cell.at
       (degree_of_state g grid made.state made.below ∙ ap Some made.is_state)
 
   -- there are some
   pub some_here : state_count_at g cell.at ≢ 0
-  some_here none = nothing_in (filter (has_degree g cell.at) (ascending (factorial (size g)))) none made.state
-      (Contains-filter (has_degree g cell.at) (ascending (factorial (size g))) made.state
+  some_here none = nothing_in (filter (has_bidegree g cell.at) (ascending (factorial (size g)))) none made.state
+      (Contains-filter (has_bidegree g cell.at) (ascending (factorial (size g))) made.state
       (Contains-ascending (factorial (size g)) made.state made.below)
       ((same_degree-is (bidegree g (unrank (size g) made.state)) cell.at).1 made.is_state))
     where
@@ -258,7 +258,7 @@ module _ (g : Marks) (grid : IsGrid g) (cell : Cell) (made : IsMade g cell) wher
   }
 
 -- two made cells of one Alexander degree
-module _ (g : Marks) (grid : IsGrid g) (p q : Cell) (made : IsMade g p) (also : IsMade g q) (same : q.at ≡ up_m p.at)
+module _ (g : Marks) (grid : IsGrid g) (p q : Cell) (made : IsMadeCell g p) (also : IsMadeCell g q) (same : q.at ≡ up_m p.at)
   where
     -- the log of the second is one of the same slice
     level : IsReduction g p.at.1 also.left also.log
@@ -268,7 +268,7 @@ module _ (g : Marks) (grid : IsGrid g) (p q : Cell) (made : IsMade g p) (also : 
     pub steps_above : length q.steps ≡ steps_here g grid p made (p.at.0 +ℤ pos 1)
     steps_above =
         ap length also.steps
-        ∙ ap (λ d. length (steps_after (has_degree g d) [] also.log)) same
+        ∙ ap (λ d. length (steps_after (has_bidegree g d) [] also.log)) same
         ∙ length-steps g grid p.at.1 also.left also.log level (p.at.0 +ℤ pos 1)
         ∙ as_many_steps g grid p.at.1 also.left made.left also.log made.log level (reduction g grid p made)
         (p.at.0 +ℤ pos 1)
@@ -312,15 +312,15 @@ module _ (g : Marks) (grid : IsGrid g) (cells : List Cell) (made : AreMade g cel
       or_first false b h = (refl, h)
 
   -- each cell is made
-  abbrev each_made : Every (IsMade g) cells
-  each_made = every (IsMade g) cells made.each
+  abbrev each_made : Every (IsMadeCell g) cells
+  each_made = every (IsMadeCell g) cells made.each
 
   -- the steps of the cell above, if there is one
-  above : (cell : Cell) (is : IsMade g cell) → length (steps_at same_degree cells (up_m cell.at)) ≡ steps_here g grid
+  above : (cell : Cell) (is : IsMadeCell g cell) → length (steps_at same_degree cells (up_m cell.at)) ≡ steps_here g grid
       cell is (cell.at.0 +ℤ pos 1)
   above cell is = elim (cases_Bool (list_any (λ (x : Cell). same_degree (up_m cell.at) x.at) cells)) [
     | inl h ↦ found_at (up_m cell.at) (steps_here g grid cell is (cell.at.0 +ℤ pos 1)) cells
-        (every_weaker (IsMade g) (λ (x : Cell). x.at ≡ up_m cell.at
+        (every_weaker (IsMadeCell g) (λ (x : Cell). x.at ≡ up_m cell.at
         → length x.steps ≡ steps_here g grid cell is (cell.at.0 +ℤ pos 1)) cells
         (λ x also same. steps_above g grid cell x is also same) each_made) h
     | inr h ↦
@@ -337,11 +337,11 @@ module _ (g : Marks) (grid : IsGrid g) (cells : List Cell) (made : AreMade g cel
           let at : bidegree g (unrank (size g) s) ≡ up_m cell.at =
           same_some _ _ (sym (degree_of_state g grid s below) ∙ e) in
           false≢true (sym h ∙ ap (λ d. list_any (λ (x : Cell). same_degree d x.at) cells) (sym at)
-          ∙ at_all_below (factorial (size g)) (λ t. list_any (λ (x : Cell). has_degree g x.at t) cells)
+          ∙ at_all_below (factorial (size g)) (λ t. list_any (λ (x : Cell). has_bidegree g x.at t) cells)
           made.complete s below)
 
   -- the numbers of a cell are right
-  count : (cell : Cell) → IsMade g cell → count_passes c cell ≡ true
+  count : (cell : Cell) → IsMadeCell g cell → count_passes c cell ≡ true
   count cell is =
       let counted = states_here g grid cell is in
       let later = above cell is in
@@ -349,7 +349,7 @@ module _ (g : Marks) (grid : IsGrid g) (cells : List Cell) (made : AreMade g cel
       (eq-eqb (state_count_at g cell.at) _ (omega (arith, counted, later)))
 
   -- a cell passes its tests
-  passes : (cell : Cell) → IsMade g cell → PassesCell c cell
+  passes : (cell : Cell) → IsMadeCell g cell → PassesCell c cell
   passes cell is = record {
     count = count cell is;
     cycles = cycle_passes g grid cell.at.0 cell.at.1 cell.cycles (cycle_pairs g grid cell is);
@@ -360,4 +360,4 @@ module _ (g : Marks) (grid : IsGrid g) (cells : List Cell) (made : AreMade g cel
 
   -- it passes
   pub made_passes : verdict_of c ≡ Yes
-  made_passes = yes_of_passes c (every_weaker (IsMade g) (PassesCell c) cells passes each_made) made.complete
+  made_passes = yes_of_passes c (every_weaker (IsMadeCell g) (PassesCell c) cells passes each_made) made.complete

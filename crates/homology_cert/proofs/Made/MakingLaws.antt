@@ -26,10 +26,10 @@ use Rattle.torus_geom.specs.Inner.GridComplex.{grid_complex}
 use Rattle.torus_geom.proofs.Sums.AllBelowLemmas.{all_below-true}
 use Rattle.rectangles.proofs.Law.GridComplexLemmas.{grid_complex_rules}
 use Rattle.gradings.proofs.TableLemmas.{maslov_small, alexander_small}
-use Rattle.homology_cert.specs.Certificates.{Cell, Certificate, comes_first, HasSmallDegrees, HasPairStates, IsCertificate, entry_count}
-use Rattle.homology_cert.specs.CertificateTests.{has_degree, state_count_at, verdict_of}
+use Rattle.homology_cert.specs.Certificates.{Cell, Certificate, comes_first, AreSmallDegrees, HasPairStates, IsCertificate, entry_count}
+use Rattle.homology_cert.specs.CertificateTests.{has_bidegree, state_count_at, verdict_of}
 use Rattle.homology_cert.specs.CertificateText.{certificate_text}
-use Rattle.homology_cert.specs.Inner.Making.{left_codes, cycle_pair, steps_after, IsMade, AreMade}
+use Rattle.homology_cert.specs.Inner.Making.{left_codes, cycle_pair, steps_after, IsMadeCell, AreMade}
 use Rattle.homology_cert.specs.declared.verdicts.CertVerdict.TheVariants.{Yes}
 use Rattle.homology_cert.proofs.Homology.SliceRanks.{slice_of, slice-below}
 use Rattle.homology_cert.proofs.Certified.CertifiedLemmas.{same_degree-is}
@@ -44,26 +44,26 @@ module _ (g : Marks) (grid : IsGrid g) (small : size g ≤ 6) (cells : List Cell
   c = record { grid = g; cells = cells }
 
   -- each cell is made
-  each_made : Every (IsMade g) cells
-  each_made = every (IsMade g) cells made.each
+  each_made : Every (IsMadeCell g) cells
+  each_made = every (IsMadeCell g) cells made.each
 
   -- the bidegrees are small
-  small_degrees : Every (λ (cell : Cell). HasSmallDegrees cell.at) cells
-  small_degrees = every_weaker (IsMade g) (λ (cell : Cell). HasSmallDegrees cell.at) cells (small_here g grid) each_made
+  small_degrees : Every (λ (cell : Cell). AreSmallDegrees cell.at) cells
+  small_degrees = every_weaker (IsMadeCell g) (λ (cell : Cell). AreSmallDegrees cell.at) cells (small_here g grid) each_made
 
   -- the sets are sets of states
   states : Every (HasPairStates g) cells
-  states = every_weaker (IsMade g) (HasPairStates g) cells (pair_states g grid) each_made
+  states = every_weaker (IsMadeCell g) (HasPairStates g) cells (pair_states g grid) each_made
 
   -- a cell has no more pairs than states
-  no_more : (cell : Cell) → IsMade g cell → length cell.cycles + length cell.steps ≤ state_count_at g cell.at
+  no_more : (cell : Cell) → IsMadeCell g cell → length cell.cycles + length cell.steps ≤ state_count_at g cell.at
   no_more cell is = let counted = states_here g grid cell is in omega (arith, counted)
 
   -- there are few entries
   few : entry_count cells ≤ 1440
   few = few_entries g small cells made.ordered
-      (every_weaker (IsMade g) (λ (cell : Cell). state_count_at g cell.at ≢ 0) cells (some_here g grid) each_made)
-      (every_weaker (IsMade g) (λ (cell : Cell). length cell.cycles + length cell.steps ≤ state_count_at g cell.at)
+      (every_weaker (IsMadeCell g) (λ (cell : Cell). state_count_at g cell.at ≢ 0) cells (some_here g grid) each_made)
+      (every_weaker (IsMadeCell g) (λ (cell : Cell). length cell.cycles + length cell.steps ≤ state_count_at g cell.at)
       cells no_more each_made)
 
   -- they are the cells of a certificate
@@ -72,7 +72,7 @@ module _ (g : Marks) (grid : IsGrid g) (small : size g ≤ 6) (cells : List Cell
     grid = grid;
     small = small;
     ordered = made.ordered;
-    degrees = all_from (λ (cell : Cell). HasSmallDegrees cell.at) cells small_degrees;
+    degrees = all_from (λ (cell : Cell). AreSmallDegrees cell.at) cells small_degrees;
     states = all_from (HasPairStates g) cells states;
     few = let low = few in omega (arith, low);
   }
@@ -98,12 +98,12 @@ module _ (g : Marks) (grid : IsGrid g) where
         at = d;
         cycles = map (cycle_pair log) (left_codes g (after (slice_of g d.1) log) d.0);
         steps =
-            steps_after (has_degree g d) [] log;
+            steps_after (has_bidegree g d) [] log;
       }
 
   -- where some state has the bidegree, it is made
   cell_at-made : (d : ℤ × ℤ) (s : ℕ) → s < factorial (size g) → bidegree g (unrank (size g) s) ≡ d
-      → IsMade g (cell_at d)
+      → IsMadeCell g (cell_at d)
   unfolding cell_at
   cell_at-made d s below is = record {
     state = s;
@@ -125,7 +125,7 @@ module _ (g : Marks) (grid : IsGrid g) where
 
   -- the states of a bidegree, and a cell where there are some
   abbrev found : ℤ × ℤ → List ℕ
-  found d = filter (has_degree g d) (ascending (factorial (size g)))
+  found d = filter (has_bidegree g d) (ascending (factorial (size g)))
 
   -- the cell, where there are such states
   cell_if : ℤ × ℤ → List ℕ → List Cell
@@ -214,13 +214,13 @@ module _ (g : Marks) (grid : IsGrid g) where
       in_columns p q at_p.0 at_q.0 a b at_p.1 at_q.1 less)
 
   -- each cell is made
-  member-made : (cell : Cell) → Contains all_cells cell → IsMade g cell
+  member-made : (cell : Cell) → Contains all_cells cell → IsMadeCell g cell
   unfolding all_cells
   member-made cell inside =
       let (a, within, kept) = member_of_flat_map column (window 1000) cell inside in
       let (m, is, (s, stood)) = member_of_column a cell kept in
-      let (state, passed) = member_of_filter (has_degree g (m, a)) (ascending (factorial (size g))) s stood in
-      subst (IsMade g) is (cell_at-made (m, a) s (member_of_ascending (factorial (size g)) s state)
+      let (state, passed) = member_of_filter (has_bidegree g (m, a)) (ascending (factorial (size g))) s stood in
+      subst (IsMadeCell g) is (cell_at-made (m, a) s (member_of_ascending (factorial (size g)) s state)
       ((same_degree-is (bidegree g (unrank (size g) s)) (m, a)).0 passed))
 
   -- the bidegree of each state has a cell
@@ -234,7 +234,7 @@ module _ (g : Marks) (grid : IsGrid g) where
       Contains-flat_map column (window 1000) d.1 (cell_at d) (Contains-window 1000 d.1 (second.low, second.high))
       (Contains-flat_map (λ m. cell_if (m, d.1) (found (m, d.1))) (window 1000) d.0 (cell_at d)
       (Contains-window 1000 d.0 (maslov.low, maslov.high))
-      (Contains-cell_if d (found d) s (Contains-filter (has_degree g d) (ascending (factorial (size g))) s
+      (Contains-cell_if d (found d) s (Contains-filter (has_bidegree g d) (ascending (factorial (size g))) s
       (Contains-ascending (factorial (size g)) s below) ((same_degree-is d d).1 refl))))
 
   -- a member that passes is found
@@ -255,10 +255,10 @@ module _ (g : Marks) (grid : IsGrid g) where
   are_made = record {
     ordered = all_cells-ordered;
     each = λ k d l. member-made (get_or all_cells k d) (Contains-get_or all_cells k d l);
-    complete = all_below-true (factorial (size g)) (λ s. list_any (λ (cell : Cell). has_degree g cell.at s) all_cells)
+    complete = all_below-true (factorial (size g)) (λ s. list_any (λ (cell : Cell). has_bidegree g cell.at s) all_cells)
         (λ s below.
         let e = bidegree g (unrank (size g) s) in
-        any_from (λ (cell : Cell). has_degree g cell.at s) all_cells (cell_at e) (has_cell s below)
+        any_from (λ (cell : Cell). has_bidegree g cell.at s) all_cells (cell_at e) (has_cell s below)
         ((same_degree-is e (cell_at e).at).1 (sym (at-cell_at e))));
   }
 

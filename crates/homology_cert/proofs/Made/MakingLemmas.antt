@@ -35,9 +35,9 @@ use Rattle.torus_geom.proofs.Sums.TabulateLemmas.{tabulate-suc}
 use Rattle.torus_geom.proofs.Sums.AllBelowLemmas.{all_below-true}
 use Rattle.rectangles.proofs.Law.GridComplexLemmas.{grid_complex_rules}
 use Rattle.homology_cert.specs.Certificates.{Cell, comes_first}
-use Rattle.homology_cert.specs.CertificateTests.{has_degree}
+use Rattle.homology_cert.specs.CertificateTests.{has_bidegree}
 use Rattle.homology_cert.specs.Inner.Ranks.{degree_cmp}
-use Rattle.homology_cert.specs.Inner.Making.{cycle_pair, left_codes, step_pair, steps_after, key_of, HasState, HasBidegrees, IsMade, AreMade}
+use Rattle.homology_cert.specs.Inner.Making.{cycle_pair, left_codes, step_pair, steps_after, key_of, HasState, HasBidegrees, IsMadeCell, AreMade}
 use Rattle.homology_cert.proofs.Homology.SliceRanks.{slice_of, slice-below, reduction_of}
 use Rattle.homology_cert.proofs.Certified.CertifiedLemmas.{same_degree-is}
 use Rattle.homology_cert.proofs.Homology.CountLemmas.{degree_cmp_total, exact_degrees}
@@ -184,8 +184,8 @@ state_of-key g degrees has q inside =
 pub made_cell : (g : Marks) (m a : ℤ) (d : ℤ × ℤ) (old new : Slice) (log : List Entry) (cycles : List CyclePair)
     (steps : List StepPair) → d ≡ (m, a) → HasState g (m, a) → slice_complex old ≡ slice_of g a → IsReduced old new log
     → cycles ≡ map (cycle_pair log) (left_codes g (slice_complex new) m)
-    → steps ≡ steps_after (has_degree g (m, a)) [] log
-    → IsMade g (record { at = d; cycles = cycles; steps = steps })
+    → steps ≡ steps_after (has_bidegree g (m, a)) [] log
+    → IsMadeCell g (record { at = d; cycles = cycles; steps = steps })
 made_cell g m a d old new log cycles steps at state built reduced cycles_are steps_are =
     let reduction = reduction_of g a old new log built reduced in
     record {
@@ -199,7 +199,7 @@ made_cell g m a d old new log cycles steps at state built reduced cycles_are ste
       no_arrow = reduction.no_arrow;
       cycles = subst (λ (e : ℤ × ℤ). cycles ≡ map (cycle_pair log) (left_codes g (slice_complex new) e.0)) (sym at)
           cycles_are;
-      steps = subst (λ (e : ℤ × ℤ). steps ≡ steps_after (has_degree g e) [] log) (sym at) steps_are;
+      steps = subst (λ (e : ℤ × ℤ). steps ≡ steps_after (has_bidegree g e) [] log) (sym at) steps_are;
     }
 
 -- ---- cells, the last first
@@ -221,10 +221,10 @@ keys-pushed old new cell ks all q so_far pushed at =
     ∙ so_far
 
 -- which was made
-pub made-pushed : (g : Marks) (old new : List Cell) (cell : Cell) → All (IsMade g) old → new ≡ old ++ cell ∷ []
-    → IsMade g cell → All (IsMade g) new
-made-pushed g old new cell so_far pushed made = subst (All (IsMade g)) (sym pushed)
-    (All-append (IsMade g) old (cell ∷ []) so_far (All-cons (IsMade g) cell [] made (All-nil (IsMade g))))
+pub made-pushed : (g : Marks) (old new : List Cell) (cell : Cell) → All (IsMadeCell g) old → new ≡ old ++ cell ∷ []
+    → IsMadeCell g cell → All (IsMadeCell g) new
+made-pushed g old new cell so_far pushed made = subst (All (IsMadeCell g)) (sym pushed)
+    (All-append (IsMadeCell g) old (cell ∷ []) so_far (All-cons (IsMadeCell g) cell [] made (All-nil (IsMadeCell g))))
 
 -- keys in order rise pair by pair
 keys-rise : (ks : List (ℤ × ℤ)) → IsStrictlySortedBy degree_cmp ks → AllPairs (λ p q. degree_cmp p q ≡ Less) ks
@@ -316,20 +316,20 @@ any_member p (first ∷ cells) cell inside h = elim (member_cases first cells ce
 pub made-reversed : (g : Marks) (degrees : BTreeSet (ℤ × ℤ)) (cells turned : List Cell)
     → HasBidegrees g (factorial (size g)) degrees → IsStrictlySortedBy degree_cmp degrees.keys
     → keys_of cells ≡ degrees.keys
-    → All (IsMade g) cells → turned ≡ reverse cells → AreMade g turned
+    → All (IsMadeCell g) cells → turned ≡ reverse cells → AreMade g turned
 made-reversed g degrees cells turned has ordered all made is = subst (AreMade g) (sym is) (record {
   ordered = reversed-pairs cells (cells-rise cells (keys-rise (keys_of cells)
       (subst (IsStrictlySortedBy degree_cmp) (sym all) ordered)));
-  each = reversed-all cells (IsMade g) made;
-  complete = all_below-true (factorial (size g)) (λ s. list_any (λ (c : Cell). has_degree g c.at s) (reverse cells))
+  each = reversed-all cells (IsMadeCell g) made;
+  complete = all_below-true (factorial (size g)) (λ s. list_any (λ (c : Cell). has_bidegree g c.at s) (reverse cells))
       one;
 })
   where
-    one : (s : ℕ) → s < factorial (size g) → list_any (λ (c : Cell). has_degree g c.at s) (reverse cells) ≡ true
+    one : (s : ℕ) → s < factorial (size g) → list_any (λ (c : Cell). has_bidegree g c.at s) (reverse cells) ≡ true
     one s below =
         let d = bidegree g (unrank (size g) s) in
         let stood = (btree_set_contains_iff degree_cmp_total exact_degrees degrees (key_of d)).0 (has.found s below) in
         let (cell, inside, at) = member_of_map (λ (c : Cell). key_of c.at) cells (key_of d)
         (subst (λ ks. Contains ks (key_of d)) (sym all) stood) in
-        any_member (λ (c : Cell). has_degree g c.at s) (reverse cells) cell (reversed-member cells cell inside)
+        any_member (λ (c : Cell). has_bidegree g c.at s) (reverse cells) cell (reversed-member cells cell inside)
         ((same_degree-is d cell.at).1 (sym (ap key_of at)))

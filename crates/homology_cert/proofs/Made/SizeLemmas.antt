@@ -31,8 +31,8 @@ use Rattle.state_rank.proofs.RankLemmas.{length-unrank}
 use Rattle.torus_geom.specs.Marks.{Marks, size, IsGrid}
 use Rattle.torus_geom.specs.Degrees.{bidegree}
 use Rattle.gradings.specs.Degrees.{IsSmallDegree}
-use Rattle.homology_cert.specs.Certificates.{Cell, Certificate, comes_first, HasSmallDegrees, AreStates, HasCycleStates, HasStepStates, HasPairStates, entry_count}
-use Rattle.homology_cert.specs.CertificateTests.{same_degree, has_degree, state_count_at}
+use Rattle.homology_cert.specs.Certificates.{Cell, Certificate, comes_first, AreSmallDegrees, AreStates, HasCycleStates, HasStepStates, HasPairStates, entry_count}
+use Rattle.homology_cert.specs.CertificateTests.{same_degree, has_bidegree, state_count_at}
 use Rattle.homology_cert.specs.CertificateText.{marks_line, degree_line, cycle_lines, step_lines, cell_lines, head_lines, text_of_lines, certificate_text}
 use Rattle.text_lines.specs.Lines.{set_line}
 use Rattle.homology_cert.proofs.Texts.TextLemmas.{text_of_lines-append, certificate_text-parts}
@@ -94,13 +94,13 @@ module _ (g : Marks) where
 
   -- how many of the codes have the bidegree of a cell
   abbrev count_in : List ℕ → Cell → ℕ
-  count_in xs c = length (filter (has_degree g c.at) xs)
+  count_in xs c = length (filter (has_bidegree g c.at) xs)
 
   -- one code more
-  one_more : (x : ℕ) (xs : List ℕ) (c : Cell) → count_in (x ∷ xs) c ≡ number (has_degree g c.at x) + count_in xs c
-  one_more x xs c = by_test (has_degree g c.at x)
+  one_more : (x : ℕ) (xs : List ℕ) (c : Cell) → count_in (x ∷ xs) c ≡ number (has_bidegree g c.at x) + count_in xs c
+  one_more x xs c = by_test (has_bidegree g c.at x)
     where
-      by_test : (b : Bool) → length (cond b (x ∷ filter (has_degree g c.at) xs) (filter (has_degree g c.at) xs)) ≡
+      by_test : (b : Bool) → length (cond b (x ∷ filter (has_bidegree g c.at) xs) (filter (has_bidegree g c.at) xs)) ≡
           number b + count_in xs c
       by_test true = omega arith
       by_test false = omega arith
@@ -114,7 +114,7 @@ module _ (g : Marks) where
       none [] = omega arith
       none (c ∷ cs) = let later = none cs in omega (arith, later)
   counts_within cells apart (x ∷ xs) =
-      let parts = total-add (count_in (x ∷ xs)) (λ (c : Cell). number (has_degree g c.at x)) (count_in xs) cells
+      let parts = total-add (count_in (x ∷ xs)) (λ (c : Cell). number (has_bidegree g c.at x)) (count_in xs) cells
       (one_more x xs) in
       let here = at_most_one (bidegree g (unrank (size g) x)) cells apart in
       let later = counts_within cells apart xs in
@@ -240,7 +240,7 @@ signed-bound (negsuc n) small = let high = small.low in let low : suc n < 10 ^ 4
     (arith, short)
 
 -- the line of a bidegree
-degree_line-bound : (d : ℤ × ℤ) → HasSmallDegrees d → length (degree_line d) ≤ 16
+degree_line-bound : (d : ℤ × ℤ) → AreSmallDegrees d → length (degree_line d) ≤ 16
 degree_line-bound d small =
     let m = signed-bound d.0 small.maslov in
     let a = signed-bound d.1 small.alexander in
@@ -250,7 +250,7 @@ degree_line-bound d small =
     omega (arith, m, a, whole, front, first)
 
 -- the text of a cell
-cell-bound : (g : Marks) (cell : Cell) → size g ≤ 6 → HasSmallDegrees cell.at → HasPairStates g cell
+cell-bound : (g : Marks) (cell : Cell) → size g ≤ 6 → AreSmallDegrees cell.at → HasPairStates g cell
     → length (text_of_lines (cell_lines (size g) cell)) ≤ 10096 * (1 + length cell.cycles + length cell.steps)
 cell-bound g cell small degrees states =
     let line = degree_line-bound cell.at degrees in
@@ -278,7 +278,7 @@ cell-bound g cell small degrees states =
     omega (arith, line, cycles, steps, first, one, both)
 
 -- the text of all cells
-cells-bound : (g : Marks) (cells : List Cell) → size g ≤ 6 → Every (λ (c : Cell). HasSmallDegrees c.at) cells
+cells-bound : (g : Marks) (cells : List Cell) → size g ≤ 6 → Every (λ (c : Cell). AreSmallDegrees c.at) cells
     → Every (HasPairStates g) cells
     → length (text_of_lines (flat_map (cell_lines (size g)) cells)) ≤ 10096 * total
     (λ (c : Cell). 1 + length c.cycles + length c.steps) cells
@@ -336,7 +336,7 @@ head-bound g grid small =
 
 -- the text of a certificate with few entries is short
 pub short_text : (c : Certificate) → IsGrid c.grid → size c.grid ≤ 6
-    → Every (λ (cell : Cell). HasSmallDegrees cell.at) c.cells → Every (HasPairStates c.grid) c.cells
+    → Every (λ (cell : Cell). AreSmallDegrees cell.at) c.cells → Every (HasPairStates c.grid) c.cells
     → entry_count c.cells ≤ 1440
     → length (certificate_text c) < 16777216
 short_text c grid small degrees states few =

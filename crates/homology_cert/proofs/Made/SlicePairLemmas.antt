@@ -27,7 +27,7 @@ use Rattle.torus_geom.proofs.Sums.AllBelowLemmas.{all_below-true}
 use Rattle.rectangles.proofs.Square.BorderLemmas.{border-grid_complex}
 use Rattle.rectangles.proofs.Law.GridComplexLemmas.{grid_complex_rules}
 use Rattle.homology_cert.specs.Certificates.{AreStates, HasCycleStates, HasStepStates}
-use Rattle.homology_cert.specs.CertificateTests.{one_below, has_degree, all_have, is_empty, is_cocycle}
+use Rattle.homology_cert.specs.CertificateTests.{one_below, has_bidegree, all_have, is_empty_chain, is_cocycle}
 use Rattle.homology_cert.proofs.Homology.SliceRanks.{slice_of, slice-below}
 use Rattle.homology_cert.proofs.Certified.PassingLemmas.{PassesCycle, PassesStep, ArePairedApart}
 use Rattle.homology_cert.proofs.Certified.CertifiedLemmas.{same_degree-is, degree_of_state, state_of_degree, degree_of_test}
@@ -68,8 +68,8 @@ pairwise_with P R S (x ∷ xs) f p h = (
 )
 
 -- the empty chain has no codes
-empty_nothing : (z : Chain) → z ≡ nothing → is_empty z ≡ true
-empty_nothing z e = ap is_empty e ∙ ap (λ xs. eqb (length xs) 0) (codes-of_codes [] none)
+empty_nothing : (z : Chain) → z ≡ nothing → is_empty_chain z ≡ true
+empty_nothing z e = ap is_empty_chain e ∙ ap (λ xs. eqb (length xs) 0) (codes-of_codes [] none)
   where
     none : IsStrictlyIncreasing []
     none i l = absurd (omega arith)
@@ -96,21 +96,21 @@ module _ (g : Marks) (grid : IsGrid g) (m a : ℤ) where
   rules = grid_complex_rules g grid
 
   -- a state of the degree passes the test of its bidegree
-  test_of_degree : (e : ℤ × ℤ) (s : ℕ) → G.degree s ≡ Some e → has_degree g e s ≡ true
+  test_of_degree : (e : ℤ × ℤ) (s : ℕ) → G.degree s ≡ Some e → has_bidegree g e s ≡ true
   test_of_degree e s is = (same_degree-is (bidegree g (unrank (size g) s)) e).1
       (same_some _ _ (sym (degree_of_state g grid s (state_of_degree g grid s e is)) ∙ is))
 
   -- a chain of a bidegree passes the test of it
   have_degree : (e : ℤ × ℤ) (z : Chain) → AllOfDegree G e z → all_have g e z ≡ true
-  have_degree e z of = all_codes (has_degree g e) z (λ s h. test_of_degree e s (of s h))
+  have_degree e z of = all_codes (has_bidegree g e) z (λ s h. test_of_degree e s (of s h))
 
   -- and has states alone
   are_states : (e : ℤ × ℤ) (z : Chain) → AllOfDegree G e z → AreStates g z
   are_states e z of = All-codes (λ code. code < factorial (size g)) z (λ s h. state_of_degree g grid s e (of s h))
 
   -- the test of the bidegree tells the cells of degree m of the slice
-  pub IsTest-has_degree : IsTest S m (has_degree g d)
-  IsTest-has_degree s live = (
+  pub IsTest-has_bidegree : IsTest S m (has_bidegree g d)
+  IsTest-has_bidegree s live = (
     λ h. (part.degrees s m).1 (degree_of_test g grid d s (slice-below g a s live) h),
     λ is. test_of_degree d s ((part.degrees s m).0 is),
   )

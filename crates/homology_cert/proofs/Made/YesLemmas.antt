@@ -10,9 +10,11 @@ use Rattle.f2_algebra.proofs.Certificates.LogCertificate.{Pairwise}
 use Rattle.torus_geom.specs.Marks.{Marks}
 use Rattle.torus_geom.specs.Inner.CodeBorder.{border}
 use Rattle.homology_cert.specs.Certificates.{Cell, Certificate}
-use Rattle.homology_cert.specs.CertificateTests.{Question, cycle_pair_questions, cycle_questions, step_pair_questions, step_questions, cell_questions, all_questions, none_missing, questions, first_failing, verdict_of_first, verdict_of}
+use Rattle.homology_cert.specs.CertificateTests.{none_missing, verdict_of}
+use Rattle.homology_cert.specs.Inner.Questions.{Question, cycle_pair_questions, cycle_questions, step_pair_questions, step_questions, cell_questions, all_questions, questions, first_failing, verdict_of_first}
 use Rattle.homology_cert.specs.declared.verdicts.CertTest.{CertTest}
 use Rattle.homology_cert.specs.declared.verdicts.CertVerdict.TheVariants.{Yes}
+use Rattle.homology_cert.proofs.Certified.NumberLemmas.{verdict_of-questions}
 use Rattle.homology_cert.proofs.Certified.PassingLemmas.{PassesCycle, PassesStep, PassesCell, ArePairedApart}
 
 -- what each element passes, all pass
@@ -115,5 +117,6 @@ module _ (c : Certificate) where
   pub yes_of_passes : Every (PassesCell c) c.cells → none_missing c ≡ true → verdict_of c ≡ Yes
   unfolding questions
   yes_of_passes cells missing =
-      ap verdict_of_first (none_fails (questions c) (every_append _ (all_questions c 1 c.cells) _
+      verdict_of-questions c
+      ∙ ap verdict_of_first (none_fails (questions c) (every_append _ (all_questions c 1 c.cells) _
       (cells_passed 1 c.cells cells) (missing, tt)))

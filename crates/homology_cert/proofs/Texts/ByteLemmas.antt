@@ -18,7 +18,7 @@ use Rattle.state_rank.proofs.RankLemmas.{length-unrank, unrank-rank}
 use Rattle.state_rank.proofs.WordLemmas.{length-state_word}
 use Rattle.text_lines.specs.Parts.{is_one_of, HasNone, IsFirstPart}
 use Rattle.std.proofs.lemmas.Bool.{cases_eq, eq-eqb, ne_eqb}
-use Rattle.homology_cert.specs.Certificates.{HasSmallDegrees}
+use Rattle.homology_cert.specs.Certificates.{AreSmallDegrees}
 use Rattle.homology_cert.specs.CertificateText.{degree_line}
 use Rattle.homology_cert.specs.Inner.Reading.{IsFree, size_line, IsSmallSize}
 use Rattle.homology_cert.proofs.Texts.LineLemmas.{free-signed, split_at_free, small_mag}
@@ -72,7 +72,7 @@ pub not_free : (b : ℕ) (xs ys : List ℕ) → IsFree b (xs ++ b ∷ ys) → �
 not_free b [] ys h = h.0 refl
 not_free b (c ∷ xs) ys h = not_free b xs ys h.1
 
-module _ (line words : List ℕ) (d : ℤ × ℤ) (small : HasSmallDegrees d) (e : line ≡ degree_line d) where
+module _ (line words : List ℕ) (d : ℤ × ℤ) (small : AreSmallDegrees d) (e : line ≡ degree_line d) where
   pub degree_words : line ≡ codes "cell " ++ (signed_decimal d.0 ++ 32 ∷ signed_decimal d.1)
   degree_words = e ∙ append_assoc (codes "cell " ++ signed_decimal d.0) (codes " ") (signed_decimal d.1)
       ∙ append_assoc (codes "cell ") (signed_decimal d.0) (codes " " ++ signed_decimal d.1)

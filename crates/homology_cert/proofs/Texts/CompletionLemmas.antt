@@ -21,7 +21,7 @@ use Rattle.torus_geom.specs.Marks.{Marks, size, IsGrid}
 use Rattle.torus_geom.specs.Range.{one_up}
 use Rattle.torus_geom.proofs.Circles.TurnLemmas.{one_up-below, one_up-last, one_up_below, one_up_one}
 use Rattle.torus_geom.proofs.Sums.TabulateLemmas.{slice_index-tabulate}
-use Rattle.homology_cert.specs.Certificates.{Cell, Certificate, IsCertificate, comes_first, HasSmallDegrees, AreStates, HasCycleStates, HasStepStates, HasPairStates, entry_count}
+use Rattle.homology_cert.specs.Certificates.{Cell, Certificate, IsCertificate, comes_first, AreSmallDegrees, AreStates, HasCycleStates, HasStepStates, HasPairStates, entry_count}
 use Rattle.homology_cert.specs.CertificateText.{marks_line, degree_line, cycle_lines, step_lines, cell_lines, head_lines, certificate_lines}
 use Rattle.text_lines.specs.Lines.{set_line}
 use Rattle.homology_cert.specs.Inner.Reading.{size_line, new_cell, with_cycle, with_step, IsSmallSize, IsSmallGrid, LeadsTo, lines_in, lines_at, AreClosed, IsAt}
@@ -77,10 +77,10 @@ module _ (g : Marks) where
               (before_last ds c h.ordered x inside))
           | inr none ↦ absurd (no_member y none)
         ]);
-    degrees = All-append (λ (d : Cell). HasSmallDegrees d.at) ds (e ∷ [])
-        (All-front (λ (d : Cell). HasSmallDegrees d.at) ds c h.degrees)
-        (All-one (λ (d : Cell). HasSmallDegrees d.at) e (subst HasSmallDegrees (sym same)
-        (All-last (λ (d : Cell). HasSmallDegrees d.at) ds c h.degrees)));
+    degrees = All-append (λ (d : Cell). AreSmallDegrees d.at) ds (e ∷ [])
+        (All-front (λ (d : Cell). AreSmallDegrees d.at) ds c h.degrees)
+        (All-one (λ (d : Cell). AreSmallDegrees d.at) e (subst AreSmallDegrees (sym same)
+        (All-last (λ (d : Cell). AreSmallDegrees d.at) ds c h.degrees)));
     states = All-append (HasPairStates g) ds (e ∷ []) (All-front (HasPairStates g) ds c h.states)
         (All-one (HasPairStates g) e states);
   }
@@ -89,7 +89,7 @@ module _ (g : Marks) where
   no_pairs d = record { cycles = All-nil (HasCycleStates g); steps = All-nil (HasStepStates g) }
 
   -- a new cell after the last
-  pub closed-more : (ds : List Cell) (c : Cell) (d : ℤ × ℤ) → HasSmallDegrees d → Before c (new_cell d)
+  pub closed-more : (ds : List Cell) (c : Cell) (d : ℤ × ℤ) → AreSmallDegrees d → Before c (new_cell d)
       → AreClosed g (ds ++ c ∷ []) → AreClosed g ((ds ++ c ∷ []) ++ new_cell d ∷ [])
   closed-more ds c d small after h = record {
     grid = h.grid;
@@ -98,8 +98,8 @@ module _ (g : Marks) where
           | inl is ↦ subst (Before x) is (first x inside)
           | inr none ↦ absurd (no_member y none)
         ]);
-    degrees = All-append (λ (e : Cell). HasSmallDegrees e.at) (ds ++ c ∷ []) (new_cell d ∷ []) h.degrees
-        (All-one (λ (e : Cell). HasSmallDegrees e.at) (new_cell d) small);
+    degrees = All-append (λ (e : Cell). AreSmallDegrees e.at) (ds ++ c ∷ []) (new_cell d ∷ []) h.degrees
+        (All-one (λ (e : Cell). AreSmallDegrees e.at) (new_cell d) small);
     states = All-append (HasPairStates g) (ds ++ c ∷ []) (new_cell d ∷ []) h.states
         (All-one (HasPairStates g) (new_cell d) (no_pairs d));
   }
@@ -114,11 +114,11 @@ module _ (g : Marks) where
         ]
       ]
 
-  pub closed-first : (d : ℤ × ℤ) → HasSmallDegrees d → IsSmallGrid g → AreClosed g (new_cell d ∷ [])
+  pub closed-first : (d : ℤ × ℤ) → AreSmallDegrees d → IsSmallGrid g → AreClosed g (new_cell d ∷ [])
   closed-first d small grid = record {
     grid = grid;
     ordered = one_pair (new_cell d);
-    degrees = All-one (λ (e : Cell). HasSmallDegrees e.at) (new_cell d) small;
+    degrees = All-one (λ (e : Cell). AreSmallDegrees e.at) (new_cell d) small;
     states = All-one (HasPairStates g) (new_cell d) (no_pairs d);
   }
 
@@ -126,7 +126,7 @@ module _ (g : Marks) where
   closed-none grid = record {
     grid = grid;
     ordered = λ i j d l m. absurd (omega arith);
-    degrees = All-nil (λ (e : Cell). HasSmallDegrees e.at);
+    degrees = All-nil (λ (e : Cell). AreSmallDegrees e.at);
     states = All-nil (HasPairStates g);
   }
 

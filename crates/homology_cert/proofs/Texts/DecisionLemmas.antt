@@ -15,7 +15,7 @@ use Rattle.state_rank.specs.States.{factorial, rank, unrank}
 use Rattle.state_rank.proofs.RankLemmas.{IsBijection-unrank, unrank-rank, rank-below}
 use Rattle.gradings.specs.Degrees.{IsSmallDegree}
 use Rattle.torus_geom.specs.Marks.{Marks, size, IsGrid}
-use Rattle.homology_cert.specs.Certificates.{Cell, Certificate, IsCertificate, comes_first, HasSmallDegrees, AreStates}
+use Rattle.homology_cert.specs.Certificates.{Cell, Certificate, IsCertificate, comes_first, AreSmallDegrees, AreStates}
 use Rattle.homology_cert.specs.CertificateText.{marks_line, degree_line, certificate_text, IsFirstBadLine}
 use Rattle.text_lines.specs.Lines.{set_line}
 use Rattle.homology_cert.specs.Inner.Reading.{size_line, new_cell, with_cycle, with_step, IsSmallSize, LeadsTo, IsAt, IsFree, IsRead}
@@ -109,8 +109,8 @@ apart_marks : (o x : List ℕ) → ((k : ℕ) × (k < length o) × (slice_index 
 apart_marks o x = some_below (λ k. slice_index o k ≡ slice_index x k) (λ k. cases_eq (slice_index o k)
     (slice_index x k)) (length o)
 
-some_degrees : (line : List ℕ) → ((d : ℤ × ℤ) × HasSmallDegrees d × (line ≡ degree_line d))
-    ⊎ ((d : ℤ × ℤ) → HasSmallDegrees d → line ≢ degree_line d)
+some_degrees : (line : List ℕ) → ((d : ℤ × ℤ) × AreSmallDegrees d × (line ≡ degree_line d))
+    ⊎ ((d : ℤ × ℤ) → AreSmallDegrees d → line ≢ degree_line d)
 some_degrees line = elim (some_degree (λ m. (a : ℤ) × IsSmallDegree a × (line ≡ degree_line (m, a)))
     (λ m. some_second m)) [
       | inl found ↦ inl ((found.0, found.2.0), record { maslov = found.1; alexander = found.2.1 }, found.2.2)
@@ -220,7 +220,7 @@ leads-no_cell g ds line = elim (same_list line (codes "end")) [
   ]
 ]
   where
-    neither : line ≢ codes "end" → ((d : ℤ × ℤ) → HasSmallDegrees d → line ≢ degree_line d)
+    neither : line ≢ codes "end" → ((d : ℤ × ℤ) → AreSmallDegrees d → line ≢ degree_line d)
         → (q : Place) (es : List Cell) → LeadsTo (NoCell g) ds line q es → ⊥
     neither not_last no_degree q es (inl (l, e, f)) = not_last l
     neither not_last no_degree q es (inr (d, small, l, e, f)) = no_degree d small l
@@ -258,7 +258,7 @@ leads-in_cell g c ds line = elim (same_list line (codes "end")) [
   ]
 ]
   where
-    none_leads : line ≢ codes "end" → ((d : ℤ × ℤ) → HasSmallDegrees d → line ≢ degree_line d)
+    none_leads : line ≢ codes "end" → ((d : ℤ × ℤ) → AreSmallDegrees d → line ≢ degree_line d)
         → ((z : Chain) → AreStates g z → line ≢ set_line (codes "step") (size g) z)
         → ((z : Chain) → AreStates g z → c.steps ≡ [] → line ≢ set_line (codes "cycle") (size g) z)
         → (q : Place) (es : List Cell) → LeadsTo (InCell g c) ds line q es → ⊥

@@ -14,7 +14,7 @@ use Rattle.state_rank.specs.States.{factorial, unrank, rank, state_word}
 use Rattle.state_rank.proofs.RankLemmas.{length-unrank, rank-unrank}
 use Rattle.state_rank.proofs.WordLemmas.{state_word_injective, length-state_word}
 use Rattle.gradings.specs.Degrees.{IsSmallDegree}
-use Rattle.homology_cert.specs.Certificates.{HasSmallDegrees}
+use Rattle.homology_cert.specs.Certificates.{AreSmallDegrees}
 use Rattle.homology_cert.specs.CertificateText.{marks_line, degree_line}
 use Rattle.text_lines.specs.Lines.{set_line}
 use Rattle.homology_cert.specs.Inner.Reading.{IsFree}
@@ -103,7 +103,7 @@ pub small_mag : (z : ℤ) → IsSmallDegree z → mag z < 2 ^ 63
 small_mag (pos n) small = let high = small.high in omega (arith, ints, high)
 small_mag (negsuc n) small = let low = small.low in omega (arith, ints, low)
 
-pub degree_line-injective : (d e : ℤ × ℤ) → HasSmallDegrees d → HasSmallDegrees e → degree_line d ≡ degree_line e
+pub degree_line-injective : (d e : ℤ × ℤ) → AreSmallDegrees d → AreSmallDegrees e → degree_line d ≡ degree_line e
     → d ≡ e
 degree_line-injective d e p q same =
     let line_of = λ (t : ℤ × ℤ). append_assoc (codes "cell " ++ signed_decimal t.0) (codes " ") (signed_decimal t.1)

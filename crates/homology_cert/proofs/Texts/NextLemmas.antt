@@ -7,7 +7,7 @@ use Rattle.std.proofs.lemmas.Bool.{true≢false}
 use Rattle.f2_algebra.specs.Chain.{Chain}
 use Rattle.state_rank.specs.Bijection.{IsBijection}
 use Rattle.torus_geom.specs.Marks.{Marks, size, IsGrid}
-use Rattle.homology_cert.specs.Certificates.{Cell, HasSmallDegrees, AreStates}
+use Rattle.homology_cert.specs.Certificates.{Cell, AreSmallDegrees, AreStates}
 use Rattle.homology_cert.specs.CertificateText.{marks_line, degree_line}
 use Rattle.text_lines.specs.Lines.{set_line}
 use Rattle.homology_cert.specs.Inner.Reading.{size_line, with_cycle, with_step, IsSmallSize, LeadsTo, IsAt}
@@ -107,7 +107,7 @@ module _ (ds : List Cell) (line : List ℕ) where
         × (q ≡ InCycle g c z))
         ⊎ ((z : Chain) × AreStates g z × (line ≡ set_line (codes "step") (size g) z) × (q ≡ InStep g c z)))
 
-    no_pair : line ≢ codes "end" → ((d : ℤ × ℤ) → HasSmallDegrees d → line ≢ degree_line d) → TellsPair None
+    no_pair : line ≢ codes "end" → ((d : ℤ × ℤ) → AreSmallDegrees d → line ≢ degree_line d) → TellsPair None
         → (q : Place) (es : List Cell) → LeadsTo (InCell g c) ds line q es → ⊥
     no_pair not_last no_degree none q es (inl (l, e, f)) = not_last l
     no_pair not_last no_degree none q es (inr (inl (d, small, after, l, e, f))) = no_degree d small l
@@ -119,7 +119,7 @@ module _ (ds : List Cell) (line : List ℕ) where
     a_pair q (inr (z, states, l, e)) = inr (inr (inr (z, states, l, e, refl)))
 
     pub next-in_cell : {E : Type 0} (r : Result (Option Place) E) → line ≢ codes "end"
-        → ((d : ℤ × ℤ) → HasSmallDegrees d → line ≢ degree_line d)
+        → ((d : ℤ × ℤ) → AreSmallDegrees d → line ≢ degree_line d)
         → IfOk r (λ next. TellsPair next) → IfOk r (λ next. Tells (InCell g c) ds line next ds)
     next-in_cell (Err e) not_last no_degree told = tt
     next-in_cell (Ok None) not_last no_degree none = no_pair not_last no_degree none

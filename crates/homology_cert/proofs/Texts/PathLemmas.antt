@@ -9,24 +9,24 @@ use Rattle.std.proofs.lemmas.List.{append-nil}
 use Rattle.f2_algebra.specs.Certificate.{CyclePair, StepPair}
 use Rattle.state_rank.proofs.MemberLemmas.{pairs_tail}
 use Rattle.torus_geom.specs.Marks.{Marks, size}
-use Rattle.homology_cert.specs.Certificates.{Cell, Certificate, IsCertificate, comes_first, HasSmallDegrees, HasCycleStates, HasStepStates, HasPairStates}
+use Rattle.homology_cert.specs.Certificates.{Cell, Certificate, IsCertificate, comes_first, AreSmallDegrees, HasCycleStates, HasStepStates, HasPairStates}
 use Rattle.homology_cert.specs.CertificateText.{cycle_lines, step_lines, cell_lines, head_lines, certificate_lines}
-use Rattle.homology_cert.specs.Inner.Reading.{new_cell, with_cycle, with_step, Path}
+use Rattle.homology_cert.specs.Inner.Reading.{new_cell, with_cycle, with_step, LinesLead}
 use Rattle.homology_cert.specs.declared.places.Place.{Place}
 use Rattle.homology_cert.specs.declared.places.Place.TheVariants.{Start, Size, OLine, XLine, NoCell, InCell, InCycle, InStep, End}
 
 -- ---- paths
 -- two paths, one after the other
-pub path-append : (p q r : Place) (ds es fs : List Cell) (ls ms : List (List ℕ)) → Path p ds ls q es → Path q es ms r fs
-    → Path p ds (ls ++ ms) r fs
-path-append p q r ds es fs [] ms (e, f) second = subst (λ (o : Place). Path o ds ms r fs) (sym e)
-    (subst (λ (cs : List Cell). Path q cs ms r fs) (sym f) second)
+pub path-append : (p q r : Place) (ds es fs : List Cell) (ls ms : List (List ℕ)) → LinesLead p ds ls q es → LinesLead q es ms r fs
+    → LinesLead p ds (ls ++ ms) r fs
+path-append p q r ds es fs [] ms (e, f) second = subst (λ (o : Place). LinesLead o ds ms r fs) (sym e)
+    (subst (λ (cs : List Cell). LinesLead q cs ms r fs) (sym f) second)
 path-append p q r ds es fs (l ∷ ls) ms (o, cs, leads, rest) second =
     (o, cs, leads, path-append o q r cs es fs ls ms rest second)
 
 -- a path in two parts
-pub path-parts : (p r : Place) (ds fs : List Cell) (ls ms : List (List ℕ)) → Path p ds (ls ++ ms) r fs → (q : Place)
-    × (es : List Cell) × Path p ds ls q es × Path q es ms r fs
+pub path-parts : (p r : Place) (ds fs : List Cell) (ls ms : List (List ℕ)) → LinesLead p ds (ls ++ ms) r fs → (q : Place)
+    × (es : List Cell) × LinesLead p ds ls q es × LinesLead q es ms r fs
 path-parts p r ds fs [] ms path = (p, ds, (refl, refl), path)
 path-parts p r ds fs (l ∷ ls) ms (o, cs, leads, rest) =
     let (q, es, first, second) = path-parts o r cs fs ls ms rest in
@@ -64,7 +64,7 @@ with_steps-is c (p ∷ ps) =
 -- ---- the lines of a certificate are a path
 module _ (g : Marks) (ds : List Cell) where
   path_of_cycles : (c : Cell) (ps : List CyclePair) → c.steps ≡ [] → All (HasCycleStates g) ps
-      → Path (InCell g c) ds (flat_map (cycle_lines (size g)) ps) (InCell g (with_cycles c ps)) ds
+      → LinesLead (InCell g c) ds (flat_map (cycle_lines (size g)) ps) (InCell g (with_cycles c ps)) ds
   path_of_cycles c [] none states = (refl, refl)
   path_of_cycles c (p ∷ ps) none states =
       let here = states 0 p (omega arith) in
@@ -81,7 +81,7 @@ module _ (g : Marks) (ds : List Cell) where
       )
 
   path_of_steps : (c : Cell) (ps : List StepPair) → All (HasStepStates g) ps
-      → Path (InCell g c) ds (flat_map (step_lines (size g)) ps) (InCell g (with_steps c ps)) ds
+      → LinesLead (InCell g c) ds (flat_map (step_lines (size g)) ps) (InCell g (with_steps c ps)) ds
   path_of_steps c [] states = (refl, refl)
   path_of_steps c (p ∷ ps) states =
       let here = states 0 p (omega arith) in
@@ -99,7 +99,7 @@ module _ (g : Marks) (ds : List Cell) where
 
   -- the lines of the pairs of a cell
   path_of_pairs : (c : Cell) → HasPairStates g c
-      → Path (InCell g (new_cell c.at)) ds (flat_map (cycle_lines (size g)) c.cycles ++ flat_map (step_lines (size g))
+      → LinesLead (InCell g (new_cell c.at)) ds (flat_map (cycle_lines (size g)) c.cycles ++ flat_map (step_lines (size g))
       c.steps) (InCell g c) ds
   path_of_pairs c states =
       let first = with_cycles (new_cell c.at) c.cycles in
@@ -108,15 +108,15 @@ module _ (g : Marks) (ds : List Cell) where
       let path = path-append (InCell g (new_cell c.at)) (InCell g first) (InCell g (with_steps first c.steps)) ds ds ds
       (flat_map (cycle_lines (size g)) c.cycles) (flat_map (step_lines (size g)) c.steps)
       (path_of_cycles (new_cell c.at) c.cycles refl states.cycles) (path_of_steps first c.steps states.steps) in
-      subst (λ (e : Cell). Path (InCell g (new_cell c.at)) ds (flat_map (cycle_lines (size g)) c.cycles ++ flat_map
+      subst (λ (e : Cell). LinesLead (InCell g (new_cell c.at)) ds (flat_map (cycle_lines (size g)) c.cycles ++ flat_map
       (step_lines (size g)) c.steps) (InCell g e) ds)
       (ap (λ (e : Cell). with_steps e c.steps) cycles_is ∙ steps_is) path
 
 -- the lines of the cells that come after an open one, and the last line
 module _ (g : Marks) where
   path_of_cells : (ds : List Cell) (c : Cell) (es : List Cell) → AllPairs (λ p q. IsTrue (comes_first p q)) (c ∷ es)
-      → All (λ (e : Cell). HasSmallDegrees e.at) es → All (HasPairStates g) es
-      → Path (InCell g c) ds (flat_map (cell_lines (size g)) es ++ codes "end" ∷ []) (End g) (ds ++ c ∷ es)
+      → All (λ (e : Cell). AreSmallDegrees e.at) es → All (HasPairStates g) es
+      → LinesLead (InCell g c) ds (flat_map (cell_lines (size g)) es ++ codes "end" ∷ []) (End g) (ds ++ c ∷ es)
   path_of_cells ds c [] ordered degrees states = (End g, ds ++ c ∷ [], inl (refl, refl, refl), (refl, refl))
   path_of_cells ds c (e ∷ es) ordered degrees states =
       let small = degrees 0 e (omega arith) in
@@ -138,14 +138,14 @@ module _ (g : Marks) where
         InCell g (new_cell e.at),
         closed,
         inr (inl (e.at, small, before, refl, refl, refl)),
-        subst (λ (fs : List Cell). Path (InCell g (new_cell e.at)) closed all_lines (End g) fs) cells
-            (subst (λ (ls : List (List ℕ)). Path (InCell g (new_cell e.at)) closed ls (End g) (closed ++ e ∷ es))
+        subst (λ (fs : List Cell). LinesLead (InCell g (new_cell e.at)) closed all_lines (End g) fs) cells
+            (subst (λ (ls : List (List ℕ)). LinesLead (InCell g (new_cell e.at)) closed ls (End g) (closed ++ e ∷ es))
             (sym lines) path),
       )
 
   path_of_body : (es : List Cell) → AllPairs (λ p q. IsTrue (comes_first p q)) es
-      → All (λ (e : Cell). HasSmallDegrees e.at) es → All (HasPairStates g) es
-      → Path (NoCell g) [] (flat_map (cell_lines (size g)) es ++ codes "end" ∷ []) (End g) es
+      → All (λ (e : Cell). AreSmallDegrees e.at) es → All (HasPairStates g) es
+      → LinesLead (NoCell g) [] (flat_map (cell_lines (size g)) es ++ codes "end" ∷ []) (End g) es
   path_of_body [] ordered degrees states = (End g, [], inl (refl, refl, refl), (refl, refl))
   path_of_body (e ∷ es) ordered degrees states =
       let small = degrees 0 e (omega arith) in
@@ -161,17 +161,17 @@ module _ (g : Marks) where
         InCell g (new_cell e.at),
         [],
         inr (e.at, small, refl, refl, refl),
-        subst (λ (ls : List (List ℕ)). Path (InCell g (new_cell e.at)) [] ls (End g) (e ∷ es)) (sym lines) path,
+        subst (λ (ls : List (List ℕ)). LinesLead (InCell g (new_cell e.at)) [] ls (End g) (e ∷ es)) (sym lines) path,
       )
 
 -- the lines of a certificate lead from the start to its end
-pub path_of_certificate : (c : Certificate) → IsCertificate c → Path Start [] (certificate_lines c) (End c.grid) c.cells
+pub path_of_certificate : (c : Certificate) → IsCertificate c → LinesLead Start [] (certificate_lines c) (End c.grid) c.cells
 unfolding certificate_lines
 path_of_certificate c is =
     let g = c.grid in
     let body = path_of_body g c.cells is.ordered is.degrees is.states in
     let lines = append_assoc (head_lines g) (flat_map (cell_lines (size g)) c.cells) (codes "end" ∷ []) in
-    let head : Path Start [] (head_lines g) (NoCell g) [] = (
+    let head : LinesLead Start [] (head_lines g) (NoCell g) [] = (
       Size,
       [],
       (refl, refl, refl),
@@ -192,6 +192,6 @@ path_of_certificate c is =
         ),
       ),
     ) in
-    subst (λ (ls : List (List ℕ)). Path Start [] ls (End g) c.cells) (sym lines)
+    subst (λ (ls : List (List ℕ)). LinesLead Start [] ls (End g) c.cells) (sym lines)
     (path-append Start (NoCell g) (End g) [] [] c.cells (head_lines g) (flat_map
     (cell_lines (size g)) c.cells ++ codes "end" ∷ []) head body)

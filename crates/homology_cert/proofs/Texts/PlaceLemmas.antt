@@ -3,7 +3,7 @@ use Rattle.std.proofs.Common.{◌≡◌, ℕ, ◌<◌, ◌≤◌, List, length, 
 use Rattle.f2_algebra.specs.Chain.{Chain}
 use Rattle.state_rank.specs.Bijection.{IsBijection}
 use Rattle.torus_geom.specs.Marks.{Marks, size}
-use Rattle.homology_cert.specs.Certificates.{Cell, comes_first, HasSmallDegrees}
+use Rattle.homology_cert.specs.Certificates.{Cell, comes_first, AreSmallDegrees}
 use Rattle.homology_cert.specs.CertificateText.{degree_line}
 use Rattle.text_lines.specs.Lines.{set_line}
 use Rattle.homology_cert.specs.Inner.Reading.{new_cell, with_cycle, with_step, LeadsTo, IsAt}
@@ -94,7 +94,7 @@ module _ (g : Marks) (ds : List Cell) (line : List ℕ) (q r : Place) (es fs : L
 
 -- after the line of a bidegree a line stands nowhere, if its own bidegree does not come later
 pub not_after : (g : Marks) (cell : Cell) (ds : List Cell) (line : List ℕ) (d : ℤ × ℤ) (q : Place) (es : List Cell)
-    → HasSmallDegrees d → line ≡ degree_line d
+    → AreSmallDegrees d → line ≡ degree_line d
     → (IsTrue (comes_first cell (new_cell d)) → ⊥) → LeadsTo (InCell g cell) ds line q es → ⊥
 not_after g cell ds line d q es small is before (inl (l, e, f)) = differ line 1 0 (kind-degree g line d is)
     (kind-end g line l) (λ h. omega arith)

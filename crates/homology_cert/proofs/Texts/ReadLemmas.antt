@@ -14,10 +14,10 @@ use Rattle.f2_algebra.specs.Certificate.{CyclePair, StepPair}
 use Rattle.state_rank.specs.Bijection.{IsBijection}
 use Rattle.state_rank.specs.States.{unrank, state_word}
 use Rattle.torus_geom.specs.Marks.{Marks, size}
-use Rattle.homology_cert.specs.Certificates.{Cell, Certificate, IsCertificate, HasSmallDegrees}
+use Rattle.homology_cert.specs.Certificates.{Cell, Certificate, IsCertificate, AreSmallDegrees}
 use Rattle.homology_cert.specs.CertificateText.{marks_line, degree_line, cycle_lines, step_lines, cell_lines, head_lines, certificate_lines, text_of_lines, certificate_text, HasFirstLines, IsFirstBadLine}
 use Rattle.text_lines.specs.Lines.{set_line}
-use Rattle.homology_cert.specs.Inner.Reading.{LeadsTo, Path, lines_at, IsAt, IsFree, AreFree, IsRead}
+use Rattle.homology_cert.specs.Inner.Reading.{LeadsTo, LinesLead, lines_at, IsAt, IsFree, AreFree, IsRead}
 use Rattle.homology_cert.specs.declared.places.Place.{Place}
 use Rattle.homology_cert.specs.declared.places.Place.TheVariants.{Start, End}
 use Rattle.homology_cert.proofs.Texts.TextLemmas.{text_of_lines-append}
@@ -100,17 +100,17 @@ lines_bound (l ∷ ls) r = let long = ap length (text-cons l ls r) in
     omega (arith, long, length-append l (10 ∷ (text_of_lines ls ++ r)), lines_bound ls r)
 
 -- ---- where a path leads
-pub path-one : (p q r : Place) (ds es fs : List Cell) (ls : List (List ℕ)) → IsAt p ds → Path p ds ls q es
-    → Path p ds ls r fs → (q ≡ r) × (es ≡ fs)
+pub path-one : (p q r : Place) (ds es fs : List Cell) (ls : List (List ℕ)) → IsAt p ds → LinesLead p ds ls q es
+    → LinesLead p ds ls r fs → (q ≡ r) × (es ≡ fs)
 path-one p q r ds es fs [] at (a, b) (h, i) = (sym a ∙ h, sym b ∙ i)
 path-one p q r ds es fs (l ∷ ls) at (o, cs, leads, rest) (u, us, leads_u, rest_u) =
     let (same, same_cells) = leads_to-one p ds l o u cs us at leads leads_u in
     let next = (is_at-next p ds l o cs at leads).0 in
-    path-one o q r cs es fs ls next rest (subst (λ (v : Place). Path v cs ls r fs) (sym same)
-    (subst (λ (vs : List Cell). Path u vs ls r fs) (sym same_cells) rest_u))
+    path-one o q r cs es fs ls next rest (subst (λ (v : Place). LinesLead v cs ls r fs) (sym same)
+    (subst (λ (vs : List Cell). LinesLead u vs ls r fs) (sym same_cells) rest_u))
 
 -- ---- the lines of a certificate
-free-degree_line : (d : ℤ × ℤ) → HasSmallDegrees d → IsFree 10 (degree_line d)
+free-degree_line : (d : ℤ × ℤ) → AreSmallDegrees d → IsFree 10 (degree_line d)
 free-degree_line d small =
     free-append 10 ((codes "cell " ++ signed_decimal d.0) ++ codes " ") (signed_decimal d.1)
     (free-append 10 (codes "cell " ++ signed_decimal d.0) (codes " ")
@@ -133,7 +133,7 @@ free-steps n (p ∷ ps) = (
   (free-set_line (codes "probe") n p.probe (free-word (codes "probe") refl), free-steps n ps),
 )
 
-free-cells : (n : ℕ) (cells : List Cell) → All (λ (c : Cell). HasSmallDegrees c.at) cells
+free-cells : (n : ℕ) (cells : List Cell) → All (λ (c : Cell). AreSmallDegrees c.at) cells
     → AreFree (flat_map (cell_lines n) cells)
 free-cells n [] h = tt
 free-cells n (c ∷ cells) h =
@@ -211,7 +211,7 @@ module _ (text : List ℕ) (p : Place) (ds : List Cell) (rest : List ℕ) (numbe
         let (at, more) = is_at-next p ds line q es read.at leads in
         record {
           at = at;
-          path = subst (λ (ls : List (List ℕ)). Path Start [] ls q es) (sym more)
+          path = subst (λ (ls : List (List ℕ)). LinesLead Start [] ls q es) (sym more)
               (path-append Start p q [] ds es lines (line ∷ []) read.path (q, es, leads, (refl, refl)));
           free = subst AreFree (sym more) (free_lines-append lines (line ∷ []) read.free (free, tt));
           begins = read.begins ∙ ap (λ r. text_of_lines lines ++ r) (split ∙ sym (append_assoc line (10 ∷ []) after))
@@ -237,14 +237,14 @@ module _ (text : List ℕ) (p : Place) (ds : List Cell) (rest : List ℕ) (numbe
 
     -- a certificate with these first lines leads to the place, and on along its next line
     next_of : (c : Certificate) → IsCertificate c → (more : List (List ℕ)) → certificate_lines c ≡ lines ++ more
-        → Path p ds more (End c.grid) c.cells
+        → LinesLead p ds more (End c.grid) c.cells
     next_of c is more e =
-        let whole = subst (λ (ls : List (List ℕ)). Path Start [] ls (End c.grid) c.cells) e
+        let whole = subst (λ (ls : List (List ℕ)). LinesLead Start [] ls (End c.grid) c.cells) e
         (path_of_certificate c is) in
         let (q, es, first, second) = path-parts Start (End c.grid) [] c.cells lines more whole in
         let (same, same_cells) = path-one Start q p [] es ds lines refl first read.path in
-        subst (λ (o : Place). Path o ds more (End c.grid) c.cells) same
-        (subst (λ (fs : List Cell). Path q fs more (End c.grid) c.cells) same_cells second)
+        subst (λ (o : Place). LinesLead o ds more (End c.grid) c.cells) same
+        (subst (λ (fs : List Cell). LinesLead q fs more (End c.grid) c.cells) same_cells second)
 
     -- ---- a line that leads nowhere
     module _ (line after : List ℕ) (split : rest ≡ line ++ 10 ∷ after) (free : IsFree 10 line)
@@ -372,7 +372,7 @@ one_certificate c d is_c is_d e =
     by_more : (more : List (List ℕ)) → certificate_lines c ≡ certificate_lines d ++ more → [] ≡ text_of_lines more
         → c ≡ d
     by_more [] same left =
-        let first = subst (λ (ls : List (List ℕ)). Path Start [] ls (End c.grid) c.cells) (same
+        let first = subst (λ (ls : List (List ℕ)). LinesLead Start [] ls (End c.grid) c.cells) (same
         ∙ append-nil (certificate_lines d)) (path_of_certificate c is_c) in
         let (ends, cells) = path-one Start (End c.grid) (End d.grid) [] c.cells d.cells (certificate_lines d) refl first
         (path_of_certificate d is_d) in

@@ -8,7 +8,7 @@
 --     HasState g d             some state has the bidegree d
 --     HasBidegrees g n degrees the set has the bidegrees of the states with a rank below n, the Alexander degree first,
 --                              and no other
---     IsMade g cell            some state has the bidegree of the cell, and its pairs come from a log of the slice at
+--     IsMadeCell g cell            some state has the bidegree of the cell, and its pairs come from a log of the slice at
 --                              its Alexander degree that leaves no arrow
 --     AreMade g cells          the cells are made so and stand in order, and none is missing
 use Rattle.std.specs.Prelude.{◌≡◌, ℕ, ◌<◌, ℤ, Bool, true, false, cond, List, [], ◌∷◌, ◌++◌, map, IsTrue}
@@ -30,7 +30,7 @@ use Rattle.torus_geom.specs.Marks.{Marks, size}
 use Rattle.torus_geom.specs.Degrees.{bidegree}
 use Rattle.torus_geom.specs.Inner.GridComplex.{grid_complex}
 use Rattle.homology_cert.specs.Certificates.{Cell, comes_first}
-use Rattle.homology_cert.specs.CertificateTests.{has_degree}
+use Rattle.homology_cert.specs.CertificateTests.{has_bidegree}
 use Rattle.homology_cert.specs.Inner.Ranks.{degree_cmp}
 
 abbrev pub degree_is : ℤ → Option ℤ → Bool
@@ -62,7 +62,7 @@ pub record HasBidegrees (g : Marks) (n : ℕ) (degrees : BTreeSet (ℤ × ℤ)) 
   pub of_states : (q : ℤ × ℤ) → sorted.contains degree_cmp degrees q ≡ true
       → (s : ℕ) × (s < n) × (key_of (bidegree g (unrank (size g) s)) ≡ q)
 
-pub record IsMade (g : Marks) (cell : Cell) : Type 0 where
+pub record IsMadeCell (g : Marks) (cell : Cell) : Type 0 where
   pub state : ℕ
   pub below : state < factorial (size g)
   pub is_state : bidegree g (unrank (size g) state) ≡ cell.at
@@ -72,9 +72,9 @@ pub record IsMade (g : Marks) (cell : Cell) : Type 0 where
   pub is_after : left ≡ after (at_alexander cell.at.1 (grid_complex g)) log
   pub no_arrow : (s : ℕ) → left.targets s ≡ nothing
   pub cycles : cell.cycles ≡ map (cycle_pair log) (left_codes g left cell.at.0)
-  pub steps : cell.steps ≡ steps_after (has_degree g cell.at) [] log
+  pub steps : cell.steps ≡ steps_after (has_bidegree g cell.at) [] log
 
 pub record AreMade (g : Marks) (cells : List Cell) : Type 0 where
   pub ordered : AllPairs (λ p q. IsTrue (comes_first p q)) cells
-  pub each : All (IsMade g) cells
-  pub complete : all_below (factorial (size g)) (λ s. list_any (λ (cell : Cell). has_degree g cell.at s) cells) ≡ true
+  pub each : All (IsMadeCell g) cells
+  pub complete : all_below (factorial (size g)) (λ s. list_any (λ (cell : Cell). has_bidegree g cell.at s) cells) ≡ true

@@ -6,7 +6,7 @@
 --     IsSmallGrid g             a grid of such a size
 --     LeadsTo p ds line q es    at the place p, with the closed cells ds, this line may stand, and it leads to the
 --                               place q with the closed cells es
---     Path p ds lines q es      these lines, in order, lead from p and ds to q and es
+--     LinesLead p ds lines q es      these lines, in order, lead from p and ds to q and es
 --     lines_in g ds             the lines of the grid and of these cells
 --     lines_at p ds             the lines that lead from the start to p and ds
 --     AreClosed g ds            the cells are those of a certificate of the grid, but for the number of entries
@@ -23,7 +23,7 @@ use Rattle.f2_algebra.specs.Chain.{Chain}
 use Rattle.state_rank.specs.Bijection.{IsSize, IsBijection}
 use Rattle.torus_geom.specs.Marks.{Marks, size, IsGrid}
 use Rattle.homology_cert.specs.CertificateLimits.{max_certified_size}
-use Rattle.homology_cert.specs.Certificates.{Cell, comes_first, HasSmallDegrees, AreStates, HasPairStates}
+use Rattle.homology_cert.specs.Certificates.{Cell, comes_first, AreSmallDegrees, AreStates, HasPairStates}
 use Rattle.homology_cert.specs.CertificateText.{marks_line, degree_line, cell_lines, head_lines, text_of_lines}
 use Rattle.text_lines.specs.Lines.{set_line}
 pub use Rattle.homology_cert.specs.Inner.Cells.{new_cell, with_cycle, with_step}
@@ -54,10 +54,10 @@ LeadsTo (XLine o) ds line q es =
     × (q ≡ NoCell (record { o = o; x = x })) × (es ≡ ds)
 LeadsTo (NoCell g) ds line q es =
     ((line ≡ codes "end") × (q ≡ End g) × (es ≡ ds))
-    ⊎ ((d : ℤ × ℤ) × HasSmallDegrees d × (line ≡ degree_line d) × (q ≡ InCell g (new_cell d)) × (es ≡ ds))
+    ⊎ ((d : ℤ × ℤ) × AreSmallDegrees d × (line ≡ degree_line d) × (q ≡ InCell g (new_cell d)) × (es ≡ ds))
 LeadsTo (InCell g c) ds line q es =
     ((line ≡ codes "end") × (q ≡ End g) × (es ≡ ds ++ c ∷ []))
-    ⊎ ((d : ℤ × ℤ) × HasSmallDegrees d × IsTrue (comes_first c (new_cell d)) × (line ≡ degree_line d)
+    ⊎ ((d : ℤ × ℤ) × AreSmallDegrees d × IsTrue (comes_first c (new_cell d)) × (line ≡ degree_line d)
     × (q ≡ InCell g (new_cell d)) × (es ≡ ds ++ c ∷ []))
     ⊎ ((z : Chain) × AreStates g z × (c.steps ≡ []) × (line ≡ set_line (codes "cycle") (size g) z) × (q ≡ InCycle g c z)
     × (es ≡ ds))
@@ -70,9 +70,9 @@ LeadsTo (InStep g c z) ds line q es =
     × (es ≡ ds)
 LeadsTo (End g) ds line q es = ⊥
 
-abbrev pub Path : Place → List Cell → List (List ℕ) → Place → List Cell → Type 0
-Path p ds [] q es = (p ≡ q) × (ds ≡ es)
-Path p ds (line ∷ lines) q es = (r : Place) × (fs : List Cell) × LeadsTo p ds line r fs × Path r fs lines q es
+abbrev pub LinesLead : Place → List Cell → List (List ℕ) → Place → List Cell → Type 0
+LinesLead p ds [] q es = (p ≡ q) × (ds ≡ es)
+LinesLead p ds (line ∷ lines) q es = (r : Place) × (fs : List Cell) × LeadsTo p ds line r fs × LinesLead r fs lines q es
 
 abbrev pub lines_in : Marks → List Cell → List (List ℕ)
 lines_in g ds = head_lines g ++ flat_map (cell_lines (size g)) ds
@@ -91,7 +91,7 @@ lines_at (End g) ds = lines_in g ds ++ codes "end" ∷ []
 pub record AreClosed (g : Marks) (ds : List Cell) : Type 0 where
   pub grid : IsSmallGrid g
   pub ordered : AllPairs (λ p q. IsTrue (comes_first p q)) ds
-  pub degrees : All (λ (c : Cell). HasSmallDegrees c.at) ds
+  pub degrees : All (λ (c : Cell). AreSmallDegrees c.at) ds
   pub states : All (HasPairStates g) ds
 
 abbrev pub IsAt : Place → List Cell → Type 0
@@ -115,7 +115,7 @@ AreFree (l ∷ ls) = IsFree 10 l × AreFree ls
 
 pub record IsRead (text : List ℕ) (p : Place) (ds : List Cell) (rest : List ℕ) (number : ℕ) : Type 0 where
   pub at : IsAt p ds
-  pub path : Path Start [] (lines_at p ds) p ds
+  pub path : LinesLead Start [] (lines_at p ds) p ds
   pub free : AreFree (lines_at p ds)
   pub begins : text ≡ text_of_lines (lines_at p ds) ++ rest
   pub counted : number ≡ length (lines_at p ds) + 1

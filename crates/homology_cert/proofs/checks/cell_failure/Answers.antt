@@ -4,7 +4,8 @@ use Rattle.homology_cert.specs.declared.verdicts.CertTest.{CertTest}
 use Rattle.homology_cert.specs.declared.verdicts.CertTest.TheVariants.{Count}
 use Rattle.f2_algebra.specs.Certificate.{CyclePair}
 use Rattle.homology_cert.specs.Certificates.{HasCycleStates, HasStepStates}
-use Rattle.homology_cert.specs.CertificateTests.{cycle_questions, step_questions, count_passes}
+use Rattle.homology_cert.specs.CertificateTests.{count_passes}
+use Rattle.homology_cert.specs.Inner.Questions.{cycle_questions, step_questions}
 use Rattle.homology_cert.proofs.Certified.CheckLemmas.{same_cycles, same_steps, cell_fails, cell_goes_on}
 use Rattle.homology_cert.proofs.checks.cell_failure.Goals as goal
 

@@ -1,6 +1,6 @@
 -- the cycle pairs so far pass
 use Rattle.std.proofs.Common.{◌≡◌, ◌+◌, [], take, drop}
-use Rattle.homology_cert.specs.CertificateTests.{first_failing, cycle_questions}
+use Rattle.homology_cert.specs.Inner.Questions.{first_failing, cycle_questions}
 use Rattle.homology_cert.proofs.checks.cycles_failure.Given as goal
 
 abbrev pub invariant-loop-k : goal.invariant-loop-k

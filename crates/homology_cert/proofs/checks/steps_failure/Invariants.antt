@@ -1,6 +1,6 @@
 -- the step pairs so far pass
 use Rattle.std.proofs.Common.{◌≡◌, ◌+◌, drop}
-use Rattle.homology_cert.specs.CertificateTests.{first_failing, step_questions}
+use Rattle.homology_cert.specs.Inner.Questions.{first_failing, step_questions}
 use Rattle.homology_cert.proofs.checks.steps_failure.Given as goal
 
 abbrev pub invariant-loop-k : goal.invariant-loop-k

@@ -2,11 +2,12 @@ use Rattle.std.proofs.Common.{ℕ, ◌+◌, length, drop, get_or, sym, ap, ap₂
 use Rattle.std.proofs.lemmas.List.{take_all}
 use Rattle.std.proofs.lemmas.List.Sums.{sum_by_more}
 use Rattle.homology_cert.specs.Certificates.{Cell, HasPairStates, entry_count}
-use Rattle.homology_cert.specs.CertificateTests.{first_failing, cell_questions, all_questions}
+use Rattle.homology_cert.specs.Inner.Questions.{first_failing, cell_questions, all_questions}
 use Rattle.homology_cert.specs.declared.verdicts.CertTest.{CertTest}
 use Rattle.homology_cert.specs.declared.verdicts.CertTest.TheVariants.{Missing}
 use Rattle.homology_cert.specs.declared.verdicts.CertVerdict.TheVariants.{No}
-use Rattle.homology_cert.proofs.Certified.CheckLemmas.{all_questions-next, passed_cells, verdict_of-no, verdict_of-yes, verdict_of-missing, or_later}
+use Rattle.homology_cert.proofs.Certified.CheckLemmas.{all_questions-next, passed_cells, verdict_of-no, verdict_of-yes, verdict_of-missing}
+use Rattle.homology_cert.proofs.Certified.NumberLemmas.{or_later}
 use Rattle.homology_cert.proofs.checks.verdict_on.Goals as goal
 
 pub cell_failure-requires-clause-states : goal.cell_failure-requires-clause-states

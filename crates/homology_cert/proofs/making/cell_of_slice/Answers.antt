@@ -7,7 +7,7 @@ use Rattle.f2_algebra.specs.Cancel.{IsLog}
 use Rattle.f2_algebra.specs.Slice.{slice_complex}
 use Rattle.cancel.specs.Logs.{log_of}
 use Rattle.torus_geom.specs.Inner.GridComplex.{grid_complex}
-use Rattle.homology_cert.specs.CertificateTests.{has_degree}
+use Rattle.homology_cert.specs.CertificateTests.{has_bidegree}
 use Rattle.homology_cert.specs.Inner.Making.{cycle_pair, left_codes, steps_after}
 use Rattle.homology_cert.proofs.Homology.SliceRanks.{reduction_of}
 use Rattle.homology_cert.proofs.Made.MakingLemmas.{made_cell}
@@ -32,6 +32,6 @@ returns c =
           c.reduce.new.slice.slice log c.in_ok-cycles.cycles.items c.in_ok-steps.steps.items
           (λ i. (same_m i, same_a i)) c.requires.state c.requires.built c.in_ok-log.ensures.reduced
           (c.in_ok-cycles.ensures ∙ ap (λ m. map (cycle_pair log) (left_codes g slice m)) same_m)
-          (c.in_ok-steps.ensures ∙ (λ i. steps_after (has_degree g (same_m i, same_a i)) [] log)),
+          (c.in_ok-steps.ensures ∙ (λ i. steps_after (has_bidegree g (same_m i, same_a i)) [] log)),
       λ i. (same_m i, same_a i),
     )

@@ -3,13 +3,13 @@ use Rattle.std.proofs.Common.{◌++◌, ◌∙◌, All, w32, sym, ap, subst, app
 use mir.Val.{SFits}
 use Rattle.std.proofs.lemmas.Int.{to_z-of_z}
 use Rattle.std.proofs.lemmas.List.Elements.{All-nil}
-use Rattle.homology_cert.specs.Inner.Making.{key_of, HasState, IsMade}
+use Rattle.homology_cert.specs.Inner.Making.{key_of, HasState, IsMadeCell}
 use Rattle.homology_cert.proofs.Made.MakingLemmas.{keys_of, ahead, keys-pushed, made-pushed, state_of-key, made-reversed}
 use Rattle.homology_cert.proofs.making.cells_of.Goals as goal
 
 pub loop-degree-init : goal.loop-degree-init
 loop-degree-init c = record {
-  made = subst (All (IsMade c.args.g.now)) (sym c.new-cells.ensures.items) (All-nil (IsMade c.args.g.now));
+  made = subst (All (IsMadeCell c.args.g.now)) (sym c.new-cells.ensures.items) (All-nil (IsMadeCell c.args.g.now));
   keys = ap (λ cells. keys_of cells ++ c.into_iter-degree-iterator.result) c.new-cells.ensures.items;
 }
 
