@@ -5,7 +5,9 @@ pub mod MarkLemmas
 pub mod SetLemmas
 pub mod PlaceLemmas
 pub mod PathLemmas
+pub mod ClosedLemmas
 pub mod CompletionLemmas
+pub mod FreeLemmas
 pub mod ReadLemmas
 pub mod NextLemmas
 pub mod DecisionLemmas

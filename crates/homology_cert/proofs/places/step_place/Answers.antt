@@ -3,11 +3,11 @@ use Rattle.torus_geom.specs.Marks.{size}
 use Rattle.homology_cert.specs.Certificates.{AreStates}
 use Rattle.text_lines.specs.Lines.{set_line}
 use Rattle.homology_cert.specs.declared.places.Place.TheVariants.{InCell}
-use Rattle.homology_cert.proofs.Texts.ByteLemmas.{from_some}
+use Rattle.hat_division.proofs.WordLemmas.{IfSome-value}
 use Rattle.homology_cert.proofs.places.step_place.Goals as goal
 
 pub returns-in_ok-with_step-in-Some : goal.returns-in_ok-with_step-in-Some
 returns-in_ok-with_step-in-Some c =
-    let is = from_some (λ z. AreStates c.args.g z × (c.args.line.now ≡ set_line (codes "probe") (size c.args.g) z))
+    let is = IfSome-value (λ z. AreStates c.args.g z × (c.args.line.now ≡ set_line (codes "probe") (size c.args.g) z))
     c.in_ok-probe.field-0 c.in-Some.probe c.in-Some.is c.in_ok-probe.ensures.some in
     (c.in-Some.probe, is.0, is.1, ap (InCell c.args.g) c.in_ok-with_step-in-Some.ensures)

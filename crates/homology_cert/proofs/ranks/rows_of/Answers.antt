@@ -3,7 +3,7 @@ use Rattle.std.proofs.Common.{◌≡◌, ℕ, ◌++◌, ◌∷◌, [], ℤ, map,
 use mir.Val.{SFits}
 use Rattle.std.proofs.lemmas.Int.{to_z-of_z}
 use Rattle.homology_cert.specs.Inner.Ranks.{row_of}
-use Rattle.homology_cert.proofs.Homology.TableLemmas.{AreReversed-reverse}
+use Rattle.homology_cert.proofs.Homology.RowLemmas.{AreReversed-reverse}
 use Rattle.homology_cert.proofs.ranks.rows_of.Goals as goal
 
 pub loop-bidegree-init : goal.loop-bidegree-init

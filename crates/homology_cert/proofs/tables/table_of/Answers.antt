@@ -9,7 +9,9 @@ use Rattle.torus_geom.specs.Inner.CodeHomology.{IsHomologyTable}
 use Rattle.homology_cert.specs.Tables.{homology_row, HasSmallDegrees, HasSmallRank}
 use Rattle.homology_cert.specs.Inner.Ranks.{degree_cmp, HasRanks, AreCounted, AreRows}
 use Rattle.homology_cert.proofs.Homology.DegreeLemmas.{small-degrees}
-use Rattle.homology_cert.proofs.Homology.TableLemmas.{AreLeft, done-none, done-next, rows-of_ranks, rows-table, rows-small, rows-homology, IfSome-value}
+use Rattle.homology_cert.proofs.Homology.TableLemmas.{AreLeft, done-none, done-next, rows-table, rows-small, rows-homology}
+use Rattle.hat_division.proofs.WordLemmas.{IfSome-value}
+use Rattle.homology_cert.proofs.Homology.RowLemmas.{rows-of_ranks}
 use Rattle.homology_cert.proofs.tables.table_of.Goals as goal
 
 pub loop-a-init : goal.loop-a-init

@@ -4,7 +4,7 @@ use Rattle.f2_algebra.specs.Chain.{codes}
 use Rattle.state_rank.specs.States.{factorial}
 use Rattle.torus_geom.specs.Marks.{size}
 use Rattle.text_lines.specs.Lines.{set_line}
-use Rattle.homology_cert.proofs.Texts.ByteLemmas.{no_bytes}
+use Rattle.homology_cert.proofs.Texts.ByteLemmas.{empty_list}
 use Rattle.homology_cert.proofs.Texts.SetLemmas.{IsReadSet, IsReadSet-next, IsReadSet-end, no_set-no_code, no_set-not_above}
 use Rattle.homology_cert.proofs.words.set_of.Goals as goal
 
@@ -40,7 +40,7 @@ pub returns-clause-some : goal.returns-clause-some
 returns-clause-some c =
     let n = c.size-n.result in
     let rest = c.loop-rest.rest.now in
-    let none : rest ≡ [] = no_bytes rest (grind (arith, nat_tests)) in
+    let none : rest ≡ [] = empty_list rest (grind (arith, nat_tests)) in
     let is = IsReadSet-end n c.args.word.now c.args.line.now c.loop-rest.set c.loop-rest.least
     (subst (λ r. IsReadSet n c.args.word.now c.args.line.now r c.loop-rest.set c.loop-rest.least) none
     c.loop-rest.invariant) in
