@@ -14,8 +14,7 @@
 --                           so are those of both sets of a cycle pair, of a step pair, and of all pairs of a cell
 --     entry_count cells     the number of entries: the cells, the cycle pairs and the step pairs
 --     IsCertificate c       the grid is one of size at most six; the cells stand in order, no bidegree twice, with
---                           small
---                           degrees and with sets of states; there are fewer than 2^32 - 1 entries
+--                           small degrees and with sets of states; there are fewer than 2^32 - 1 entries
 use Rattle.std.specs.Prelude.{ℕ, ◌+◌, ◌-◌, ◌^◌, ◌<◌, ◌≤◌, ℤ, Bool, List, length, IsTrue, refl}
 use Rattle.std.specs.List.{All, AllPairs, sum_by}
 use Rattle.std.specs.Coded.{Coded, code_by, coded×, coded_list, coded_ℕ, coded_ℤ}

@@ -38,7 +38,7 @@ use Rattle.grid_text.proofs.Lines.KindLemmas.{state-good, list_any-never, AreGoo
 use Rattle.grid_text.proofs.Lines.KeywordLemmas.{not_end}
 use Rattle.grid_text.proofs.Lines.FaultLemmas.{NoRowHolds, fault_in_table-last}
 use Rattle.grid_text.proofs.Lines.ScriptLemmas.{IsGridOf-grid_in_force}
-use Rattle.grid_text.proofs.States.ChainLemmas.{repeated-none, same_chain}
+use Rattle.grid_text.proofs.States.ChainLemmas.{repeated-none, one_chain}
 
 -- ---- the words of a chain
 
@@ -332,7 +332,7 @@ one_command s h words (command.Turn v) (command.Turn w) l a m b =
     ap command.Turn (side_apart v w (same_is_word _ _ (second_word (sym l ∙ m))))
 one_command s h words (command.Chain z) (command.Chain w) l a m b =
     let same = same_states l.0 m.0 (cons-tail _ _ _ _ (sym (chain_words l.0) ∙ sym l.2 ∙ m.2 ∙ chain_words m.0)) in
-    ap command.Chain (same_chain m.0 z w (subst (λ x. IsPermutation x z) same l.1) m.1 a.1 b.1)
+    ap command.Chain (one_chain m.0 z w (subst (λ x. IsPermutation x z) same l.1) m.1 a.1 b.1)
 one_command s h words (command.Commute i c v) (command.Commute j d w) l a m b =
     let whole : axis_word i ∷ decimal c ∷ corner_word v ∷ [] ≡ axis_word j ∷ decimal d ∷ corner_word w ∷ [] =
     sym l ∙ m in

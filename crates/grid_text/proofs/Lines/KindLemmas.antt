@@ -29,8 +29,8 @@ pub count-other : (k : ℕ) (words : List Word) → length words ≢ k → not (
 count-other k words other = ap not (ne_eqb k (length words) (λ e. other (sym e)))
 
 -- no other number of words than k
-pub count-same : (k : ℕ) (words : List Word) → not (k == length words) ≡ false → length words ≡ k
-count-same k words e = elim (cases_eq k (length words)) [
+pub count-exact : (k : ℕ) (words : List Word) → not (k == length words) ≡ false → length words ≡ k
+count-exact k words e = elim (cases_eq k (length words)) [
   | inl same ↦ sym same
   | inr other ↦ absurd (true≢false (sym (ap not (ne_eqb k (length words) other)) ∙ e))
 ]

@@ -30,7 +30,7 @@ use Rattle.grid_text.specs.declared.commands.Command.{Command}
 use Rattle.grid_text.specs.declared.commands.Command.TheVariants as command
 use Rattle.grid_text.specs.declared.faults.TextFault.TheVariants as fault
 use Rattle.grid_text.proofs.Lines.WordLemmas.{numeral-decimal}
-use Rattle.grid_text.proofs.Lines.KindLemmas.{count-same, one_word, two_words, value_of_word, number_of_word, state_of_word}
+use Rattle.grid_text.proofs.Lines.KindLemmas.{count-exact, one_word, two_words, value_of_word, number_of_word, state_of_word}
 use Rattle.grid_text.proofs.Lines.KeywordLemmas.{keyword_cases, form_at-keyword, keyword_of_axis}
 use Rattle.grid_text.proofs.Lines.ScriptLemmas.{IsGridOf-grid_in_force}
 use Rattle.grid_text.proofs.Lines.FaultLemmas.{NoRowHolds, NoRowHolds-from_none, fault_in_table-no_word, fault_in_table-bad_word}
@@ -101,7 +101,7 @@ module _ (s : GridScript) (h : IsScript s) where
       → is_one_too_many (body s) (keyword_word k ∷ arguments) ≡ nat_le max_commands (length s.commands)
       → Rest k arguments → IsGood (keyword_word k ∷ arguments)
   alone-good k c arguments form line allowed last r =
-      let none = nil_from_length arguments (count-same 0 arguments (subst
+      let none = nil_from_length arguments (count-exact 0 arguments (subst
       (λ f. is_bad_count f arguments ≡ false) form r.0.count)) in
       inr (c, (subst (λ a. IsLineOf (keyword_word k ∷ a) c) (sym none) line, allowed, few (sym last ∙ r.1)))
 
@@ -114,7 +114,7 @@ module _ (s : GridScript) (h : IsScript s) where
       → length s.commands < max_commands → IsGood (axis_word axis ∷ arguments)
   commute-good axis arguments r commuting is form room =
       let count = subst (λ f. is_bad_count f arguments ≡ false) form r.0.count in
-      let words = two_words arguments (count-same 2 arguments count) in
+      let words = two_words arguments (count-exact 2 arguments count) in
       let choice : is_bad (choice_of (map corner_word corners)) words.1 ≡ false =
       sym (or-false _) ∙ subst (λ a. has_bad fault.BadChoice (exactly
       (number_between 0 (n - 1) ∷ choice_of (map corner_word corners) ∷ [])) a ≡ false) words.2
@@ -145,12 +145,12 @@ module _ (s : GridScript) (h : IsScript s) where
   -- by the keyword
   key-good : (k : Keyword) (arguments : List Word) → Rest k arguments → IsGood (keyword_word k ∷ arguments)
   key-good keyword.Class arguments r =
-      let one = one_word arguments (count-same 1 arguments r.0.count) in
+      let one = one_word arguments (count-exact 1 arguments r.0.count) in
       let good = subst (λ a. has_bad fault.BadChoice (keyword_form n keyword.Class) a ≡ false) one.1 r.0.choice in
       let v = value_of_word sign_word signs one.0 (sym (or-false _) ∙ good) in
       inr (command.Class v.0, (ap (λ a. keyword_word keyword.Class ∷ a) (one.1 ∙ ap (λ w. w ∷ []) v.1), tt, few r.1))
   key-good keyword.Border arguments r =
-      let one = one_word arguments (count-same 1 arguments r.0.count) in
+      let one = one_word arguments (count-exact 1 arguments r.0.count) in
       let good = subst (λ a. has_bad fault.BadState (keyword_form n keyword.Border) a ≡ false) one.1 r.0.state in
       let x = state_of_word n one.0 (sym (or-false _) ∙ good) in
       inr (
@@ -180,7 +180,7 @@ module _ (s : GridScript) (h : IsScript s) where
         ),
       )
   key-good keyword.Turn arguments r =
-      let one = one_word arguments (count-same 1 arguments r.0.count) in
+      let one = one_word arguments (count-exact 1 arguments r.0.count) in
       let good = subst (λ a. has_bad fault.BadChoice (keyword_form n keyword.Turn) a ≡ false) one.1 r.0.choice in
       let v = value_of_word side_word sides one.0 (sym (or-false _) ∙ good) in
       inr (command.Turn v.0, (ap (λ a. keyword_word keyword.Turn ∷ a) (one.1 ∙ ap (λ w. w ∷ []) v.1), tt, few r.1))
@@ -193,7 +193,7 @@ module _ (s : GridScript) (h : IsScript s) where
       commute-good Rows arguments r (λ v w e. subst (λ a. is_not_commuting (body s) (axis_word Rows ∷ a) ≡ false) e
       r.0.commuting) refl refl (few r.1)
   key-good keyword.End arguments r =
-      inl (ap (λ a. end_word ∷ a) (nil_from_length arguments (count-same 0 arguments r.0.count)))
+      inl (ap (λ a. end_word ∷ a) (nil_from_length arguments (count-exact 0 arguments r.0.count)))
   key-good k arguments r = alone-good k (option_map_or (λ c. c) (example k) command.Front) arguments refl refl tt refl r
 
   -- a line without a fault is `end`, or that of a command that may stand there

@@ -12,7 +12,7 @@ use Rattle.grid_text.specs.Document.{head, grid_word, picture_word}
 use Rattle.grid_text.specs.Faults.{number_between, is_bad, size_form, form_at, has_bad, fault_in_table}
 use Rattle.grid_text.specs.declared.faults.TextFault.TheVariants as fault
 use Rattle.grid_text.proofs.Lines.WordLemmas.{same_word, is_word-other}
-use Rattle.grid_text.proofs.Lines.KindLemmas.{count-other, count-same, one_word, number_of_word, number-good}
+use Rattle.grid_text.proofs.Lines.KindLemmas.{count-other, count-exact, one_word, number_of_word, number-good}
 use Rattle.grid_text.proofs.Lines.FaultLemmas.{NoRowHolds-from_none, fault_in_table-no_word, fault_in_table-bad_word, fault_in_table-last, fault_in_table-count, fault_in_table-number}
 
 -- another first word is not known there
@@ -63,7 +63,7 @@ module _ (word : Word) (known : form_at head word ≡ Some size_form) where
       → (n : ℕ) × (IsSize n × (arguments ≡ decimal n ∷ []))
   head-read arguments e =
       let rows = NoRowHolds-from_none head size_form (word ∷ arguments) arguments refl known refl e in
-      let one = one_word arguments (count-same 1 arguments rows.0.count) in
+      let one = one_word arguments (count-exact 1 arguments rows.0.count) in
       let good = subst (λ a. has_bad fault.BadNumber size_form a ≡ false) one.1 rows.0.number in
       let n = number_of_word 2 9 one.0 (sym (or-false (is_bad (number_between 2 9) one.0)) ∙ good) in
       (n.0, (record { least = n.1.1; greatest = n.1.2 }, one.1 ∙ ap (λ v. v ∷ []) n.1.0))

@@ -21,7 +21,7 @@ use Rattle.grid_text.specs.Inner.Reading.{IsPlace}
 use Rattle.grid_text.specs.declared.faults.TextFault.TheVariants as fault
 use Rattle.state_rank.specs.Bijection.{IsSize, IsBijection}
 use Rattle.grid_text.proofs.Lines.ScriptLemmas.{IsScript-no_command}
-use Rattle.grid_text.proofs.Lines.KindLemmas.{list_any-never, count-other, count-same, count-right}
+use Rattle.grid_text.proofs.Lines.KindLemmas.{list_any-never, count-other, count-exact, count-right}
 use Rattle.grid_text.proofs.Lines.FaultLemmas.{NoRowHolds-from_none, fault_in_table-last, fault_in_table-count, fault_in_table-choice, fault_in_table-permutation}
 use Rattle.grid_text.proofs.States.RepeatedLemmas.{list_any-none, none-list_any, IsBijection-from_apart}
 use Rattle.grid_text.proofs.Paths.MarkLemmas.{once-IsOnly, IsOnly-once, length-row_words, length-row_symbols, get_or-row_symbols, IsOnly-o, IsOnly-x, row_symbols-good, symbol-here, row_of_marks, no_comment}
@@ -285,7 +285,7 @@ picture-read n o x words filled none =
     let rows = NoRowHolds-from_none (picture n o x) (picture_form n) words (row_words row) refl
     (row-known n o x words filled) refl none in
     let long_words : length (row_words row) ≡ n =
-    count-same (length (replicate n (choice_of symbol_words))) (row_words row) rows.0.count
+    count-exact (length (replicate n (choice_of symbol_words))) (row_words row) rows.0.count
     ∙ length-replicate n (choice_of symbol_words) in
     let long : length row ≡ n = sym (length-row_words row) ∙ long_words in
     let good = sym (zip-replicate (is_bad_by fault.BadChoice) (choice_of symbol_words) n (row_words row) long_words)

@@ -20,7 +20,7 @@ use Rattle.grid_text.specs.Faults.{Kind, Form, number_between, is_bad, is_bad_by
 use Rattle.grid_text.specs.Inner.Reading.{IsRowPlace, AreNumerals}
 use Rattle.grid_text.specs.declared.faults.TextFault.TheVariants as fault
 use Rattle.grid_text.proofs.Lines.WordLemmas.{is_word-same, same_word, is_word-other}
-use Rattle.grid_text.proofs.Lines.KindLemmas.{list_any-never, count-other, count-same, count-right, number_of_word, number-good}
+use Rattle.grid_text.proofs.Lines.KindLemmas.{list_any-never, count-other, count-exact, count-right, number_of_word, number-good}
 use Rattle.grid_text.proofs.Lines.SeenLemmas.{seen, seen-more, seen-all}
 use Rattle.grid_text.proofs.States.RepeatedLemmas.{has_repeated-bijection, bijection-has_repeated, below-IsBijection}
 use Rattle.grid_text.proofs.Lines.FaultLemmas.{NoRowHolds, NoRowHolds-from_none, fault_in_table-no_word, fault_in_table-bad_word, fault_in_table-last, fault_in_table-count, fault_in_table-number, fault_in_table-permutation, fault_in_table-square}
@@ -281,7 +281,7 @@ module _ (p : Place) (letter : Word) (n : ℕ) (place : IsRowPlace letter n p) w
         (row-known p letter n place) (place.arguments letter arguments)
         (ap (λ v. fault_in_table p (v ∷ arguments)) same ∙ e) in
         let long : length arguments ≡ n =
-        count-same (length (replicate n (number_between 0 (n - 1)))) arguments rows.0.count
+        count-exact (length (replicate n (number_between 0 (n - 1)))) arguments rows.0.count
         ∙ length-replicate n (number_between 0 (n - 1)) in
         let least = small.least in
         let read = rows_of_words n arguments (omega arith)

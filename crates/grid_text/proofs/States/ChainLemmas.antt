@@ -161,9 +161,9 @@ same_ascending (x ∷ z) (y ∷ w) up up' to from =
     apart_head x z up a m = pairs_head (λ u v. u ≢ v) x z (apart-AreAscending (x ∷ z) up) a m
 
 -- so are two lists with the same states in another order
-pub same_chain : (xs z w : List (List ℕ)) → IsPermutation xs z → IsPermutation xs w → AreAscending z → AreAscending w
+pub one_chain : (xs z w : List (List ℕ)) → IsPermutation xs z → IsPermutation xs w → AreAscending z → AreAscending w
     → z ≡ w
-same_chain xs z w p q up up' =
+one_chain xs z w p q up up' =
     same_ascending z w up up' (λ x m. Contains-permutation xs w x q
     (Contains-permutation z xs x (IsPermutation-sym xs z p) m))
     (λ x m. Contains-permutation xs z x p (Contains-permutation w xs x (IsPermutation-sym xs w q) m))

@@ -1,17 +1,15 @@
 -- A certificate with the verdict yes tells the table of ranks of its grid.
 --
 -- The facts of each cell (PassingLemmas) are those that `f2_algebra` asks of a cell of a certificate of the grid
--- complex:
--- chains whose states have the bidegree are chains of this degree, borders are those of the complex, and as many states
--- as
--- are counted are its cells of this degree. So the number of cycle pairs of a cell is the rank in its bidegree, and the
--- rank
--- is 0 where there is no cell. The rows are in order because the cells are.
+-- complex: chains whose states have the bidegree are chains of this degree, borders are those of the complex, and as
+-- many states as are counted are its cells of this degree. So the number of cycle pairs of a cell is the rank in its
+-- bidegree, and the rank is 0 where there is no cell. The rows are in order because the cells are.
 use Rattle.std.proofs.Common.{◌≡◌, ◌≢◌, ℕ, zero, suc, ◌+◌, ◌<◌, Bool, true, false, not, ◌&&◌, ◌||◌, eqb, List, [], ◌∷◌, length, get_or, ℤ, pos, ◌+ℤ◌, ◌-ℤ◌, ◌<ℤ◌, int_lt, Any, All, AllPairs, Contains, IsTrue, ◌↔◌, if◌then◌else◌, inl, inr, refl, sym, ap, ap₂, subst, ◌∙◌, is_some, nat_lt, arith}
 use Rattle.std.specs.List.{filter, list_any, list_all}
 use Rattle.std.specs.Ordering.{int_eq}
 use Rattle.std.specs.declared.option.Option.TheVariants.{None, Some}
-use Rattle.std.proofs.lemmas.Bool.{and_parts, true≢false, false≢true, lt-ltb, ltb-true, eqb-true, eq-eqb, ne_eqb, or_cases}
+use Rattle.std.proofs.Math.Bool.{or-true}
+use Rattle.std.proofs.lemmas.Bool.{and_parts, true≢false, false≢true, lt-ltb, ltb-true, eqb-true, eq-eqb, ne_eqb, or_cases, not-true}
 use Rattle.std.proofs.lemmas.Bool.Decides.{Decides-int_eq}
 use Rattle.std.proofs.lemmas.Int.{ints}
 use Rattle.std.proofs.lemmas.Map.Views.{Contains-from_any}
@@ -44,8 +42,8 @@ use Rattle.rectangles.proofs.Law.GridComplexLemmas.{grid_complex_rules}
 use Rattle.homology_cert.specs.Certificates.{Cell, Certificate, comes_first, AreStates, HasCycleStates, HasStepStates, HasPairStates, IsCertificate}
 use Rattle.homology_cert.specs.CertificateTests.{same_degree, one_below, has_bidegree, all_have, state_count_at, is_empty_chain, is_cocycle, verdict_of, certified_rows}
 use Rattle.homology_cert.specs.declared.verdicts.CertVerdict.TheVariants.{Yes}
-use Rattle.homology_cert.proofs.Homology.CellLemmas.{IsApart-pairs}
-use Rattle.homology_cert.proofs.Certified.PassingLemmas.{PassesCycle, PassesStep, PassesCell, ArePairedApart, member_of_all, not-true, passes_of_yes}
+use Rattle.cancel.proofs.MapLemmas.{IsApart-pairs}
+use Rattle.homology_cert.proofs.Certified.PassingLemmas.{PassesCycle, PassesStep, PassesCell, ArePairedApart, member_of_all, passes_of_yes}
 
 -- ---- degrees
 pub same_degree-is : (d e : ℤ × ℤ) → (same_degree d e ≡ true) ↔ (d ≡ e)
@@ -295,12 +293,8 @@ module _ (c : Certificate) (is : IsCertificate c) (told : verdict_of c ≡ Yes) 
   found p [] cell inside h = absurd (no_member cell inside)
   found p (first ∷ cells) cell inside h = elim (member_cases first cells cell inside) [
     | inl e ↦ ap (λ b. b || list_any p cells) (ap p e ∙ h)
-    | inr later ↦ ap (λ b. p first || b) (found p cells cell later h) ∙ either (p first)
+    | inr later ↦ ap (λ b. p first || b) (found p cells cell later h) ∙ or-true (p first)
   ]
-    where
-      either : (b : Bool) → (b || true) ≡ true
-      either true = refl
-      either false = refl
 
   no_cell_at : (d : ℤ × ℤ) (cells : List Cell) → list_any (λ (cell : Cell). same_degree d cell.at) cells ≡ false
       → Any (λ (cell : Cell). cell.at ≡ d) cells → ⊥

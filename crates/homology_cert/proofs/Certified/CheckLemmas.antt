@@ -73,13 +73,13 @@ pub slices_around : {A : Type 0} (k : ℕ) (xs : List A)
 slices_around k xs = ap (λ ys. take k xs ++ ys) (slice_from (k + 1) xs)
 
 -- ---- all pairs of a cell
-pub same_cycles : (g h : Marks) (d e : ℤ × ℤ) (n : ℕ) (xs ys : List CyclePair) → g ≡ h → d ≡ e → xs ≡ ys
+pub first_failing-cycles : (g h : Marks) (d e : ℤ × ℤ) (n : ℕ) (xs ys : List CyclePair) → g ≡ h → d ≡ e → xs ≡ ys
     → first_failing (cycle_questions g d n [] xs) ≡ first_failing (cycle_questions h e n [] ys)
-same_cycles g h d e n xs ys p q r = λ i. first_failing (cycle_questions (p i) (q i) n [] (r i))
+first_failing-cycles g h d e n xs ys p q r = λ i. first_failing (cycle_questions (p i) (q i) n [] (r i))
 
-pub same_steps : (g h : Marks) (d e : ℤ × ℤ) (n m : ℕ) (xs ys : List StepPair) → g ≡ h → d ≡ e → n ≡ m → xs ≡ ys
+pub first_failing-steps : (g h : Marks) (d e : ℤ × ℤ) (n m : ℕ) (xs ys : List StepPair) → g ≡ h → d ≡ e → n ≡ m → xs ≡ ys
     → first_failing (step_questions g d n xs) ≡ first_failing (step_questions h e m ys)
-same_steps g h d e n m xs ys p q s r = λ i. first_failing (step_questions (p i) (q i) (s i) (r i))
+first_failing-steps g h d e n m xs ys p q s r = λ i. first_failing (step_questions (p i) (q i) (s i) (r i))
 
 -- what is asked of a list is asked of each of its values
 pub step_borders-evenly : (g : Marks) (f : Chain) (pairs : List StepPair)

@@ -6,7 +6,7 @@ use Rattle.std.proofs.Common.{◌≡◌, ℕ, ◌+◌, Bool, true, false, not, c
 use Rattle.std.specs.List.{list_all, Contains}
 use Rattle.std.specs.declared.option.Option.{Option}
 use Rattle.std.specs.declared.option.Option.TheVariants.{None, Some}
-use Rattle.std.proofs.lemmas.Bool.{and_parts, true≢false}
+use Rattle.std.proofs.lemmas.Bool.{and_parts, not-true}
 use Rattle.std.proofs.lemmas.List.Folds.{list_all-append}
 use Rattle.f2_algebra.specs.Chain.{pairs_oddly}
 use Rattle.f2_algebra.specs.Certificate.{CyclePair, StepPair}
@@ -45,10 +45,6 @@ member_of_all p (y ∷ xs) h x inside =
       | inl e ↦ sym (ap p e) ∙ parts.0
       | inr later ↦ member_of_all p xs parts.1 x later
     ]
-
-pub not-true : (b : Bool) → not b ≡ true → b ≡ false
-not-true true h = absurd (true≢false (sym h))
-not-true false h = refl
 
 -- ---- questions
 abbrev Passed : List Question → Type 0

@@ -1,5 +1,5 @@
 -- The cells that are left of a slice: how many there are of each degree is the rank in that degree.
-use Rattle.std.proofs.Common.{◌≡◌, ◌≢◌, inl, inr, ℕ, ◌<◌, ◌≤◌, ℤ, Bool, true, false, List, [], ◌∷◌, map, length, get_or, Contains, AllPairs, Some, is_some, refl, sym, ap, subst, ◌∙◌, arith}
+use Rattle.std.proofs.Common.{◌≡◌, ◌≢◌, inl, inr, ℕ, ◌<◌, ◌≤◌, ℤ, true, List, map, length, get_or, Contains, Some, is_some, refl, sym, ap, subst, ◌∙◌, arith}
 use Rattle.std.specs.List.{filter}
 use Rattle.std.specs.Ordering.{int_eq}
 use Rattle.std.proofs.lemmas.Bool.{eqb-true, cases_lt}
@@ -12,9 +12,9 @@ use Rattle.f2_algebra.specs.Complex.{Complex}
 use Rattle.f2_algebra.specs.Cancel.{Entry}
 use Rattle.f2_algebra.specs.Certificate.{IsAllCells}
 use Rattle.f2_algebra.proofs.Ranks.Pigeonhole.{pigeonhole}
-use Rattle.f2_algebra.proofs.Chains.Sets.{any, holds-of_codes, IsApart, cardinality-length, cardinality-of_codes}
+use Rattle.f2_algebra.proofs.Chains.Sets.{holds-of_codes, cardinality-length, cardinality-of_codes}
 use Rattle.state_rank.specs.States.{factorial}
-use Rattle.state_rank.proofs.MemberLemmas.{Contains-map, member_of_map, Contains-filter, member_of_filter, pairs_head, pairs_tail, pairs_map, pairs_filter}
+use Rattle.state_rank.proofs.MemberLemmas.{Contains-map, member_of_map, Contains-filter, member_of_filter, pairs_map, pairs_filter}
 use Rattle.torus_geom.specs.Marks.{Marks, size, IsGrid}
 use Rattle.torus_geom.specs.Inner.CodeHomology.{IsHomologyRank}
 use Rattle.sparse_complex.specs.declared.slices.Cell.{Cell}
@@ -22,17 +22,9 @@ use Rattle.sparse_complex.specs.Slices.{ListsCells}
 use Rattle.sparse_complex.specs.Inner.Graph.{no_cell}
 use Rattle.sparse_complex.proofs.BuildLemmas.{factorial_fits}
 use Rattle.cancel.proofs.ListLemmas.{any-member}
+use Rattle.cancel.proofs.MapLemmas.{IsApart-pairs}
 use Rattle.homology_cert.specs.Inner.Ranks.{degree_count, HasRanks}
 use Rattle.homology_cert.proofs.Homology.SliceRanks.{IsReduction, left-below, rank_of_reduction}
-
--- a list in which no code comes twice
-pub IsApart-pairs : (xs : List ℕ) → AllPairs (λ b c. b ≢ c) xs → IsApart xs
-IsApart-pairs [] p = tt
-IsApart-pairs (x ∷ xs) p = (none (any x xs) refl, IsApart-pairs xs (pairs_tail (λ b c. b ≢ c) x xs p))
-  where
-    none : (b : Bool) → any x xs ≡ b → b ≡ false
-    none true e = absurd (pairs_head (λ b c. b ≢ c) x xs p x (Contains-from_any (λ a b. eqb-true a b) x xs e) refl)
-    none false e = refl
 
 -- ---- the cells of a degree
 abbrev cells_at : ℤ → List Cell → List Cell

@@ -1,45 +1,28 @@
 -- The rows of a table: the entries of the map from bidegrees to ranks, from the last to the first.
 use Rattle.hat_division.proofs.WordLemmas.{IfSome-value}
-use Rattle.std.proofs.Common.{◌≡◌, ℕ, ◌-◌, ◌<◌, ◌^◌, ℤ, pos, neg_ℤ, ◌≤ℤ◌, Bool, true, false, List, [], ◌∷◌, map, reverse, length, get_or, All, AllPairs, Contains, IsTrue, Option, Some, None, if◌then◌else◌, ◌⊎◌, inl, inr, refl, sym, ap, subst, ◌∙◌, arith}
-use Rattle.std.specs.Prelude.{◌<ℤ◌, int_lt, is_some}
+use Rattle.std.proofs.Common.{◌≡◌, ℕ, ◌-◌, ◌<◌, ◌^◌, ℤ, true, List, [], ◌∷◌, map, reverse, length, get_or, AllPairs, Contains, IsTrue, Option, Some, None, inl, inr, refl, sym, ap, subst, ◌∙◌, arith}
+use Rattle.std.specs.Prelude.{◌<ℤ◌}
 use Rattle.std.specs.List.{AllByRecursion}
 use Rattle.std.specs.List.Sorted.{IsStrictlySortedBy}
-use Rattle.std.specs.Map.{keys_of, lookup}
-use Rattle.std.specs.Option.{unwrap_or, IfSome}
-use Rattle.std.specs.Ordering.{int_cmp, int_eq, is_lt, ordering_then}
+use Rattle.std.specs.Map.{keys_of}
+use Rattle.std.specs.Option.{unwrap_or}
+use Rattle.std.specs.Ordering.{int_cmp, is_lt, ordering_then}
 use Rattle.std.specs.declared.cmp.Ordering.{Ordering}
 use Rattle.std.specs.declared.cmp.Ordering.TheVariants.{Less, Equal, Greater}
 use Rattle.std.specs.BTreeMap as tree
-use Rattle.std.specs.BTreeSet.{BTreeSet}
-use Rattle.std.proofs.lemmas.Bool.{cases_Bool, false≢true, ltb-true}
-use Rattle.std.proofs.lemmas.Bool.Decides.{Decides-int_eq}
-use Rattle.std.proofs.lemmas.Cmp.{int_cmp_total, int_ranked, tied_itself}
+use Rattle.std.proofs.lemmas.Bool.{false≢true}
+use Rattle.std.proofs.lemmas.Cmp.{int_ranked}
 use Rattle.std.proofs.lemmas.Int.{ints}
-use Rattle.std.proofs.lemmas.List.{length-map, length-reverse, get_or-map, get_or-reverse}
-use Rattle.std.proofs.lemmas.List.Elements.{All-nil, Contains-get_or}
-use Rattle.std.proofs.lemmas.Map.Lookups.{exact_signed}
-use Rattle.std.proofs.lemmas.Map.Views.{btree_map_get_iff, btree_set_contains_iff}
-use Rattle.f2_algebra.specs.Chain.{Chain, holds, nothing, ◌⊕◌}
-use Rattle.f2_algebra.specs.Complex.{Complex, IsRank}
-use Rattle.f2_algebra.proofs.Cancelling.LogLemmas.{none_where}
-use Rattle.f2_algebra.proofs.Ranks.RankLemmas.{degree-nothing}
-use Rattle.f2_algebra.proofs.Cancelling.Cancellation.{border-nothing, same_some}
-use Rattle.f2_algebra.proofs.Chains.Sets.{same_chain, holds-nothing}
-use Rattle.f2_algebra.proofs.Chains.Sums.{add_self}
-use Rattle.state_rank.specs.States.{factorial, unrank}
-use Rattle.state_rank.proofs.MemberLemmas.{member_cases, member_tail, no_member, Contains-map, member_of_map, pairs_cons}
-use Rattle.torus_geom.specs.Marks.{Marks, size}
-use Rattle.torus_geom.specs.Degrees.{alexander, bidegree}
-use Rattle.torus_geom.specs.Inner.GridComplex.{grid_complex}
-use Rattle.torus_geom.specs.Inner.CodeHomology.{IsHomologyRank, IsHomologyTable}
-use Rattle.torus_geom.specs.Homology.{Row, StandsBefore}
-use Rattle.sparse_complex.specs.declared.slices.Cell.{Cell}
-use Rattle.hat_division.specs.Table.{comes_before, IsTable}
+use Rattle.std.proofs.lemmas.List.{length-reverse, get_or-reverse}
+use Rattle.std.proofs.lemmas.List.Elements.{Contains-get_or}
+use Rattle.std.proofs.lemmas.Map.Views.{btree_map_get_iff}
+use Rattle.state_rank.proofs.MemberLemmas.{member_cases, no_member, Contains-map, member_of_map, pairs_cons}
+use Rattle.torus_geom.specs.Marks.{Marks}
+use Rattle.torus_geom.specs.Inner.CodeHomology.{IsHomologyRank}
+use Rattle.hat_division.specs.Table.{comes_before}
 use Rattle.hat_division.specs.declared.tables.TableRow.{TableRow}
-use Rattle.gradings.specs.Degrees.{IsSmallDegree}
-use Rattle.homology_cert.specs.Tables.{homology_row, HasSmallDegrees}
-use Rattle.homology_cert.specs.Inner.Ranks.{degree_cmp, Ranks, rank_in, row_of, AreSmall, HasHomology, HasDegrees, HasRanks, AreCounted, IsTold, IsDone, AreReversed, AreRows}
-use Rattle.homology_cert.proofs.Homology.CountLemmas.{degree_cmp_total, exact_degrees, told-counted, told-other}
+use Rattle.homology_cert.specs.Inner.Ranks.{degree_cmp, Ranks, rank_in, row_of, HasHomology, IsTold, IsDone, AreReversed, AreRows}
+use Rattle.homology_cert.proofs.Homology.CountLemmas.{degree_cmp_total, exact_degrees}
 use Rattle.homology_cert.proofs.Homology.SliceRanks.{one_homology_rank}
 
 -- ---- from the map to rows

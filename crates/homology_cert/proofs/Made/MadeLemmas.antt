@@ -1,10 +1,8 @@
 -- Cells that come from logs pass the tests of a certificate.
 --
 -- The pairs of a cell pass in the slice of its Alexander degree (f2_algebra), and so in the grid. The cell one Maslov
--- degree above
--- may come from another log of the same slice, which has as many steps of each degree (StepCountLemmas); so the states
--- of a cell are
--- as many as its pairs and the steps of the cell above together.
+-- degree above may come from another log of the same slice, which has as many steps of each degree (StepCountLemmas);
+-- so the states of a cell are as many as its pairs and the steps of the cell above together.
 use Rattle.std.proofs.Common.{◌≡◌, ◌≢◌, ℕ, ◌+◌, ◌<◌, Bool, true, false, not, cond, ◌&&◌, ◌||◌, List, [], ◌∷◌, ◌++◌, map, length, ℤ, pos, ◌+ℤ◌, ◌<ℤ◌, Contains, Some, is_some, refl, sym, ap, ap₂, subst, ◌∙◌, arith, inl, inr}
 use Rattle.std.specs.List.{filter, list_any}
 use Rattle.std.specs.List.Sorted.{IsStrictlyIncreasing}
@@ -47,7 +45,7 @@ use Rattle.homology_cert.proofs.Homology.SliceRanks.{slice_of, IsReduction, left
 use Rattle.homology_cert.proofs.Certified.PassingLemmas.{PassesCell}
 use Rattle.homology_cert.proofs.Certified.CertifiedLemmas.{same_degree-is, state_of_degree, degree_of_state, cells_at}
 use Rattle.homology_cert.proofs.Made.SlicePairLemmas.{IsTest-has_bidegree, cycle_passes, cycles_apart, cycle_states, step_passes, steps_apart, step_states}
-use Rattle.homology_cert.proofs.Made.StepCountLemmas.{counted_steps, same_steps}
+use Rattle.homology_cert.proofs.Made.StepCountLemmas.{counted_steps, first_failing-steps}
 use Rattle.homology_cert.proofs.Made.YesLemmas.{yes_of_passes}
 
 -- ---- the codes that are left
@@ -196,7 +194,7 @@ module _ (g : Marks) (grid : IsGrid g) (a : ℤ) where
     -- another log has as many steps of each degree
     as_many_steps : (m : ℤ) → steps left log reduced m ≡ steps other also reduced_also m
     as_many_steps =
-        same_steps S rules (λ n. refl) tests are_tests states_at are_states log also (stands left log reduced)
+        first_failing-steps S rules (λ n. refl) tests are_tests states_at are_states log also (stands left log reduced)
         (stands other also reduced_also) (bare left log reduced) (bare other also reduced_also)
         (kept left log reduced) (kept other also reduced_also) (all_kept left log reduced)
         (all_kept other also reduced_also) (pos 1000) none_above
@@ -359,5 +357,5 @@ module _ (g : Marks) (grid : IsGrid g) (cells : List Cell) (made : AreMade g cel
   }
 
   -- it passes
-  pub made_passes : verdict_of c ≡ Yes
-  made_passes = yes_of_passes c (every_weaker (IsMadeCell g) (PassesCell c) cells passes each_made) made.complete
+  pub verdict_of-made : verdict_of c ≡ Yes
+  verdict_of-made = yes_of_passes c (every_weaker (IsMadeCell g) (PassesCell c) cells passes each_made) made.complete

@@ -1,8 +1,7 @@
 -- Each grid of size at most six has a certificate that passes, with a short text.
 --
 -- Each slice has a log that leaves no arrow (f2_algebra). The cells are made from these, for each bidegree between the
--- bounds that
--- some state has, the greatest first.
+-- bounds that some state has, the greatest first.
 use Rattle.std.proofs.Common.{◌≡◌, ◌≢◌, ℕ, ◌+◌, ◌<◌, ◌≤◌, Bool, true, false, ◌&&◌, ◌||◌, List, [], ◌∷◌, map, length, get_or, ℤ, ◌<ℤ◌, AllPairs, Contains, IsTrue, refl, sym, ap, subst, ◌∙◌, arith, inl, inr}
 use Rattle.std.specs.Prelude.{int_lt}
 use Rattle.std.specs.Ordering.{int_eq}
@@ -35,7 +34,7 @@ use Rattle.homology_cert.proofs.Homology.SliceRanks.{slice_of, slice-below}
 use Rattle.homology_cert.proofs.Certified.CertifiedLemmas.{same_degree-is}
 use Rattle.homology_cert.proofs.Homology.ExistenceLemmas.{window, window-falls, Contains-window}
 use Rattle.homology_cert.proofs.Made.SizeLemmas.{few_entries, short_text}
-use Rattle.homology_cert.proofs.Made.MadeLemmas.{states_here, some_here, small_here, pair_states, made_passes}
+use Rattle.homology_cert.proofs.Made.MadeLemmas.{states_here, some_here, small_here, pair_states, verdict_of-made}
 
 -- ---- made cells are a certificate
 module _ (g : Marks) (grid : IsGrid g) (small : size g ≤ 6) (cells : List Cell) (made : AreMade g cells) where
@@ -270,6 +269,6 @@ exists_certificate h grid small = (
   record { grid = h; cells = all_cells h grid },
   made_certificate h grid small (all_cells h grid) (are_made h grid),
   refl,
-  made_passes h grid (all_cells h grid) (are_made h grid),
+  verdict_of-made h grid (all_cells h grid) (are_made h grid),
   made_short h grid small (all_cells h grid) (are_made h grid),
 )

@@ -1,6 +1,5 @@
 -- The loops that make a certificate: the bidegrees of the states so far, the cycle pairs of the codes so far, the step
--- pairs of the
--- entries so far, and the cells of the bidegrees so far.
+-- pairs of the entries so far, and the cells of the bidegrees so far.
 use Rattle.std.proofs.Common.{◌≡◌, ℕ, zero, suc, ◌+◌, ◌-◌, ◌<◌, ℤ, Bool, true, false, cond, ◌||◌, ◌&&◌, List, [], ◌∷◌, ◌++◌, map, length, get_or, take, drop, reverse, All, AllPairs, Contains, IsTrue, is_some, refl, sym, ap, ap₂, subst, ◌∙◌, arith, inl, inr, below_more, add-one, append_assoc, append-nil, int_lt, ◌<ℤ◌}
 use Rattle.std.specs.List.{filter, list_any, AllByRecursion}
 use Rattle.std.specs.List.Sorted.{IsStrictlySortedBy}

@@ -2,9 +2,8 @@
 -- alone.
 --
 -- Cells of other bidegrees have other states, so all cells together count at most as many states as there are, and a
--- cell with
--- its pairs is at most twice as many entries as it has states. A set has at most 720 states, each with at most seven
--- bytes.
+-- cell with its pairs is at most twice as many entries as it has states. A set has at most 720 states, each with at
+-- most seven bytes.
 use Rattle.std.proofs.Common.{◌≡◌, ◌≢◌, ℕ, zero, suc, ◌+◌, ◌*◌, ◌<◌, ◌≤◌, ◌^◌, Bool, true, false, cond, ◌&&◌, ◌||◌, inl, inr, List, [], ◌∷◌, ◌++◌, length, get_or, codes, ℤ, pos, negsuc, AllPairs, Contains, IsTrue, refl, sym, ap, ap₂, subst, ◌∙◌, arith, length-append}
 use Rattle.std.specs.Prelude.{int_lt}
 use Rattle.std.specs.Ordering.{int_eq}

@@ -1,10 +1,8 @@
 -- All logs of a slice that leave no arrow have as many steps of each degree.
 --
 -- A degree has as many states as are left in it, and one for each step of it and of the degree above (f2_algebra). What
--- is left is
--- the rank, so two logs have as many steps of two degrees next to each other together. No state is above the greatest
--- degree, so
--- down from there they have as many steps of each.
+-- is left is the rank, so two logs have as many steps of two degrees next to each other together. No state is above the
+-- greatest degree, so down from there they have as many steps of each.
 use Rattle.std.proofs.Common.{◌≡◌, ℕ, zero, suc, ◌+◌, Bool, true, false, List, length, ℤ, pos, negsuc, ◌+ℤ◌, ◌-ℤ◌, ◌<ℤ◌, ◌≤ℤ◌, inl, inr, refl, sym, ap, subst, ◌∙◌, arith}
 use Rattle.std.specs.Prelude.{int_lt}
 use Rattle.std.proofs.lemmas.Int.{ints}
@@ -87,8 +85,8 @@ module _ (C : Complex ℤ) (laws : IsComplex C) (up : (m : ℤ) → C.up m ≡ m
         ∙ sym (cardinality-length (other_left m))
 
     -- both logs have as many steps of each degree
-    pub same_steps : (m : ℤ) → steps_of log m ≡ steps_of other m
-    same_steps = same_everywhere (steps_of log) (steps_of other) sums b none
+    pub first_failing-steps : (m : ℤ) → steps_of log m ≡ steps_of other m
+    first_failing-steps = same_everywhere (steps_of log) (steps_of other) sums b none
       where
         sums : (m : ℤ) → steps_of log m + steps_of log (m +ℤ pos 1) ≡ steps_of other m + steps_of other (m +ℤ pos 1)
         sums m =

@@ -8,10 +8,9 @@ use Rattle.itoa.proofs.Decimal.{IsAscii-signed_decimal}
 use Rattle.gradings.specs.Degrees.{IsSmallDegree}
 use Rattle.std.specs.Option.{option_map}
 use Rattle.std.specs.Fmt.{signed_decimal}
-use Rattle.std.proofs.lemmas.List.{take-append-drop, append_cancel_left, take_all, length-take-le}
+use Rattle.std.proofs.lemmas.List.{take-append-drop, append_cancel_left, length-take-le}
 use Rattle.std.proofs.lemmas.Fmt.{decimal_digit, parse-signed_decimal}
 use Rattle.std.proofs.Math.Seq.{take-append_seam}
-use Rattle.std.proofs.Math.ListN.{length-drop}
 use Rattle.state_rank.specs.Bijection.{IsBijection}
 use Rattle.state_rank.specs.States.{IsState, state_word, factorial, rank, unrank}
 use Rattle.state_rank.proofs.RankLemmas.{length-unrank, unrank-rank}
@@ -171,9 +170,6 @@ state_bytes n (b ∷ bs) x r long space state word same below =
     )
 
 -- ---- what is left
-pub rest_whole : (k : ℕ) (xs : List ℕ) → take (length xs - k) (drop k xs) ≡ drop k xs
-rest_whole k xs = take_all (length xs - k) (drop k xs) (omega (arith, length-drop k xs))
-
 pub empty_list : {A : Type 0} (xs : List A) → length xs ≡ 0 → xs ≡ []
 empty_list [] e = refl
 empty_list (x ∷ xs) e = absurd (omega (arith, e))

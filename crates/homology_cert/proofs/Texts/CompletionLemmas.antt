@@ -1,30 +1,24 @@
 -- The lines at a place are the first of some certificate.
-use Rattle.std.proofs.Common.{◌≡◌, ◌≢◌, ℕ, zero, suc, ◌+◌, ◌-◌, ◌<◌, ◌≤◌, ◌^◌, ◌||◌, ◌&&◌, int_lt, List, [], ◌∷◌, ◌++◌, length, codes, slice_index, ℤ, All, AllPairs, IsTrue, Contains, inl, inr, refl, sym, ap, ap₂, subst, ◌∙◌, arith, append_assoc, length-append}
+use Rattle.std.proofs.Common.{◌≡◌, ◌≢◌, ℕ, zero, suc, ◌+◌, ◌-◌, ◌<◌, ◌≤◌, ◌^◌, List, [], ◌∷◌, ◌++◌, length, codes, slice_index, inl, inr, refl, sym, ap, subst, ◌∙◌, arith, append_assoc, length-append}
 use Rattle.std.specs.List.{flat_map}
-use Rattle.std.specs.Ordering.{int_eq}
 use Rattle.std.proofs.lemmas.Bool.{cases_eq, true≢false}
-use Rattle.std.proofs.lemmas.Int.{ints}
 use Rattle.std.proofs.lemmas.List.{append-nil}
-use Rattle.std.proofs.lemmas.List.Concat.{flat_map-append}
 use Rattle.std.proofs.lemmas.List.Sums.{sum_by-cons}
-use Rattle.std.proofs.lemmas.List.Elements.{All-nil, All-append, All-cons, Contains-append_left, Contains-append_right, Contains-append_cases}
-use Rattle.f2_algebra.specs.Chain.{Chain, nothing}
-use Rattle.f2_algebra.specs.Certificate.{CyclePair, StepPair}
+use Rattle.f2_algebra.specs.Chain.{nothing}
 use Rattle.f2_algebra.proofs.Chains.Sets.{holds-nothing}
 use Rattle.f2_algebra.proofs.Chains.Lists.{All-codes}
 use Rattle.state_rank.specs.Bijection.{IsSize, IsBijection, tabulate, ascending}
 use Rattle.state_rank.specs.States.{factorial}
-use Rattle.state_rank.proofs.MemberLemmas.{member_cases, member_head, no_member, pairs_append, pairs_head, pairs_tail, pairs_cons}
 use Rattle.state_rank.proofs.OrderLemmas.{length-tabulate}
 use Rattle.state_rank.proofs.BijectionLemmas.{IsOneToOne}
 use Rattle.torus_geom.specs.Marks.{Marks, size, IsGrid}
 use Rattle.torus_geom.specs.Range.{one_up}
 use Rattle.torus_geom.proofs.Circles.TurnLemmas.{one_up-below, one_up-last, one_up_below, one_up_one}
 use Rattle.torus_geom.proofs.Sums.TabulateLemmas.{slice_index-tabulate}
-use Rattle.homology_cert.specs.Certificates.{Cell, Certificate, IsCertificate, comes_first, AreSmallDegrees, AreStates, HasCycleStates, HasStepStates, HasPairStates, entry_count}
+use Rattle.homology_cert.specs.Certificates.{Cell, Certificate, IsCertificate, AreStates, HasPairStates, entry_count}
 use Rattle.homology_cert.specs.CertificateText.{marks_line, degree_line, cycle_lines, step_lines, cell_lines, head_lines, certificate_lines}
 use Rattle.text_lines.specs.Lines.{set_line}
-use Rattle.homology_cert.specs.Inner.Reading.{size_line, new_cell, with_cycle, with_step, IsSmallSize, IsSmallGrid, LeadsTo, lines_in, lines_at, AreClosed, IsAt}
+use Rattle.homology_cert.specs.Inner.Reading.{size_line, with_cycle, with_step, IsSmallSize, IsSmallGrid, lines_in, lines_at, AreClosed, IsAt}
 use Rattle.homology_cert.specs.declared.places.Place.{Place}
 use Rattle.homology_cert.specs.declared.places.Place.TheVariants.{Start, Size, OLine, XLine, NoCell, InCell, InCycle, InStep, End}
 use Rattle.homology_cert.proofs.Texts.ClosedLemmas.{All-last, closed-changed, closed-none, states-with_cycle, states-with_step, lines-with_cycle, lines-with_step}

@@ -3,26 +3,17 @@
 -- A line feed ends a line and stands in none, so a text has its lines in one way. A certificate whose first lines are
 -- those that were read leads to the place that the reader is at, and on along the next line; so where no line leads on,
 -- or the text ends, no certificate has one line more.
-use Rattle.std.proofs.Common.{◌≡◌, ℕ, zero, suc, ◌+◌, ◌<◌, ◌≤◌, ◌^◌, true, not, eqb, List, [], ◌∷◌, ◌++◌, length, take, drop, codes, ℤ, All, Result, Ok, Err, IfOk, inl, inr, refl, sym, ap, ap₂, subst, ◌∙◌, arith, append_assoc, length-append}
-use Rattle.std.specs.List.{flat_map, list_all}
-use Rattle.std.specs.Fmt.{decimal, signed_decimal}
-use Rattle.std.proofs.lemmas.Bool.{cases_lt, and_parts, true≢false, eq-eqb}
+use Rattle.std.proofs.Common.{◌≡◌, ℕ, ◌+◌, ◌<◌, ◌≤◌, ◌^◌, List, [], ◌∷◌, ◌++◌, length, take, drop, Result, Ok, Err, IfOk, inl, inr, refl, sym, ap, subst, ◌∙◌, arith, append_assoc, length-append}
+use Rattle.std.proofs.lemmas.Bool.{cases_lt}
 use Rattle.std.proofs.lemmas.List.{append-nil, take-append-drop, take-take, length-take}
 use Rattle.std.proofs.Math.Seq.{take-append_seam}
-use Rattle.f2_algebra.specs.Chain.{Chain, codes as ranks}
-use Rattle.f2_algebra.specs.Certificate.{CyclePair, StepPair}
-use Rattle.state_rank.specs.Bijection.{IsBijection}
-use Rattle.state_rank.specs.States.{unrank, state_word}
-use Rattle.torus_geom.specs.Marks.{Marks, size}
-use Rattle.homology_cert.specs.Certificates.{Cell, Certificate, IsCertificate, AreSmallDegrees}
-use Rattle.homology_cert.specs.CertificateText.{marks_line, degree_line, cycle_lines, step_lines, cell_lines, head_lines, certificate_lines, text_of_lines, certificate_text, HasFirstLines, IsFirstBadLine}
-use Rattle.text_lines.specs.Lines.{set_line}
-use Rattle.homology_cert.specs.Inner.Reading.{LeadsTo, LinesLead, lines_at, IsAt, IsFree, AreFree, IsRead}
+use Rattle.torus_geom.specs.Marks.{Marks}
+use Rattle.homology_cert.specs.Certificates.{Cell, Certificate, IsCertificate}
+use Rattle.homology_cert.specs.CertificateText.{certificate_lines, text_of_lines, certificate_text, HasFirstLines, IsFirstBadLine}
+use Rattle.homology_cert.specs.Inner.Reading.{LeadsTo, LinesLead, lines_at, IsFree, AreFree, IsRead}
 use Rattle.homology_cert.specs.declared.places.Place.{Place}
 use Rattle.homology_cert.specs.declared.places.Place.TheVariants.{Start, End}
 use Rattle.homology_cert.proofs.Texts.TextLemmas.{text_of_lines-append}
-use Rattle.homology_cert.proofs.Texts.LineLemmas.{free-decimal, free-signed, split_at_free, small_mag}
-use Rattle.homology_cert.proofs.Texts.PlaceLemmas.{small_rows, leads_to-one}
 use Rattle.homology_cert.proofs.Texts.PathLemmas.{path-append, path-parts, path_of_certificate}
 use Rattle.homology_cert.proofs.Texts.CompletionLemmas.{completed, completed-end}
 use Rattle.homology_cert.proofs.Texts.ClosedLemmas.{is_at-next}

@@ -8,7 +8,8 @@ use Rattle.std.specs.List.Sorted.{IsStrictlyIncreasing}
 use Rattle.std.proofs.lemmas.Bool.{cases_lt}
 use Rattle.std.proofs.Math.ListN.{get_or-append}
 use Rattle.std.proofs.Math.Seq.{get_or-append_seam}
-use Rattle.std.proofs.lemmas.List.{append-nil, append_cancel_left}
+use Rattle.std.proofs.lemmas.List.{append-nil, append_cancel_left, get_or_push}
+use Rattle.std.proofs.lemmas.List.Concat.{flat_map-append}
 use Rattle.f2_algebra.specs.Chain.{Chain, nothing, single, ◌⊕◌, of_codes, codes as ranks}
 use Rattle.f2_algebra.proofs.Chains.Lists.{of_codes-push, codes-of_codes, any-above, rises, rising-codes}
 use Rattle.state_rank.specs.States.{factorial, rank, unrank, state_word}
@@ -76,27 +77,12 @@ IsReadSet-start n word line states begins = record {
   least_is = inl refl;
 }
 
--- an element of a list with one more is of the list, or the one
-push_old : (xs : List ℕ) (x k : ℕ) → k < length xs → slice_index (xs ++ x ∷ []) k ≡ slice_index xs k
-push_old [] x k l = absurd (omega (arith, l))
-push_old (y ∷ xs) x zero l = refl
-push_old (y ∷ xs) x (suc k) l = push_old xs x k (omega (arith, l))
-
-push_new : (xs : List ℕ) (x k : ℕ) → k ≡ length xs → slice_index (xs ++ x ∷ []) k ≡ x
-push_new [] x zero e = refl
-push_new [] x (suc k) e = absurd (omega (arith, e))
-push_new (y ∷ xs) x zero e = absurd (omega (arith, e))
-push_new (y ∷ xs) x (suc k) e = push_new xs x k (omega (arith, e))
-
+-- what holds of each element and of one more
 push_all : (P : ℕ → Type 0) (xs : List ℕ) (x : ℕ) → All P xs → P x → All P (xs ++ x ∷ [])
 push_all P [] x p px zero d l = px
 push_all P [] x p px (suc k) d l = absurd (omega (arith, l))
 push_all P (y ∷ xs) x p px zero d l = p 0 d (omega arith)
 push_all P (y ∷ xs) x p px (suc k) d l = push_all P xs x (λ i e m. p (suc i) e (omega arith)) px k d (omega (arith, l))
-
-flat_map-push : (f : ℕ → List ℕ) (xs : List ℕ) (x : ℕ) → flat_map f (xs ++ x ∷ []) ≡ flat_map f xs ++ f x
-flat_map-push f [] x = append-nil (f x)
-flat_map-push f (y ∷ xs) x = ap (λ t. f y ++ t) (flat_map-push f xs x) ∙ sym (append_assoc (f y) (flat_map f xs) (f x))
 
 -- one more state, above the last
 module _ (n : ℕ) (word line rest after : List ℕ) (set : Chain) (least code : ℕ)
@@ -109,21 +95,22 @@ module _ (n : ℕ) (word line rest after : List ℕ) (set : Chain) (least code :
         ∙ sym (of_codes-push h.read code (any-above code h.read (λ k l. omega (arith, h.last k l, above))));
     split = h.split ∙ ap (λ t. word ++ t) (ap (λ r. flat_map (state_bytes_of n) h.read ++ r) split
         ∙ sym (append_assoc (flat_map (state_bytes_of n) h.read) (state_bytes_of n code) after)
-        ∙ ap (λ t. t ++ after) (sym (flat_map-push (state_bytes_of n) h.read code)));
+        ∙ ap (λ t. t ++ after) (sym (flat_map-append (state_bytes_of n) h.read (code ∷ [])
+        ∙ ap (λ t. flat_map (state_bytes_of n) h.read ++ t) (append-nil (state_bytes_of n code)))));
     rising = λ k l. rising_next k (omega (arith, l, length-append h.read (code ∷ [])));
     below = push_all (λ s. s < factorial n) h.read code h.below is_code;
     last = λ k l. last_next k (omega (arith, l, length-append h.read (code ∷ [])));
     least_is = inr (
       length h.read,
       omega (arith, length-append h.read (code ∷ [])),
-      ap (λ s. s + 1) (push_new h.read code (length h.read) refl),
+      ap (λ s. s + 1) (get_or_push h.read code 0 (length h.read) refl),
     );
   }
     where
       last_next : (k : ℕ) → k < length h.read + 1 → slice_index (h.read ++ code ∷ []) k < code + 1
       last_next k l = elim (cases_lt k (length h.read)) [
-        | inl old ↦ omega (arith, push_old h.read code k old, h.last k old, above)
-        | inr new ↦ omega (arith, push_new h.read code k (omega (arith, l, new)))
+        | inl old ↦ omega (arith, get_or-append h.read (code ∷ []) 0 k old, h.last k old, above)
+        | inr new ↦ omega (arith, get_or_push h.read code 0 k (omega (arith, l, new)))
       ]
 
       rising_next : (k : ℕ) → k + 1 < length h.read + 1 → slice_index (h.read ++ code ∷ []) k < slice_index
@@ -131,11 +118,11 @@ module _ (n : ℕ) (word line rest after : List ℕ) (set : Chain) (least code :
       rising_next k l =
           let old : k < length h.read = omega (arith, l) in
           elim (cases_lt (k + 1) (length h.read)) [
-            | inl both ↦ omega (arith, push_old h.read code k old, push_old h.read code (k + 1) both, h.rising k both)
+            | inl both ↦ omega (arith, get_or-append h.read (code ∷ []) 0 k old, get_or-append h.read (code ∷ []) 0 (k + 1) both, h.rising k both)
             | inr new ↦ omega (
               arith,
-              push_old h.read code k old,
-              push_new h.read code (k + 1) (omega (arith, l, new)),
+              get_or-append h.read (code ∷ []) 0 k old,
+              get_or_push h.read code 0 (k + 1) (omega (arith, l, new)),
               h.last k old,
               above,
             )

@@ -6,7 +6,7 @@ use Rattle.f2_algebra.specs.Certificate.{CyclePair}
 use Rattle.homology_cert.specs.Certificates.{HasCycleStates, HasStepStates}
 use Rattle.homology_cert.specs.CertificateTests.{count_passes}
 use Rattle.homology_cert.specs.Inner.Questions.{cycle_questions, step_questions}
-use Rattle.homology_cert.proofs.Certified.CheckLemmas.{same_cycles, same_steps, cell_fails, cell_goes_on}
+use Rattle.homology_cert.proofs.Certified.CheckLemmas.{first_failing-cycles, first_failing-steps, cell_fails, cell_goes_on}
 use Rattle.homology_cert.proofs.checks.cell_failure.Goals as goal
 
 pub cycles_failure-requires-clause-states : goal.cycles_failure-requires-clause-states
@@ -26,7 +26,7 @@ returns-in-Some c =
     let n = c.args.entry in
     let count : ℕ × CertTest = (n, Count) in
     let same =
-    same_cycles _ k.grid _ cell.at (n + 1) _ cell.cycles c.grid.ensures.grid c.degree.ensures c.cycles-2.ensures in
+    first_failing-cycles _ k.grid _ cell.at (n + 1) _ cell.cycles c.grid.ensures.grid c.degree.ensures c.cycles-2.ensures in
     let told = sym c.in-Some.is ∙ c.in_ok-failure.ensures ∙ same in
     cell_fails (Some count) (count_passes k cell) c.in-Some.failure
     (cycle_questions k.grid cell.at (n + 1) [] cell.cycles)
@@ -40,9 +40,9 @@ returns-in-None c =
     let n = c.args.entry in
     let count : ℕ × CertTest = (n, Count) in
     let cycles =
-    same_cycles _ k.grid _ cell.at (n + 1) _ cell.cycles c.grid.ensures.grid c.degree.ensures c.cycles-2.ensures in
+    first_failing-cycles _ k.grid _ cell.at (n + 1) _ cell.cycles c.grid.ensures.grid c.degree.ensures c.cycles-2.ensures in
     let steps =
-    same_steps _ k.grid _ cell.at _
+    first_failing-steps _ k.grid _ cell.at _
     (n + 1 + length cell.cycles) _ cell.steps c.grid-in-None.ensures.grid c.degree-in-None.ensures
     (ap (λ (ps : List CyclePair). n + 1 + length ps) c.cycles.ensures) c.steps.ensures in
     let passed = sym c.in-None.is ∙ c.in_ok-failure.ensures ∙ cycles in

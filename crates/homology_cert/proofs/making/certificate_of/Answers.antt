@@ -3,7 +3,7 @@ use Rattle.std.proofs.Common.{◌<◌, length, sym, ap, subst, ◌∙◌}
 use Rattle.homology_cert.specs.Certificates.{Certificate}
 use Rattle.homology_cert.specs.CertificateTests.{verdict_of}
 use Rattle.homology_cert.specs.CertificateText.{certificate_text}
-use Rattle.homology_cert.proofs.Made.MadeLemmas.{made_passes}
+use Rattle.homology_cert.proofs.Made.MadeLemmas.{verdict_of-made}
 use Rattle.homology_cert.proofs.Made.MakingLaws.{made_certificate, made_short}
 use Rattle.homology_cert.proofs.making.certificate_of.Goals as goal
 
@@ -13,7 +13,7 @@ of-requires c = made_certificate c.args.g.now c.size-size.ensures.grid c.require
 
 pub returns-clause-passes : goal.returns-clause-passes
 returns-clause-passes c = ap verdict_of c.of.ensures
-    ∙ made_passes c.args.g.now c.size-size.ensures.grid c.in_ok-cells.cells.items c.in_ok-cells.ensures
+    ∙ verdict_of-made c.args.g.now c.size-size.ensures.grid c.in_ok-cells.cells.items c.in_ok-cells.ensures
 
 pub returns-clause-short : goal.returns-clause-short
 returns-clause-short c =

@@ -9,7 +9,7 @@ use Rattle.torus_geom.specs.Inner.CodeHomology.{IsHomologyTable}
 use Rattle.homology_cert.specs.Tables.{homology_row, HasSmallDegrees, HasSmallRank}
 use Rattle.homology_cert.specs.Inner.Ranks.{degree_cmp, HasRanks, AreCounted, AreRows}
 use Rattle.homology_cert.proofs.Homology.DegreeLemmas.{small-degrees}
-use Rattle.homology_cert.proofs.Homology.TableLemmas.{AreLeft, done-none, done-next, rows-table, rows-small, rows-homology}
+use Rattle.homology_cert.proofs.Homology.TableLemmas.{AreLeft, done-none, done-next, rows-homology_table, rows-small, rows-homology}
 use Rattle.hat_division.proofs.WordLemmas.{IfSome-value}
 use Rattle.homology_cert.proofs.Homology.RowLemmas.{rows-of_ranks}
 use Rattle.homology_cert.proofs.tables.table_of.Goals as goal
@@ -60,7 +60,7 @@ unwrap-requires c =
     subst (λ left. AreLeft g left c.loop-a.ranks) c.in-None.ensures.steps.0 c.loop-a.invariant in
     let rows : AreRows g c.in_ok-rows.rows.items =
     rows-of_ranks g c.loop-a.ranks c.in_ok-rows.rows.items c.rows_of.ensures.ordered all.1 c.in_ok-rows.ensures.rows in
-    c.of.ensures.accepted.1 (rows-table g small c.in_ok-rows.rows.items rows)
+    c.of.ensures.accepted.1 (rows-homology_table g small c.in_ok-rows.rows.items rows)
 
 pub returns-clause-table : goal.returns-clause-table
 returns-clause-table c =

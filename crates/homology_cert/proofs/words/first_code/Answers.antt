@@ -2,7 +2,8 @@ use Rattle.std.proofs.Common.{◌+◌, ◌∷◌, ◌++◌, arith, ◌∙◌, sy
 use Rattle.sparse_complex.proofs.BuildLemmas.{factorial_fits}
 use Rattle.state_rank.specs.States.{unrank, state_word}
 use Rattle.state_rank.proofs.RankLemmas.{IsState-unrank}
-use Rattle.homology_cert.proofs.Texts.ByteLemmas.{state_first, state_bytes, rest_whole}
+use Rattle.homology_cert.proofs.Texts.ByteLemmas.{state_first, state_bytes}
+use Rattle.f2_chain.proofs.MergeLemmas.{take-drop}
 use Rattle.homology_cert.proofs.words.first_code.Goals as goal
 use Rattle.homology_cert.proofs.words.first_code.Goals.{then-bytes-digits-via-then-bytes-digits, then-bytes-digits-via-else-bytes-digits+then-bytes-ne32}
 
@@ -31,5 +32,5 @@ returns-clause-some c =
       omega (arith, is.0, small),
       is.2 ∙ ap (λ t. (32 ∷ state_word (unrank c.args.n c.rank.result)) ++ t)
           (ap (λ k. drop (k + 1) c.args.bytes.now) (sym c.from-digits.ensures)
-          ∙ sym (rest_whole (c.from-digits.result + 1) c.args.bytes.now)),
+          ∙ sym (take-drop (c.from-digits.result + 1) c.args.bytes.now)),
     )

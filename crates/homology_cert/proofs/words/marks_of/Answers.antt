@@ -1,5 +1,5 @@
 use Rattle.std.proofs.Common.{arith, ap, sym, ◌∙◌, length, take, drop, get_or, ◌∷◌, length-take}
-use Rattle.homology_cert.proofs.Texts.ByteLemmas.{rest_whole}
+use Rattle.f2_chain.proofs.MergeLemmas.{take-drop}
 use Rattle.homology_cert.proofs.Texts.MarkLemmas.{length-spaced, marks_line-spaced, marks_read, no_marks, first_and_rest}
 use Rattle.homology_cert.proofs.words.marks_of.Goals as goal
 use Rattle.homology_cert.proofs.words.marks_of.Goals.{then-line-columns-via-then-line-columns, then-line-columns-via-else-line-columns+then-line-letter}
@@ -16,7 +16,7 @@ returns-then-line-columns-clause-none c o bijection e =
 pub returns-in_default-clause-none : goal.returns-in_default-clause-none
 returns-in_default-clause-none c o bijection e =
     let is = e ∙ marks_line-spaced c.args.letter c.args.n o c.requires bijection in
-    c.in_default.ensures.none o (rest_whole 1 c.args.line.now ∙ ap (drop 1) is)
+    c.in_default.ensures.none o (take-drop 1 c.args.line.now ∙ ap (drop 1) is)
 
 pub returns-clause-some : goal.returns-clause-some
 returns-clause-some c =
@@ -31,7 +31,7 @@ returns-clause-some c =
       c.requires.small,
     ))
     (first_and_rest c.args.letter line (omega (arith, c.if-line-columns.false)) c.if-line-letter.false
-    ∙ ap (λ t. c.args.letter ∷ t) (sym (rest_whole 1 line) ∙ c.in-Some.ensures.some.1))
+    ∙ ap (λ t. c.args.letter ∷ t) (sym (take-drop 1 line) ∙ c.in-Some.ensures.some.1))
     c.of.result c.of.ensures.rows c.of.ensures.state
 
 pub returns-clause-none : goal.returns-clause-none
@@ -47,5 +47,5 @@ returns-clause-none c =
       c.requires.small,
     ))
     (first_and_rest c.args.letter line (omega (arith, c.if-line-columns.false)) c.if-line-letter.false
-    ∙ ap (λ t. c.args.letter ∷ t) (sym (rest_whole 1 line) ∙ c.in-Some.ensures.some.1))
+    ∙ ap (λ t. c.args.letter ∷ t) (sym (take-drop 1 line) ∙ c.in-Some.ensures.some.1))
     c.of.result c.of.ensures.none
