@@ -103,26 +103,15 @@ pub record IsStateOf (g : Marks) (x : List ℕ) : Type 0 where
   pub state : IsState x
   pub same_size : length x ≡ size g
 
+-- a command that is not among these may stand anywhere
 abbrev pub IsAllowed : Marks → Command → Type 0
-IsAllowed g command.Front = Unit {0}
-IsAllowed g command.Ranks = Unit {0}
-IsAllowed g command.Hat = Unit {0}
-IsAllowed g (command.Class v) = Unit {0}
 IsAllowed g (command.Border x) = IsStateOf g x
 IsAllowed g (command.Chain z) = All (IsStateOf g) z × AreAscending z
-IsAllowed g command.Show = Unit {0}
-IsAllowed g command.Bounds = Unit {0}
-IsAllowed g (command.Turn v) = Unit {0}
 IsAllowed g (command.Commute axis c v) = (c < size g) × (are_commuting axis g c ≡ true)
+IsAllowed g c = Unit {0}
 
+-- one that is not among these leaves the grid as it is
 abbrev pub grid_after : Marks → Command → Marks
-grid_after g command.Front = g
-grid_after g command.Ranks = g
-grid_after g command.Hat = g
-grid_after g (command.Class v) = g
-grid_after g (command.Border x) = g
-grid_after g (command.Chain z) = g
-grid_after g command.Show = g
-grid_after g command.Bounds = g
 grid_after g (command.Turn v) = turned v g
 grid_after g (command.Commute axis c v) = swapped axis g c
+grid_after g c = g
