@@ -42,12 +42,12 @@
 --     first_passed rows                the fault of the first row whose test passes
 --     fault_in_table p words           the fault that the table gives for such a line
 --     line_fault p words               the fault of such a line: none of a blank line, and else that in the table
---     HaveFault lines f line           the line of this number has the fault f, and those before it are allowed
---     HaveNoEnd lines line             all lines are allowed and `end` was not met; the number is that of the next
+--     rest_fault p lines               the fault with which lines begin at the place p: that of the first of them; where
+--                                      there is none, `NoEnd` if the place is not after the end
 --     HaveFirstFault lines f line      lines with these words have the first fault f at the line of this number,
 --                                      counted from 1
 --     IsFirstFault text f line         so have the lines of the text
-use Rattle.std.specs.Prelude.{◌≡◌, ◌⊎◌, ℕ, ◌+◌, ◌-◌, Bool, true, false, ◌&&◌, ◌||◌, not, List, [], ◌∷◌, ◌++◌, length, map, replicate, drop, is_none, nat_le, slice_index_or, count_by, ◌==◌, if◌then◌else◌}
+use Rattle.std.specs.Prelude.{◌≡◌, ℕ, ◌+◌, ◌-◌, Bool, true, false, ◌&&◌, ◌||◌, not, List, [], ◌∷◌, ◌++◌, length, map, replicate, drop, is_none, nat_le, slice_index_or, count_by, ◌==◌, if◌then◌else◌}
 use Rattle.std.specs.declared.option.Option.{Option}
 use Rattle.std.specs.declared.option.Option.TheVariants.{None, Some}
 use Rattle.std.specs.List.{list_any, zip}
@@ -235,26 +235,19 @@ line_fault p words = if is_blank words then None else fault_in_table p words
 
 -- ---- the first fault
 
--- the lines before the faulty one are allowed and lead to the place where it has its fault
-pub record HaveFault (lines : List (List Word)) (f : TextFault) (line : ℕ) : Type 0 where
+abbrev pub rest_fault : Place → List (List Word) → Option TextFault
+rest_fault p [] = if is_after_end p then None else Some fault.NoEnd
+rest_fault p (words ∷ later) = line_fault p words
+
+-- the lines before are allowed and lead to the place where the rest begins with the fault
+pub record HaveFirstFault (lines : List (List Word)) (f : TextFault) (line : ℕ) : Type 0 where
   pub before : List (List Word)
-  pub words : List Word
-  pub after : List (List Word)
+  pub rest : List (List Word)
   pub place : Place
-  pub split : lines ≡ before ++ words ∷ after
+  pub split : lines ≡ before ++ rest
   pub path : Path head before place
-  pub faulty : line_fault place words ≡ Some f
+  pub faulty : rest_fault place rest ≡ Some f
   pub number : line ≡ length before + 1
-
--- every line is allowed, and `end` was not met
-pub record HaveNoEnd (lines : List (List Word)) (line : ℕ) : Type 0 where
-  pub place : Place
-  pub path : Path head lines place
-  pub not_ended : is_after_end place ≡ false
-  pub number : line ≡ length lines + 1
-
-abbrev pub HaveFirstFault : List (List Word) → TextFault → ℕ → Type 0
-HaveFirstFault lines f line = HaveFault lines f line ⊎ (HaveNoEnd lines line × (f ≡ fault.NoEnd))
 
 abbrev pub IsFirstFault : List ℕ → TextFault → ℕ → Type 0
 IsFirstFault text f line = HaveFirstFault (words_of_lines text) f line

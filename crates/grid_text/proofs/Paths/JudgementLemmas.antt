@@ -1,6 +1,6 @@
 -- The lines that were judged so far, and the laws of the judgement. The same lines lead from the head to one place,
 -- so they are those of one script; and a line with a fault leads nowhere, so they have no first fault then.
-use Rattle.std.proofs.Common.{◌≡◌, ◌↔◌, ℕ, suc, ◌+◌, ◌<◌, ◌≤◌, Bool, true, false, cond, List, [], ◌∷◌, ◌++◌, length, map, None, Some, Result, Ok, Err, IfOk, refl, ap, subst, ◌∙◌, sym, arith, inl, inr, true≢false, length-append}
+use Rattle.std.proofs.Common.{◌≡◌, ◌⊎◌, ◌↔◌, ℕ, suc, ◌+◌, ◌<◌, ◌≤◌, Bool, true, false, cond, List, [], ◌∷◌, ◌++◌, length, map, None, Some, Result, Ok, Err, IfOk, refl, ap, subst, ◌∙◌, sym, arith, inl, inr, true≢false, length-append}
 use Rattle.std.specs.Prelude.{◌==◌}
 use Rattle.std.specs.List.{All}
 use Rattle.std.proofs.lemmas.Bool.{cases_Bool}
@@ -10,13 +10,14 @@ use Rattle.grid_text.specs.Picture.{grid_of_rows}
 use Rattle.grid_text.specs.Words.{Word, is_blank, lines_of, words_of, words_of_lines}
 use Rattle.grid_text.specs.Script.{GridScript}
 use Rattle.grid_text.specs.Document.{Place, head, o_line, x_line, picture, body, ended, body_of, below_row, LeadsOn, Leads, Path, AreLinesOf, IsDocument, IsHeadLine}
-use Rattle.grid_text.specs.Faults.{line_fault, is_after_end, HaveFirstFault, IsFirstFault}
+use Rattle.grid_text.specs.Faults.{line_fault, is_after_end, IsFirstFault}
 use Rattle.grid_text.specs.Inner.Reading.{IsPlace}
 use Rattle.grid_text.specs.Inner.Next.{place_of, is_head, IsNextOn, IsNext}
 use Rattle.grid_text.specs.declared.places.Place.{Place as StoredPlace}
 use Rattle.grid_text.specs.declared.places.Place.TheVariants as stored
 use Rattle.grid_text.specs.declared.faults.TextFault.{TextFault}
 use Rattle.grid_text.specs.declared.faults.TextFault.TheVariants as fault
+use Rattle.grid_text.proofs.Paths.FirstFaultLemmas.{HaveFault, HaveNoEnd, HaveFirstFault-no_end, HaveFirstFault-cases}
 use Rattle.grid_text.proofs.Paths.PlaceLemmas.{filled-leads_on, IsPlace-next, IsPlace-path, line_fault-leads, line_fault-filled, leads-no_fault, one_place}
 
 -- at the head all lines are blank; past it, the line where it begins is known
@@ -140,16 +141,15 @@ HasRead-more text line grid_line begins rest bytes after p q h from e shorter ne
 pub HasRead-fault : (text : List ℕ) (line grid_line : ℕ) (rest bytes after : List ℕ) (p : Place) (f : TextFault)
     → HasRead text line grid_line rest p → lines_of rest ≡ bytes ∷ lines_of after
     → line_fault p (words_of bytes) ≡ Some f → IsFirstFault text f line
-HasRead-fault text line grid_line rest bytes after p f h e faulty = inl (record {
+HasRead-fault text line grid_line rest bytes after p f h e faulty = record {
   before = h.before;
-  words = words_of bytes;
-  after = words_of_lines after;
+  rest = words_of bytes ∷ words_of_lines after;
   place = p;
   split = h.lines ∙ ap (λ ls. h.before ++ map words_of ls) e;
   path = h.path;
   faulty = faulty;
   number = h.number;
-})
+}
 
 -- all lines were read
 pub HasRead-all : (text : List ℕ) (line grid_line : ℕ) (rest : List ℕ) (p : Place)
@@ -174,7 +174,8 @@ pub HasNoEnd-from_place : (text : List ℕ) (line grid_line : ℕ) (rest : List 
     → rest ≡ [] → is_after_end p ≡ false → IsFirstFault text fault.NoEnd line
 HasNoEnd-from_place text line grid_line rest p h none not_ended =
     let all = HasRead-all text line grid_line rest p h none in
-    inr (record { place = p; path = all.0; not_ended = not_ended; number = all.1 }, refl)
+    HaveFirstFault-no_end (words_of_lines text) line
+    (record { place = p; path = all.0; not_ended = not_ended; number = all.1 })
 
 -- a place that is not stored as the head is not at the head
 pub is_head-other : (p : StoredPlace) → (p ≡ stored.Head → ⊥) → is_head (place_of p) ≡ false
@@ -233,24 +234,25 @@ Path-rest p q r (words ∷ before) after h path whole =
     Path-rest path.0 q r before after (IsPlace-next p path.0 words h path.1) path.2
     (subst (λ x. Path x (before ++ after) r) same whole.2)
 
--- lines with a first fault are no document
-pub no_document_of_lines : (lines : List (List Word)) (f : TextFault) (line : ℕ) (s : GridScript)
-    → HaveFirstFault lines f line → AreLinesOf lines s → ⊥
-no_document_of_lines lines f line s (inl first) d =
+-- lines with a first fault are no document, in either way
+no_document_of_ways : (lines : List (List Word)) (f : TextFault) (line : ℕ) (s : GridScript)
+    → HaveFault lines f line ⊎ (HaveNoEnd lines line × (f ≡ fault.NoEnd)) → AreLinesOf lines s → ⊥
+no_document_of_ways lines f line s (inl first) d =
     let path = Path-rest head first.place (ended s) first.before (first.words ∷ first.after) tt first.path
     (subst (λ ls. Path head ls (ended s)) first.split d) in
     let none = line_fault-leads first.place path.0 first.words
     (IsPlace-path head first.place first.before tt first.path) path.1 in
     let clash : Some f ≡ None = sym first.faulty ∙ none in
     cc
-no_document_of_lines lines f line s (inr (open_end, e)) d =
+no_document_of_ways lines f line s (inr (open_end, e)) d =
     let same = one_end head open_end.place (ended s) lines tt open_end.path d in
     true≢false (sym (ap is_after_end same) ∙ open_end.not_ended)
 
 -- a text with a first fault is no document
 pub no_document : (text : List ℕ) (f : TextFault) (line : ℕ) (s : GridScript) → IsFirstFault text f line
     → IsDocument text s → ⊥
-no_document text f line s first d = no_document_of_lines (words_of_lines text) f line s first d
+no_document text f line s first d =
+    no_document_of_ways (words_of_lines text) f line s (HaveFirstFault-cases (words_of_lines text) f line first) d
 
 -- a line is allowed at a place that lines lead to exactly where it has no fault
 pub allowed : (lines : List (List Word)) (p : Place) (words : List Word) → Path head lines p

@@ -7,10 +7,11 @@ use Rattle.std.proofs.lemmas.List.{append-nil, append_assoc}
 use Rattle.grid_text.specs.Words.{Word, words_of_lines}
 use Rattle.grid_text.specs.Script.{GridScript}
 use Rattle.grid_text.specs.Document.{Place, head, o_line, x_line, picture, body, ended, Leads, Path, AreLinesOf, IsDocument}
-use Rattle.grid_text.specs.Faults.{line_fault, is_after_end, HaveFault, HaveNoEnd, HaveFirstFault, IsFirstFault}
+use Rattle.grid_text.specs.Faults.{line_fault, is_after_end, HaveFirstFault, IsFirstFault}
 use Rattle.grid_text.specs.Inner.Reading.{IsPlace}
 use Rattle.grid_text.specs.declared.faults.TextFault.{TextFault}
 use Rattle.grid_text.specs.declared.faults.TextFault.TheVariants as fault
+use Rattle.grid_text.proofs.Paths.FirstFaultLemmas.{HaveFault, HaveNoEnd, HaveFirstFault-fault, HaveFirstFault-no_end, HaveFirstFault-cases}
 use Rattle.grid_text.proofs.Paths.PlaceLemmas.{IsPlace-next, IsPlace-path, line_fault-leads, leads-no_fault, one_place}
 use Rattle.grid_text.proofs.Paths.JudgementLemmas.{Path-more, Path-rest, head_of, tail_of}
 
@@ -25,10 +26,8 @@ no_end lines p path open_end =
     inr (
       fault.NoEnd,
       length lines + 1,
-      inr (
-        record { place = p; path = path; not_ended = open_end; number = refl },
-        refl,
-      ),
+      HaveFirstFault-no_end lines (length lines + 1)
+          (record { place = p; path = path; not_ended = open_end; number = refl }),
     )
 
 -- all lines are allowed
@@ -51,7 +50,7 @@ one_line lines before after words p e path next (Some f) faulty =
     inr (
       f,
       length before + 1,
-      inl (record {
+      HaveFirstFault-fault lines f (length before + 1) (record {
         before = before;
         words = words;
         after = after;
@@ -123,16 +122,23 @@ not_open lines f line number first open_end =
     let clash : Some f ≡ None = sym first.faulty ∙ none in
     cc
 
--- lines have one first fault, at one line
-pub one_fault_of_lines : (lines : List (List Word)) (f g : TextFault) (line number : ℕ) → HaveFirstFault lines f line
-    → HaveFirstFault lines g number → (f ≡ g) × (line ≡ number)
-one_fault_of_lines lines f g line number (inl x) (inl y) =
+-- one first fault, in either way
+one_fault_of_ways : (lines : List (List Word)) (f g : TextFault) (line number : ℕ)
+    → HaveFault lines f line ⊎ (HaveNoEnd lines line × (f ≡ fault.NoEnd))
+    → HaveFault lines g number ⊎ (HaveNoEnd lines number × (g ≡ fault.NoEnd)) → (f ≡ g) × (line ≡ number)
+one_fault_of_ways lines f g line number (inl x) (inl y) =
     let both = same_fault head x.place y.place x.before y.before x.after y.after x.words y.words f g tt x.path y.path
     (sym x.split ∙ y.split) x.faulty y.faulty in
     (both.0, x.number ∙ ap (λ n. n + 1) both.1 ∙ sym y.number)
-one_fault_of_lines lines f g line number (inl x) (inr y) = absurd (not_open lines f line number x y.0)
-one_fault_of_lines lines f g line number (inr x) (inl y) = absurd (not_open lines g number line y x.0)
-one_fault_of_lines lines f g line number (inr x) (inr y) = (x.1 ∙ sym y.1, x.0.number ∙ sym y.0.number)
+one_fault_of_ways lines f g line number (inl x) (inr y) = absurd (not_open lines f line number x y.0)
+one_fault_of_ways lines f g line number (inr x) (inl y) = absurd (not_open lines g number line y x.0)
+one_fault_of_ways lines f g line number (inr x) (inr y) = (x.1 ∙ sym y.1, x.0.number ∙ sym y.0.number)
+
+-- lines have one first fault, at one line
+pub one_fault_of_lines : (lines : List (List Word)) (f g : TextFault) (line number : ℕ) → HaveFirstFault lines f line
+    → HaveFirstFault lines g number → (f ≡ g) × (line ≡ number)
+one_fault_of_lines lines f g line number x y =
+    one_fault_of_ways lines f g line number (HaveFirstFault-cases lines f line x) (HaveFirstFault-cases lines g number y)
 
 -- so has a text
 pub one_fault : (text : List ℕ) (f g : TextFault) (line number : ℕ) → IsFirstFault text f line
