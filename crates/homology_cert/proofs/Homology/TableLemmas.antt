@@ -1,7 +1,7 @@
 -- The table of a grid: from the map of its ranks to rows in order. Each Alexander degree of a state is done
 -- in turn; at the others no state stands, so each rank there is 0.
-use Rattle.std.proofs.Common.{◌≡◌, ℕ, ◌<◌, ◌^◌, ℤ, pos, neg_ℤ, ◌≤ℤ◌, Bool, true, false, List, [], ◌∷◌, map, length, get_or, All, Contains, Some, None, if◌then◌else◌, ◌⊎◌, inl, inr, refl, sym, ap, subst, ◌∙◌, arith}
-use Rattle.std.specs.Prelude.{◌<ℤ◌, int_lt, is_some}
+use Rattle.std.proofs.Common.{◌≡◌, ℕ, ◌<◌, ◌^◌, ℤ, pos, neg_ℤ, ◌≤ℤ◌, Bool, true, false, List, [], ◌∷◌, map, length, get_or, All, Contains, Some, None, ◌⊎◌, inl, inr, refl, sym, ap, subst, ◌∙◌, arith}
+use Rattle.std.specs.Prelude.{◌<ℤ◌, int_lt}
 use Rattle.std.specs.List.{AllByRecursion}
 use Rattle.std.specs.List.Sorted.{IsStrictlySortedBy}
 use Rattle.std.specs.Map.{lookup}
@@ -22,7 +22,7 @@ use Rattle.f2_algebra.specs.Chain.{Chain, holds, nothing, ◌⊕◌}
 use Rattle.f2_algebra.specs.Complex.{Complex, IsRank}
 use Rattle.f2_algebra.proofs.Cancelling.LogLemmas.{none_where}
 use Rattle.f2_algebra.proofs.Ranks.RankLemmas.{degree-nothing}
-use Rattle.f2_algebra.proofs.Cancelling.Cancellation.{border-nothing, same_some}
+use Rattle.f2_algebra.proofs.Cancelling.Cancellation.{border-nothing}
 use Rattle.f2_algebra.proofs.Chains.Sets.{same_chain, holds-nothing}
 use Rattle.f2_algebra.proofs.Chains.Sums.{add_self}
 use Rattle.state_rank.specs.States.{factorial, unrank}
@@ -36,6 +36,7 @@ use Rattle.sparse_complex.specs.declared.slices.Cell.{Cell}
 use Rattle.hat_division.specs.Table.{comes_before, IsTable}
 use Rattle.hat_division.specs.declared.tables.TableRow.{TableRow}
 use Rattle.gradings.specs.Degrees.{IsSmallDegree}
+use Rattle.rectangles.proofs.Homology.HomologyLemmas.{degree_if}
 use Rattle.homology_cert.specs.Tables.{homology_row, HasSmallDegrees}
 use Rattle.homology_cert.specs.Inner.Ranks.{degree_cmp, Ranks, rank_in, AreSmall, HasHomology, HasDegrees, HasRanks, AreCounted, IsTold, IsDone, AreRows}
 use Rattle.homology_cert.proofs.Homology.CountLemmas.{told-counted, told-other}
@@ -73,19 +74,12 @@ module _ {G : Type 0} (C : Complex G) (m : G) (none : (s : ℕ) → C.degree s �
     refl,
   )
 
--- the degree of a state, and of no other code
-pub state_degree : (g : Marks) (s : ℕ) (b : Bool) (d : ℤ × ℤ)
-    → (if b then Some (bidegree g (unrank (size g) s)) else None) ≡ Some d
-    → (b ≡ true) × (bidegree g (unrank (size g) s) ≡ d)
-state_degree g s true d e = (refl, same_some _ _ e)
-state_degree g s false d e = absurd (false≢true (ap is_some e))
-
 -- a row of the table is at the degree of some state: it is at no degree that no state has
 pub no_homology : (g : Marks) (row : TableRow)
     → ((s : ℕ) → s < factorial (size g) → bidegree g (unrank (size g) s) ≡ (row.m, row.a) → ⊥) → HasHomology g row → ⊥
 no_homology g row none held =
     let empty : IsHomologyRank g row.m row.a 0 = rank-no_cell (grid_complex g) (row.m, row.a) (λ s e.
-    let told = state_degree g s _ (row.m, row.a) e in
+    let told = degree_if g s _ (row.m, row.a) e in
     none s (ltb-true s (factorial (size g)) told.0) told.1) in
     let zero_rank = one_homology_rank g row.m row.a row.rank 0 held.rank empty in
     let positive = held.positive in
@@ -136,7 +130,7 @@ pub done-none : (g : Marks) (degrees : BTreeSet ℤ) (ranks : Ranks) → tree.Is
 done-none g degrees ranks empty has = record {
   done = λ a unseen. record {
     told = λ m. subst (IsHomologyRank g m a) (sym (nothing_at a m)) (rank-no_cell (grid_complex g) (m, a) (λ s e.
-        let told = state_degree g s _ (m, a) e in
+        let told = degree_if g s _ (m, a) e in
         unseen (seen a s (ltb-true s (factorial (size g)) told.0) (ap (λ (d : ℤ × ℤ). d.1) told.1))));
     small = λ m. subst (λ k. k < 2 ^ 32) (sym (nothing_at a m)) (omega arith);
   };

@@ -25,11 +25,11 @@ use Rattle.state_rank.specs.Bijection.{ascending, IsBijection}
 use Rattle.state_rank.specs.States.{factorial, unrank, state_word}
 use Rattle.state_rank.proofs.LehmerLemmas.{factorial_grows}
 use Rattle.state_rank.proofs.MemberLemmas.{length-flat_map, pairs_weaker}
-use Rattle.state_rank.proofs.OrderLemmas.{length-tabulate}
 use Rattle.state_rank.proofs.RankLemmas.{length-unrank}
 use Rattle.torus_geom.specs.Marks.{Marks, size, IsGrid}
 use Rattle.torus_geom.specs.Degrees.{bidegree}
 use Rattle.gradings.specs.Degrees.{IsSmallDegree}
+use Rattle.rectangles.proofs.Sweep.PushLemmas.{length-ascending}
 use Rattle.homology_cert.specs.Certificates.{Cell, Certificate, comes_first, AreSmallDegrees, AreStates, HasCycleStates, HasStepStates, HasPairStates, entry_count}
 use Rattle.homology_cert.specs.CertificateTests.{same_degree, has_bidegree, state_count_at}
 use Rattle.homology_cert.specs.CertificateText.{marks_line, degree_line, cycle_lines, step_lines, cell_lines, head_lines, text_of_lines, certificate_text}
@@ -118,10 +118,6 @@ module _ (g : Marks) where
       let here = at_most_one (bidegree g (unrank (size g) x)) cells apart in
       let later = counts_within cells apart xs in
       omega (arith, parts, here, later)
-
--- there are n numbers below n
-length-ascending : (n : ℕ) → length (ascending n) ≡ n
-length-ascending n = length-tabulate n (λ c. c)
 
 -- cells in order have different bidegrees
 ordered-apart : (p q : Cell) → IsTrue (comes_first p q) → p.at ≢ q.at

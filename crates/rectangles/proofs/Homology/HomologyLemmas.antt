@@ -31,7 +31,8 @@ use Rattle.torus_geom.proofs.Chains.CodesLemmas.{AreRanks, states_of-unrank, in_
 use Rattle.torus_geom.proofs.Chains.ReachedLemmas.{states_of-border}
 
 -- ---- degrees
-degree_if : (g : Marks) (s : ℕ) (b : Bool) (d : ℤ × ℤ)
+-- the degree of a state, and of no other code
+pub degree_if : (g : Marks) (s : ℕ) (b : Bool) (d : ℤ × ℤ)
     → (if b then Some (bidegree g (unrank (size g) s)) else None) ≡ Some d
     → (b ≡ true) × (bidegree g (unrank (size g) s) ≡ d)
 degree_if g s true d e = (refl, same_some (bidegree g (unrank (size g) s)) d e)
