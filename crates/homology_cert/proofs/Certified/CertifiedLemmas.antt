@@ -17,7 +17,6 @@ use Rattle.f2_algebra.specs.Chain.{Chain, holds, codes, nothing, pairs_oddly}
 use Rattle.f2_algebra.specs.Complex.{Complex, AllOfDegree, IsCycle, IsComplex, IsRank, border as border_in}
 use Rattle.f2_algebra.specs.Bigraded.{up_m}
 use Rattle.f2_algebra.specs.Certificate.{CyclePair, StepPair, IsAllCells, AreCyclePairs, AreStepPairs, IsCertCell, Passes, steps_at}
-use Rattle.cancel.proofs.ListLemmas.{any-member}
 use Rattle.f2_algebra.proofs.Chains.Sets.{any, IsApart, same_chain, holds-codes, holds-nothing, pairs_oddly-weight, weight-nothing, cardinality-length, cardinality-of_codes}
 use Rattle.f2_algebra.proofs.Cancelling.Cancellation.{same_some}
 use Rattle.f2_algebra.proofs.Ranks.Existence.{cells_of, cells_of-all, has_degree as has_degree_in}
@@ -28,7 +27,7 @@ use Rattle.f2_algebra.proofs.Certificates.LogCertificate.{pairs_from}
 use Rattle.f2_algebra.proofs.Certificates.CertificateRanks.{rank_of_cell, rank_elsewhere}
 use Rattle.state_rank.specs.Bijection.{ascending}
 use Rattle.state_rank.specs.States.{factorial, unrank}
-use Rattle.state_rank.proofs.OrderLemmas.{Contains-ascending, member_of_ascending, ascending_rises}
+use Rattle.state_rank.proofs.OrderLemmas.{member_of_ascending, ascending_rises}
 use Rattle.state_rank.proofs.MemberLemmas.{member_cases, no_member, Contains-map, member_of_map, Contains-filter, member_of_filter, pairs_map, pairs_filter, count-same, pairs_weaker}
 use Rattle.torus_geom.specs.Marks.{Marks, size, IsGrid}
 use Rattle.torus_geom.specs.Degrees.{bidegree}
@@ -43,6 +42,7 @@ use Rattle.homology_cert.specs.Certificates.{Cell, Certificate, comes_first, Are
 use Rattle.homology_cert.specs.CertificateTests.{same_degree, one_below, has_bidegree, all_have, state_count_at, is_empty_chain, is_cocycle, verdict_of, certified_rows}
 use Rattle.homology_cert.specs.declared.verdicts.CertVerdict.TheVariants.{Yes}
 use Rattle.cancel.proofs.MapLemmas.{IsApart-pairs}
+use Rattle.homology_cert.proofs.Homology.LawLemmas.{any-ascending}
 use Rattle.homology_cert.proofs.Certified.PassingLemmas.{PassesCycle, PassesStep, PassesCell, ArePairedApart, member_of_all, passes_of_yes}
 
 -- ---- degrees
@@ -170,9 +170,6 @@ module _ (g : Marks) (grid : IsGrid g) where
       )
 
   -- ---- the states of a bidegree
-  any-ascending : (n s : ℕ) → s < n → any s (ascending n) ≡ true
-  any-ascending n s within = any-member (ascending n) s (Contains-ascending n s within)
-
   in_states : (s : ℕ) → is_some (G.degree s) ≡ true → any s (ascending (factorial (size g))) ≡ true
   in_states s live = any-ascending (factorial (size g)) s (below (nat_lt s (factorial (size g))) refl)
     where

@@ -1,9 +1,12 @@
 -- Laws of the ranks and the tables of a grid: in each bidegree there is a rank, and a grid has one table.
-use Rattle.std.proofs.Common.{◌≡◌, ℕ, zero, suc, ◌<◌, ℤ, Bool, true, false, ◌&&◌, ◌||◌, eqb, List, [], ◌∷◌, Contains, AllPairs, Some, None, if◌then◌else◌, is_some, ◌↔◌, inl, inr, refl, sym, ap, subst, ◌∙◌, arith}
+use Rattle.std.proofs.Common.{◌≡◌, ℕ, ◌<◌, ℤ, Bool, true, false, ◌&&◌, List, [], ◌∷◌, Contains, AllPairs, Some, None, if◌then◌else◌, is_some, ◌↔◌, inl, inr, refl, sym, ap, subst, ◌∙◌, arith}
 use Rattle.std.specs.Ordering.{int_eq}
-use Rattle.std.proofs.lemmas.Bool.{cases_eq, eq-eqb, ltb-true, and_parts, and_from}
+use Rattle.std.proofs.lemmas.Bool.{ltb-true, and_parts, and_from}
 use Rattle.std.proofs.lemmas.Bool.Decides.{Decides-int_eq}
 use Rattle.std.proofs.lemmas.Int.{ints}
+use Rattle.cancel.proofs.ListLemmas.{any-member}
+use Rattle.state_rank.specs.Bijection.{ascending}
+use Rattle.state_rank.proofs.OrderLemmas.{Contains-ascending}
 use Rattle.f2_algebra.proofs.Ranks.Existence.{exists_rank}
 use Rattle.f2_algebra.proofs.Chains.Sets.{any}
 use Rattle.state_rank.specs.States.{factorial, unrank}
@@ -31,31 +34,15 @@ same_bidegree-is p q = (
       ((Decides-int_eq p.1 q.1).1 (ap (λ (t : ℤ × ℤ). t.1) e)),
 )
 
--- the codes below n
-codes_below : ℕ → List ℕ
-codes_below zero = []
-codes_below (suc n) = n ∷ codes_below n
-
-any-codes_below : (n s : ℕ) → s < n → any s (codes_below n) ≡ true
-unfolding codes_below
-any-codes_below zero s l = absurd (omega arith)
-any-codes_below (suc n) s l = elim (cases_eq s n) [
-  | inl same ↦ ap (λ b. b || any s (codes_below n)) (eq-eqb s n same)
-  | inr other ↦ ap (λ b. eqb s n || b) (any-codes_below n s (below other)) ∙ either (eqb s n)
-]
-  where
-    below : (s ≡ n → ⊥) → s < n
-    below other = grind arith
-
-    either : (b : Bool) → (b || true) ≡ true
-    either true = refl
-    either false = refl
+-- the rank of a state is among the numbers below the number of states
+pub any-ascending : (n s : ℕ) → s < n → any s (ascending n) ≡ true
+any-ascending n s within = any-member (ascending n) s (Contains-ascending n s within)
 
 pub some_homology_rank : (g : Marks) → IsGrid g → (m a : ℤ) → (d : ℕ) × IsHomologyRank g m a d
 some_homology_rank g grid m a =
     exists_rank same_bidegree same_bidegree-is (grid_complex g) (grid_complex_rules g grid)
-    (codes_below (factorial (size g)))
-    (λ s live. any-codes_below (factorial (size g)) s (below s live)) (m, a)
+    (ascending (factorial (size g)))
+    (λ s live. any-ascending (factorial (size g)) s (below s live)) (m, a)
   where
     of_state : (s : ℕ) (b : Bool) → is_some (if b then Some (bidegree g (unrank (size g) s)) else None) ≡ true
         → b ≡ true
