@@ -255,7 +255,7 @@ module _ (ns : List Node) (head fresh limit : ℕ) (x : Node) where
           apart = subst (λ is. AreApart is fresh) (sym kept) a.2;
           begun = ok.begun;
           room = subst (λ n. limit ≤ n) (sym (length-set ns head x)) ok.room;
-          small = subst (λ n. n ≤ 2 ^ 40 + 4096) (sym (length-set ns head x)) ok.small;
+          small = subst (λ n. n ≤ 2 ^ 48 + 4096) (sym (length-set ns head x)) ok.small;
           count = omega (arith, ok.count, len-insert_new (live_map ns gone fresh) head x absent, ap (λ m. len m) now);
         },
         now,
@@ -301,7 +301,7 @@ takes_fresh ns head free fresh limit x p ok =
             (AreApart-more gone fresh (fresh + 1) (omega arith) ok.apart);
         begun = omega (arith, p);
         room = subst (λ n. limit ≤ n) (sym (length-set ns fresh x)) ok.room;
-        small = subst (λ n. n ≤ 2 ^ 40 + 4096) (sym (length-set ns fresh x)) ok.small;
+        small = subst (λ n. n ≤ 2 ^ 48 + 4096) (sym (length-set ns fresh x)) ok.small;
         count = omega (arith, ok.count, len-insert_new (live_map ns gone fresh) fresh x absent, ap (λ m. len m) now);
       },
       now,
@@ -334,7 +334,7 @@ sets_node ns head free fresh limit id x c ok =
         apart = subst (λ is. AreApart is fresh) (sym kept) ok.apart;
         begun = ok.begun;
         room = subst (λ n. limit ≤ n) (sym (length-set ns id x)) ok.room;
-        small = subst (λ n. n ≤ 2 ^ 40 + 4096) (sym (length-set ns id x)) ok.small;
+        small = subst (λ n. n ≤ 2 ^ 48 + 4096) (sym (length-set ns id x)) ok.small;
         count = omega (arith, ok.count, len-insert_live (live_map ns gone fresh) id x c, ap (λ m. len m) now);
       },
       now,
@@ -365,7 +365,7 @@ gives_back ns head free fresh limit id x e c ok =
         apart = subst (λ is. AreApart is fresh) (sym kept) (a.0, a.1, ok.apart);
         begun = ok.begun;
         room = subst (λ n. limit ≤ n) (sym (length-set ns id x)) ok.room;
-        small = subst (λ n. n ≤ 2 ^ 40 + 4096) (sym (length-set ns id x)) ok.small;
+        small = subst (λ n. n ≤ 2 ^ 48 + 4096) (sym (length-set ns id x)) ok.small;
         count = omega (
           arith,
           ok.count,
@@ -389,7 +389,7 @@ gives_back ns head free fresh limit id x e c ok =
 
 -- nodes are added after the old ones, and more is promised
 pub grows : (ns ms : List Node) (head free fresh limit limit' : ℕ) → take (length ns) ms ≡ ns → limit' ≤ length ms
-    → fresh ≤ limit' → length ms ≤ 2 ^ 40 + 4096 → IsPool ns head free fresh limit
+    → fresh ≤ limit' → length ms ≤ 2 ^ 48 + 4096 → IsPool ns head free fresh limit
     → IsPool ms head free fresh limit'
     × (live_map ms (free_ids ms free head) fresh ≡ live_map ns (free_ids ns free head) fresh)
 grows ns ms head free fresh limit limit' e fits more small ok =

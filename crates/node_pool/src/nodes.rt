@@ -22,7 +22,7 @@ impl Model for Nodes {
 
     ghost view = { λ n. joined n.chunks.items };
 
-    ghost invariant = { λ n. AreWhole n.chunks.items × (length n.chunks.items ≤ 2 ^ 30) };
+    ghost invariant = { λ n. AreWhole n.chunks.items × (length n.chunks.items ≤ 2 ^ 37) };
 }
 
 impl Nodes {
@@ -39,14 +39,14 @@ impl Nodes {
     // How many nodes lie in the chunks.
     pub(crate) fn len(&self) -> u64
         ensures count { result ≡ length self.now }
-        ensures bound { result ≤ 2 ^ 42 }
+        ensures bound { result ≤ 2 ^ 50 }
     {
         self.chunks.len() as u64 * CHUNK_NODES as u64
     }
 
     // Adds a chunk. No node moves: the vector moves at most the pointers to the chunks.
     pub(crate) fn grow(&mut self) -> Result<(), AllocError>
-        requires { length self.old < 2 ^ 41 }
+        requires { length self.old < 2 ^ 49 }
         ensures kept { take (length self.old) self.new ≡ self.old }
         ensures grown { OnOk result (length self.new ≡ length self.old + 4096) }
         ensures same { OnErr result (self.new ≡ self.old) }

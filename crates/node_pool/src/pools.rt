@@ -9,9 +9,10 @@ use grid_ports::NoMemory;
 use std::alloc::Global;
 use std::marker::Model;
 
-/// A map from ids to nodes, and beside it `spare`, how many more nodes can be taken with no more memory.
+/// A map from ids to nodes, and beside it `spare`, how many more nodes can be taken with no more memory, and `granted`,
+/// for how many more there is memory.
 ///
-/// An id is below 2^41, so none is `NO_NODE`. One that was given back may come again. A dropped pool frees its chunks.
+/// An id is below 2^49, so none is `NO_NODE`. One that was given back may come again. A dropped pool frees its chunks.
 //
 // A place below `fresh` has a node, or was given back and is one of the `free` places that begin with `head` and lead on through
 // `next_out`. A place from `fresh` on, and below `limit`, was never taken. What lies from `limit` on was not promised.
@@ -42,7 +43,7 @@ impl Pool {
     /// A pool with no node and nothing to spare. It asks for no memory.
     pub fn new(alloc: Global) -> Pool
         ensures empty { (result.nodes ≡ map.empty) × (map.len result.nodes ≡ 0) }
-        ensures spare { result.spare ≡ 0 }
+        ensures spare { (result.spare ≡ 0) × (result.granted ≡ 0) }
     {
         Pool {
             nodes: Nodes::new(alloc),
@@ -57,7 +58,7 @@ impl Pool {
     #[inline]
     pub fn live(&self) -> u64
         ensures count { result ≡ map.len self.now.nodes }
-        ensures bound { result < 2 ^ 41 }
+        ensures bound { result < 2 ^ 49 }
     {
         self.fresh - self.free
     }
@@ -66,7 +67,7 @@ impl Pool {
     #[inline]
     pub fn spare(&self) -> u64
         ensures count { result ≡ self.now.spare }
-        ensures bound { result < 2 ^ 42 }
+        ensures bound { result < 2 ^ 50 }
     {
         self.free + (self.limit - self.fresh)
     }
@@ -76,7 +77,7 @@ impl Pool {
     pub fn get(&self, id: u64) -> Node
         requires { IsTrue (map.contains_key self.now.nodes id) }
         ensures node { map.get self.now.nodes id ≡ Some result }
-        ensures id { id < 2 ^ 41 }
+        ensures id { id < 2 ^ 49 }
     {
         self.nodes.read(id)
     }
@@ -86,7 +87,7 @@ impl Pool {
     pub fn set(&mut self, id: u64, node: Node)
         requires { IsTrue (map.contains_key self.old.nodes id) }
         ensures nodes { self.new.nodes ≡ map.insert self.old.nodes id node }
-        ensures spare { self.new.spare ≡ self.old.spare }
+        ensures spare { (self.new.spare ≡ self.old.spare) × (self.new.granted ≡ self.old.granted) }
     {
         self.nodes.write(id, node);
     }
@@ -96,10 +97,10 @@ impl Pool {
     pub fn take(&mut self, node: Node) -> u64
         requires { 0 < self.old.spare }
         ensures new { map.get self.old.nodes result ≡ None }
-        ensures id { result < 2 ^ 41 }
+        ensures id { result < 2 ^ 49 }
         ensures apart { result ≢ NO_NODE }
         ensures nodes { self.new.nodes ≡ map.insert self.old.nodes result node }
-        ensures spare { self.new.spare + 1 ≡ self.old.spare }
+        ensures spare { (self.new.spare + 1 ≡ self.old.spare) × (self.new.granted + 1 ≡ self.old.granted) }
     {
         if self.free > 0 {
             let last = self.head;
@@ -120,7 +121,7 @@ impl Pool {
         requires { IsTrue (map.contains_key self.old.nodes id) }
         ensures node { map.get self.old.nodes id ≡ Some result }
         ensures nodes { self.new.nodes ≡ map.remove self.old.nodes id }
-        ensures spare { self.new.spare ≡ self.old.spare + 1 }
+        ensures spare { (self.new.spare ≡ self.old.spare + 1) × (self.new.granted ≡ self.old.granted + 1) }
     {
         let node = self.get(id);
         self.nodes.write(
@@ -141,11 +142,16 @@ impl Pool {
     ///
     /// `NoMemory` if the allocator refuses. The chunks that it granted before are kept, and serve a later call.
     pub fn reserve(&mut self, k: u64) -> Result<(), NoMemory>
-        requires { map.len self.old.nodes + k < 2 ^ 40 }
+        requires { map.len self.old.nodes + k < 2 ^ 48 }
         ensures nodes { self.new.nodes ≡ self.old.nodes }
         ensures room { OnOk result ((k ≤ self.new.spare) × (self.old.spare ≤ self.new.spare)) }
         ensures refused { OnErr result (self.new.spare ≡ self.old.spare) }
-        ensures enough { k ≤ self.old.spare → IsOk result × (self.new.spare ≡ self.old.spare) }
+        ensures ready { k ≤ self.old.spare → IsOk result × (self.new.spare ≡ self.old.spare) }
+
+        // What was granted before is enough, or less than one chunk more than `k` is granted then.
+        ensures enough { k ≤ self.old.granted → IsOk result × (self.new.granted ≡ self.old.granted) }
+        ensures few { self.old.granted < self.new.granted → self.new.granted < k + 4096 }
+        ensures kept { self.old.granted ≤ self.new.granted }
     {
         let spare = self.free + (self.limit - self.fresh);
         if k <= spare {
@@ -159,10 +165,12 @@ impl Pool {
 
 // Adds chunks until there are `wanted` places.
 fn grow_to(nodes: &mut Nodes, wanted: u64) -> Result<(), NoMemory>
-    requires { (length nodes.old ≤ 2 ^ 40 + 4096) × (wanted < 2 ^ 40) }
+    requires { (length nodes.old ≤ 2 ^ 48 + 4096) × (wanted < 2 ^ 48) }
     ensures kept { take (length nodes.old) nodes.new ≡ nodes.old }
-    ensures bound { length nodes.new ≤ 2 ^ 40 + 4096 }
+    ensures bound { length nodes.new ≤ 2 ^ 48 + 4096 }
     ensures grown { OnOk result (wanted ≤ length nodes.new) }
+    ensures enough { wanted ≤ length nodes.old → IsOk result × (nodes.new ≡ nodes.old) }
+    ensures few { length nodes.old < length nodes.new → length nodes.new < wanted + 4096 }
 {
     while nodes.len() < wanted {
         nodes.grow()?;

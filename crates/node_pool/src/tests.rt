@@ -67,15 +67,3 @@ fn a_second_reserve_moves_no_node(rt: HostRuntime) -> Result<(), Fail> {
     }
     Ok(())
 }
-
-// A refusal leaves the map and `spare`, and a later call succeeds.
-#[test]
-fn a_refusal_changes_nothing(rt: HostRuntime) {
-    let mut pool = Pool::new(rt.alloc());
-    if pool.reserve(10000).is_err() {
-        assert_eq!(rt; pool.spare(), 0);
-        assert_eq!(rt; pool.live(), 0);
-        assert!(rt; pool.reserve(10000).is_ok());
-    }
-    assert!(rt; pool.spare() >= 10000);
-}

@@ -39,6 +39,7 @@ pub fn targets(alloc: Global, g: &Grid, x: &State) -> TargetStates
     ensures lowers_maslov { All (λ y. maslov_o g.now x.now ≡ maslov_o g.now y +ℤ pos 1) result.items }
     ensures keeps_alexander { All (λ y. alexander g.now x.now ≡ alexander g.now y) result.items }
     ensures inline { result.capacity ≡ 45 }
+    ensures few { length result.items ≤ 45 }
 {
     let opens = open_rectangles(g, x);
     let odds = odd_pairs(x, &opens);

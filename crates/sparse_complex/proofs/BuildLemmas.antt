@@ -1,5 +1,5 @@
 -- Building a slice: its cells, code by code; their keys; and the arrows, cell by cell.
-use Rattle.std.proofs.Common.{◌≡◌, ℕ, zero, suc, ℤ, pos, ◌+ℤ◌, ◌+◌, ◌^◌, ◌<◌, ◌≤◌, Bool, true, false, not, cond, ◌&&◌, ◌||◌, eqb, ltb, List, [], ◌∷◌, ◌++◌, map, length, length-append, take, le_trans, get_or, set, length-set, replicate, Option, Some, None, is_some, ◌⊎◌, inl, inr, refl, sym, ap, ap₂, subst, ◌∙◌, arith}
+use Rattle.std.proofs.Common.{◌≡◌, ℕ, zero, suc, ℤ, pos, ◌+ℤ◌, ◌+◌, ◌<◌, ◌≤◌, Bool, true, false, not, cond, ◌&&◌, ◌||◌, eqb, ltb, List, [], ◌∷◌, ◌++◌, map, length, length-append, take, le_trans, get_or, set, length-set, replicate, Option, Some, None, is_some, ◌⊎◌, inl, inr, refl, sym, ap, ap₂, subst, ◌∙◌, arith}
 use Rattle.std.specs.Prelude.{IsTrue, ◌↔◌}
 use Rattle.std.specs.List.Sorted.{IsPermutation}
 use Rattle.std.proofs.lemmas.List.{length-replicate, take_more, map-append}
@@ -25,7 +25,7 @@ use Rattle.sparse_complex.specs.declared.links.Links.{Links}
 use Rattle.sparse_complex.specs.declared.slices.Cell.{Cell}
 use Rattle.sparse_complex.specs.Inner.Lists.{among, AreDistinct, linked_heads}
 use Rattle.sparse_complex.specs.Inner.Graph.{AreListed, width, has_arrow, no_cell, code_at, IsLinked}
-use Rattle.sparse_complex.specs.Inner.Stored.{no_key, key_of, is_live, maslov_at, slice_of, IsStoredByKey}
+use Rattle.sparse_complex.specs.Inner.Stored.{no_key, most_keys, key_of, is_live, maslov_at, slice_of, IsStoredByKey}
 use Rattle.sparse_complex.specs.Inner.Built.{count_of, AreCells, AreKeys, AreLinksBelow}
 use Rattle.sparse_complex.proofs.ListLemmas.{same_test, eqb_comm, in_head, in_tail}
 use Rattle.sparse_complex.proofs.LinkLemmas.{AreInLists-same, length-linked}
@@ -36,7 +36,7 @@ use Rattle.sparse_complex.proofs.GridPartLemmas.{targets-live, no_cell_past, par
 
 -- ---- the visit of the states
 -- the number of states is not large
-pub factorial_fits : (n : ℕ) → n ≤ MAX_SIZE → factorial n < 2 ^ 31
+pub factorial_fits : (n : ℕ) → n ≤ MAX_SIZE → factorial n ≤ most_keys
 unfolding factorial
 factorial_fits n m = let grown = factorial_grows n MAX_SIZE m in omega arith
 
@@ -260,7 +260,7 @@ keys-start n cells keys e = record {
 }
 
 pub keys-step : (D : Complex ℤ) (n : ℕ) (cells : List Cell) (s : AreCells D n cells) (i : ℕ) → i < length cells
-    → length cells ≤ no_key → (keys : List ℕ) → KeysPlace n cells i keys
+    → length cells ≤ most_keys → (keys : List ℕ) → KeysPlace n cells i keys
     → KeysPlace n cells (i + 1) (set keys (code_at cells i) i)
 keys-step D n cells s i l small keys p = record {
   long = length-set keys (code_at cells i) i ∙ p.long;
@@ -299,7 +299,7 @@ keys-step D n cells s i l small keys p = record {
         let below = was.0 in
         (omega arith, ap (code_at cells) is ∙ was.1)
 
-pub keys-end : (n : ℕ) (cells : List Cell) (keys : List ℕ) → length cells ≤ no_key
+pub keys-end : (n : ℕ) (cells : List Cell) (keys : List ℕ) → length cells ≤ most_keys
     → KeysPlace n cells (length cells) keys → AreKeys keys cells
 keys-end n cells keys small p = record { small = small; placed = p.placed; live = p.live }
 
@@ -331,7 +331,7 @@ module _ (D : Complex ℤ) (n : ℕ) (rules : IsComplex D) (up : D.up ≡ (λ m.
     pub stored-built : IsStoredByKey keys cells links
     stored-built = record {
       listed = a.listed;
-      small = subst (λ w. w ≤ no_key) (sym a.whole) k.small;
+      small = subst (λ w. w ≤ most_keys) (sym a.whole) k.small;
       whole = sym a.whole;
       keyed = λ c h. let w = k.live c h in (subst (λ m. key_of keys c < m) (sym a.whole) w.0, w.1);
       ends = λ p q h. (

@@ -16,7 +16,7 @@ use Rattle.sparse_complex.specs.declared.slices.Cell.{Cell}
 use Rattle.sparse_complex.specs.Slices.{other_sources, other_targets, fill}
 use Rattle.sparse_complex.specs.Inner.Lists.{no_id, among, AreDistinct, head_at}
 use Rattle.sparse_complex.specs.Inner.Graph.{AreListed, width, targets, sources, has_arrow, others, code_at, IsFilled, IsCleared}
-use Rattle.sparse_complex.specs.Inner.Stored.{no_key, key_of, is_live, maslov_at, slice_of, IsLiveKey, IsStoredByKey, IsFirst, IsStored}
+use Rattle.sparse_complex.specs.Inner.Stored.{no_key, most_keys, key_of, is_live, maslov_at, slice_of, IsLiveKey, IsStoredByKey, IsFirst, IsStored}
 use Rattle.sparse_complex.proofs.ListLemmas.{same_test, in_head, in_tail, AreDistinct-filter}
 use Rattle.sparse_complex.proofs.GraphLemmas.{has_arrow-sources, has_arrow-targets}
 use Rattle.sparse_complex.proofs.FillLemmas.{no_out}
@@ -148,31 +148,6 @@ module _ (keys : List ℕ) (cells : List Cell) (links : Links) (s : IsStoredByKe
 
   pub room-to : (x y n : ℕ) → key_of keys y ≡ no_key → fill (slice_of keys cells links) x y ≤ n
   room-to x y n e = let z = no_fill-to x y e in omega arith
-
-others-shorter : (k : ℕ) (ks : List ℕ) → length (others k ks) ≤ length ks
-others-shorter k [] = omega arith
-others-shorter k (j ∷ ks) = by (not (eqb j k)) (others-shorter k ks)
-  where
-    by : (b : Bool) → length (others k ks) ≤ length ks
-        → length (cond b (j ∷ others k ks) (others k ks)) ≤ suc (length ks)
-    by true l = omega arith
-    by false l = omega arith
-
-products : (a b c d n : ℕ) → a ≤ c → b ≤ d → n ≡ c * d → a * b ≤ n
-products a b c d n l m e = grind (arith, e, l, m)
-
--- the product of all sources and all targets is enough
-pub room-enough : (keys : List ℕ) (cells : List Cell) (links : Links) (s : IsStoredByKey keys cells links) (x y n : ℕ)
-    → is_live keys x ≡ true → is_live keys y ≡ true
-    → n ≡ length (sources links (key_of keys y)) * length (targets links (key_of keys x))
-    → fill (slice_of keys cells links) x y ≤ n
-room-enough keys cells links s x y n l m e =
-    let f = fill-stored keys cells links s x y l m in
-    let g = products (length (others (key_of keys x) (sources links (key_of keys y))))
-    (length (others (key_of keys y) (targets links (key_of keys x)))) _ _ n
-    (others-shorter (key_of keys x) (sources links (key_of keys y)))
-    (others-shorter (key_of keys y) (targets links (key_of keys x))) e in
-    omega arith
 
 -- ---- the keys of two codes are taken away
 pub key_of-set : (keys : List ℕ) (c k d : ℕ) → c < length keys
@@ -333,7 +308,7 @@ module _ (keys : List ℕ) (cells : List Cell) (links : Links) (s : IsStoredByKe
   pub stored-left : IsStoredByKey (keys_without keys x y) cells new
   stored-left = record {
     listed = cut.listed;
-    small = subst (λ w. w ≤ no_key) (sym cut.width) s.small;
+    small = subst (λ w. w ≤ most_keys) (sym cut.width) s.small;
     whole = s.whole ∙ sym cut.width;
     keyed = λ c h.
         let p = and_parts (is_live keys c) (not (is_one_of x y c)) (sym (live-without c) ∙ h) in

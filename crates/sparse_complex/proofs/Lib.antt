@@ -1,6 +1,7 @@
 pub mod ListLemmas
 pub mod LinkLemmas
 pub mod GraphLemmas
+pub mod CountLemmas
 pub mod WalkLemmas
 pub mod FillLemmas
 pub mod StoredLemmas

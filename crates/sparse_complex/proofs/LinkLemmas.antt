@@ -752,5 +752,5 @@ unfolding linked_heads
 linked_heads-is heads id p q = refl
 
 -- an id of the pool is apart from no id
-pub small_id : (id : ℕ) → id < 2199023255552 → eqb id no_id ≡ false
+pub small_id : (id : ℕ) → id < 562949953421312 → eqb id no_id ≡ false
 small_id id l = ne_eqb id no_id (λ e. omega arith)

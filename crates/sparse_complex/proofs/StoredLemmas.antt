@@ -12,7 +12,7 @@ use Rattle.sparse_complex.specs.declared.links.Links.{Links}
 use Rattle.sparse_complex.specs.declared.slices.Cell.{Cell}
 use Rattle.sparse_complex.specs.Inner.Lists.{no_id, among, node_at, head_at, outs}
 use Rattle.sparse_complex.specs.Inner.Graph.{width, targets, has_arrow, no_cell, code_at}
-use Rattle.sparse_complex.specs.Inner.Stored.{no_key, key_of, is_live, maslov_at, target_codes, entry_of, entries_below, slice_of, IsLiveKey, IsStoredByKey, IsStored}
+use Rattle.sparse_complex.specs.Inner.Stored.{no_key, most_keys, key_of, is_live, maslov_at, target_codes, entry_of, entries_below, slice_of, IsLiveKey, IsStoredByKey, IsStored}
 use Rattle.sparse_complex.proofs.ListLemmas.{same_test}
 use Rattle.sparse_complex.proofs.LinkLemmas.{AreInLists-same}
 use Rattle.sparse_complex.proofs.GraphLemmas.{among-map, among-of_map, has_arrow-targets, has_arrow-from, has_arrow-to}
@@ -279,7 +279,7 @@ pub stored-reserved : (keys : List ℕ) (cells : List Cell) (old new : Links) (c
 stored-reserved keys cells old new cursor nodes heads k = record {
   by_key = record {
     listed = AreInLists-same _ _ _ _ nodes heads k.by_key.listed;
-    small = subst (λ hs. length hs ≤ no_key) (sym heads) k.by_key.small;
+    small = subst (λ hs. length hs ≤ most_keys) (sym heads) k.by_key.small;
     whole = k.by_key.whole ∙ ap length (sym heads);
     keyed = λ c l. subst (λ hs. (key_of keys c < length hs) × (code_at cells (key_of keys c) ≡ c)) (sym heads)
         (k.by_key.keyed c l);

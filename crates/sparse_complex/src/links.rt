@@ -1,5 +1,5 @@
 //! Arrows between keys, each a node of a pool that stands in two lists.
-ghost use Rattle.std.specs.Prelude.{◌≡◌, ◌≢◌, ℕ, ◌+◌, ◌*◌, ◌^◌, ◌<◌, ◌≤◌, true, false, not, ◌&&◌, eqb, length, map, ◌++◌, OnOk, IfOk, IfSome, IsNone, OnErr};
+ghost use Rattle.std.specs.Prelude.{◌≡◌, ◌≢◌, ℕ, ◌+◌, ◌*◌, ◌^◌, ◌<◌, ◌≤◌, true, false, not, ◌&&◌, eqb, length, map, ◌++◌, IsOk, OnOk, IfOk, IfSome, IsNone, OnErr};
 ghost use Rattle.std.specs.FinMap as fin;
 ghost use Rattle.sparse_complex.specs.Inner.Lists.{no_id, among, is_node, node_at, head_at, with_next_out, with_prev_out, with_next_in, with_prev_in, with_first_out, with_first_in};
 ghost use Rattle.sparse_complex.specs.Inner.Graph.{IsArrow, code_at, AreListed, width, outs_of, ins_of, targets, sources, has_arrow, others, IsPrefix, IsLinked, IsUnlinked, IsToggled, IsToggledFrom, IsFilled, IsCleared};
@@ -8,9 +8,6 @@ use crate::slices::Cell;
 use grid_ports::NoMemory;
 use node_pool::{NO_NODE, Node, Pool};
 use std::alloc::Global;
-
-// There are always fewer arrows than this.
-const MOST_NODES: u64 = 1 << 40;
 
 /// Where the lists of a key begin.
 #[derive(Clone, Copy)]
@@ -44,15 +41,16 @@ impl Links {
 
     // Makes room for more arrows.
     pub(crate) fn reserve(&mut self, room: u64) -> Result<(), NoMemory>
+        requires few { fin.len self.old.pool.nodes + room < 2 ^ 48 }
         ensures room { OnOk result (room ≤ self.new.pool.spare) }
+        ensures refused { OnErr result (self.new.pool.spare ≡ self.old.pool.spare) }
+        ensures enough { room ≤ self.old.pool.granted → IsOk result }
+        ensures few { self.old.pool.granted < self.new.pool.granted → self.new.pool.granted < room + 4096 }
+        ensures kept { self.old.pool.granted ≤ self.new.pool.granted }
         ensures nodes { self.new.pool.nodes ≡ self.old.pool.nodes }
         ensures heads { self.new.heads.items ≡ self.old.heads.items }
     {
-        if room >= MOST_NODES - self.pool.live().min(MOST_NODES) {
-            return Err(NoMemory);
-        }
-        self.pool.reserve(room)?;
-        Ok(())
+        self.pool.reserve(room)
     }
 
     // Puts an arrow in, at the head of both lists.
@@ -190,34 +188,36 @@ impl Links {
         }
     }
 
-    // The number of arrows out of a key.
-    pub(crate) fn count_out(&self, key: u32) -> u64
+    // The number of arrows out of a key, but for that to `target`.
+    pub(crate) fn count_out(&self, key: u32, target: u32) -> u64
         requires listed { AreListed self.now }
         requires key { key < width self.now }
-        ensures { result ≡ length (targets self.now key) }
+        ensures { result ≡ length (others target (targets self.now key)) }
     {
         let _most = self.pool.live();
         let mut count = 0;
         let mut at = self.heads[key as usize].first_out;
         while at != NO_NODE {
-            count += 1;
-            at = self.pool.get(at).next_out;
+            let node = self.pool.get(at);
+            count += u64::from(node.to != target);
+            at = node.next_out;
         }
         count
     }
 
-    // The number of arrows into a key.
-    pub(crate) fn count_in(&self, key: u32) -> u64
+    // The number of arrows into a key, but for that from `source`.
+    pub(crate) fn count_in(&self, key: u32, source: u32) -> u64
         requires listed { AreListed self.now }
         requires key { key < width self.now }
-        ensures { result ≡ length (sources self.now key) }
+        ensures { result ≡ length (others source (sources self.now key)) }
     {
         let _most = self.pool.live();
         let mut count = 0;
         let mut at = self.heads[key as usize].first_in;
         while at != NO_NODE {
-            count += 1;
-            at = self.pool.get(at).next_in;
+            let node = self.pool.get(at);
+            count += u64::from(node.from != source);
+            at = node.next_in;
         }
         count
     }

@@ -1,5 +1,5 @@
 //! Slices, their queries, and the cancelling of an arrow.
-ghost use Rattle.std.specs.Prelude.{◌≡◌, ◌≢◌, ◌≤◌, ◌<◌, ◌+◌, ◌*◌, ℕ, ℤ, true, false, not, eqb, length, get_or, is_some, IfSome, IsNone, IfOk, OnOk, OnErr};
+ghost use Rattle.std.specs.Prelude.{◌≡◌, ◌≢◌, ◌≤◌, ◌<◌, ◌+◌, ◌*◌, ℕ, ℤ, true, false, not, eqb, length, get_or, is_some, IfSome, IsNone, IsOk, IfOk, OnOk, OnErr};
 ghost use Rattle.f2_algebra.specs.Complex.{Complex, arrow, IsComplex};
 ghost use Rattle.f2_algebra.specs.Cancel.{Entry, IsEntry, cancelled};
 ghost use Rattle.f2_algebra.specs.Slice.{slice_complex, IsSlice};
@@ -57,6 +57,7 @@ impl Model for AlexSlice {
     ghost view = { λ s. record {
       slice = slice_of s.keys.items s.cells.items s.links;
       spare = s.links.pool.spare;
+      granted = s.links.pool.granted;
     } };
 
     ghost invariant = { λ s. IsStored s.keys.items s.cells.items s.links s.cursor };
@@ -190,6 +191,11 @@ impl AlexSlice {
     pub fn reserve_for(&mut self, x: u32, y: u32) -> Result<(), NoMemory>
         ensures room { OnOk result (fill self.old.slice x y ≤ self.new.spare) }
         ensures same { self.new.slice ≡ self.old.slice }
+        ensures refused { OnErr result (self.new.spare ≡ self.old.spare) }
+
+        // What was granted before is enough, or there is room for less than 4,096 arrows more than these then.
+        ensures enough { fill self.old.slice x y ≤ self.old.granted → IsOk result }
+        ensures few { self.old.granted < self.new.granted → self.new.granted < fill self.old.slice x y + 4096 }
     {
         let from = find_key(&self.keys, x);
         if from == NO_KEY {
@@ -199,12 +205,9 @@ impl AlexSlice {
         if to == NO_KEY {
             return Ok(());
         }
-        let sources = self.links.count_in(to);
-        let targets = self.links.count_out(from);
-        let Some(room) = sources.checked_mul(targets) else {
-            return Err(NoMemory);
-        };
-        self.links.reserve(room)
+        let sources = self.links.count_in(to, from);
+        let targets = self.links.count_out(from, to);
+        self.links.reserve(sources * targets)
     }
 
     /// Cancels the arrow from `x` to `y`: both leave with their arrows, and from each other source of `y`

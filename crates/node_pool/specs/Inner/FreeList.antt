@@ -31,7 +31,11 @@ live_map nodes gone (suc k) =
 
 abbrev pub pool : List Node → ℕ → ℕ → ℕ → ℕ → PoolValue
 pool nodes head free fresh limit =
-    record { nodes = live_map nodes (free_ids nodes free head) fresh; spare = free + (limit - fresh) }
+    record {
+      nodes = live_map nodes (free_ids nodes free head) fresh;
+      spare = free + (limit - fresh);
+      granted = free + (length nodes - fresh);
+    }
 
 abbrev pub AreApart : List ℕ → ℕ → Type 0
 AreApart [] n = Unit {0}
@@ -41,5 +45,5 @@ pub record IsPool (nodes : List Node) (head free fresh limit : ℕ) : Type 0 whe
   pub apart : AreApart (free_ids nodes free head) fresh
   pub begun : fresh ≤ limit
   pub room : limit ≤ length nodes
-  pub small : length nodes ≤ 2 ^ 40 + 4096
+  pub small : length nodes ≤ 2 ^ 48 + 4096
   pub count : free + len (live_map nodes (free_ids nodes free head) fresh) ≡ fresh

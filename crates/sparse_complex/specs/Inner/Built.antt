@@ -10,7 +10,7 @@ use Rattle.f2_algebra.specs.Complex.{Complex, arrow}
 use Rattle.sparse_complex.specs.declared.links.Links.{Links}
 use Rattle.sparse_complex.specs.declared.slices.Cell.{Cell}
 use Rattle.sparse_complex.specs.Inner.Graph.{AreListed, width, has_arrow, code_at}
-use Rattle.sparse_complex.specs.Inner.Stored.{no_key, key_of, is_live}
+use Rattle.sparse_complex.specs.Inner.Stored.{most_keys, key_of, is_live}
 
 -- how many cells have the code
 abbrev pub count_of : ℕ → List Cell → ℕ
@@ -22,7 +22,7 @@ pub record AreCells (D : Complex ℤ) (n : ℕ) (cells : List Cell) : Type 0 whe
   pub counts : (c : ℕ) → count_of c cells ≡ cond (nat_lt c n && is_some (D.degree c)) 1 0
 
 pub record AreKeys (keys : List ℕ) (cells : List Cell) : Type 0 where
-  pub small : length cells ≤ no_key
+  pub small : length cells ≤ most_keys
   pub placed : (k : ℕ) → k < length cells → key_of keys (code_at cells k) ≡ k
   pub live : (c : ℕ) → is_live keys c ≡ true → (key_of keys c < length cells) × (code_at cells (key_of keys c) ≡ c)
 

@@ -1,5 +1,6 @@
 -- How a slice is stored: a key for each code that is live, a cell for each key, and arrows between keys.
 --     no_key                            what stands for the key of a code that is not live
+--     most_keys                         2^22: there are no more states of the greatest size than this
 --     key_of keys c                     the key of a code, or `no_key`
 --     is_live keys c                    the code has a key
 --     maslov_at cells k                 the Maslov degree of the key k
@@ -25,6 +26,9 @@ use Rattle.sparse_complex.specs.Inner.Graph.{AreListed, width, targets, has_arro
 
 abbrev pub no_key : ℕ
 no_key = 4294967295
+
+abbrev pub most_keys : ℕ
+most_keys = 4194304
 
 unfoldable pub key_of : List ℕ → ℕ → ℕ
 key_of keys c = get_or keys c no_key
@@ -63,7 +67,7 @@ pub record ListsLive (keys : List ℕ) (cells : List Cell) (k : ℕ) (live : Lis
 -- all but the rules
 pub record IsStoredByKey (keys : List ℕ) (cells : List Cell) (links : Links) : Type 0 where
   pub listed : AreListed links
-  pub small : width links ≤ no_key
+  pub small : width links ≤ most_keys
   pub whole : length cells ≡ width links
   pub keyed : (c : ℕ) → is_live keys c ≡ true → (key_of keys c < width links) × (code_at cells (key_of keys c) ≡ c)
   pub ends : (p q : ℕ) → has_arrow links p q ≡ true → IsLiveKey keys cells p × IsLiveKey keys cells q

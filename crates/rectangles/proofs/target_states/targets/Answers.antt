@@ -89,6 +89,14 @@ module _ (g : Marks) (s : IsGrid g) (x : List ℕ) (sx : IsState x) (same : leng
   unfolding lowered raised
   listed items is = ap (map rank) is ∙ border
 
+  few_listed : (items : List (List ℕ))
+      → items ≡ flat_map (exchanges_below x columns odds) (ascending (length x))
+      ++ flat_map (exchanges_above x columns odds) (reverse (ascending (length x)))
+      → length items ≤ 45
+  unfolding lowered raised
+  few_listed items is =
+      let h = few in let e = ap length is ∙ length-append lowered raised in omega arith
+
   degrees_listed : (items : List (List ℕ))
       → items ≡ flat_map (exchanges_below x columns odds) (ascending (length x))
       ++ flat_map (exchanges_above x columns odds) (reverse (ascending (length x)))
@@ -120,6 +128,21 @@ push_above-requires-clause-room c =
 pub returns-clause-border : goal.returns-clause-border
 returns-clause-border c =
     listed c.args.g.now c.open_rectangles-opens.ensures.grid c.args.x.now c.odd_pairs-odds.ensures.state c.requires.size
+    c.open_rectangles-opens.result c.odd_pairs-odds.result c.transpose-columns.result c.transpose-columns.ensures.state
+    c.open_rectangles-opens.ensures.rectangles c.odd_pairs-odds.ensures.odd
+    c.push_above.new.states.items
+    (c.push_above.ensures.items
+    ∙ ap (λ ys. ys
+    ++ flat_map (exchanges_above c.args.x.now c.transpose-columns.result c.odd_pairs-odds.result)
+    (reverse (ascending (length c.args.x.now))))
+    (c.push_below.ensures.items
+    ∙ ap (λ ys. ys
+    ++ flat_map (exchanges_below c.args.x.now c.transpose-columns.result c.odd_pairs-odds.result)
+    (ascending (length c.args.x.now))) c.new-states.ensures.items))
+
+pub returns-clause-few : goal.returns-clause-few
+returns-clause-few c =
+    few_listed c.args.g.now c.open_rectangles-opens.ensures.grid c.args.x.now c.odd_pairs-odds.ensures.state c.requires.size
     c.open_rectangles-opens.result c.odd_pairs-odds.result c.transpose-columns.result c.transpose-columns.ensures.state
     c.open_rectangles-opens.ensures.rectangles c.odd_pairs-odds.ensures.odd
     c.push_above.new.states.items

@@ -1,5 +1,5 @@
 -- Each step puts one arrow in.
-use Rattle.std.proofs.Common.{◌≡◌, ◌+◌, ◌<◌, ◌++◌, [], ◌∷◌, length, map, take, get_or, w32, true, sym, ap, subst, ◌∙◌, arith, rules}
+use Rattle.std.proofs.Common.{◌≡◌, ◌+◌, ◌<◌, ◌≤◌, ◌++◌, [], ◌∷◌, length, map, take, get_or, w32, true, sym, ap, subst, ◌∙◌, arith, rules}
 use mir.Val.{SFits}
 use Rattle.std.proofs.Math.IntN.{ℤ}
 use Rattle.std.proofs.lemmas.Int.{to_z-of_z}
@@ -12,11 +12,19 @@ use Rattle.f2_algebra.specs.Chain.{codes}
 use Rattle.torus_geom.specs.Inner.GridComplex.{grid_complex}
 use Rattle.sparse_complex.specs.Inner.Lists.{among}
 use Rattle.sparse_complex.specs.Inner.Graph.{code_at, width, has_arrow, IsLinked}
-use Rattle.sparse_complex.specs.Inner.Stored.{is_live}
+use Rattle.sparse_complex.specs.Inner.Stored.{is_live, most_keys}
+use Rattle.sparse_complex.proofs.CountLemmas.{nodes_fit}
 use Rattle.sparse_complex.proofs.StoredLemmas.{key_read_zero}
 use Rattle.sparse_complex.proofs.CancelLemmas.{live-below}
 use Rattle.sparse_complex.proofs.BuildLemmas.{ArrowsPlace, arrows-start, arrows-step, arrows-end, source-in, target-in, not-yet, all-targets, target-live, target-fresh, read-more}
 use Rattle.sparse_complex.proofs.builds.push_arrows.Goals as goal
+
+pub reserve-requires : goal.reserve-requires
+reserve-requires c =
+    let small : width c.args.links.now ≤ most_keys =
+    subst (λ w. w ≤ most_keys) (sym c.requires.below.whole) c.requires.keys.small in
+    let nodes = nodes_fit c.args.links.now c.requires.below.listed small in
+    omega (arith, nodes, c.len.ensures.value, c.targets-states.ensures.few)
 
 pub loop-y-init : goal.loop-y-init
 unfolding code_at

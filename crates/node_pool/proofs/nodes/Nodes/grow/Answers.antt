@@ -8,9 +8,9 @@ pub invariant_of-self-2 : goal.invariant_of-self-2
 invariant_of-self-2 c =
     let cs = c.self.inside.chunks.items in let whole = c.self.invariant.0 in let chunk = c.in_ok-chunk.chunk in
     let now : c.push.new.self.items ≡ cs ++ chunk ∷ [] = c.in_ok-push.ensures.items in
-    let few : length cs * 4096 < 2 ^ 41 =
-    subst (λ n. n < 2 ^ 41) (sym (ap (λ ns. length ns) c.self.view_is) ∙ length-joined cs whole) c.requires in
-    subst (λ xs. AreWhole xs × (length xs ≤ 2 ^ 30)) (sym now)
+    let few : length cs * 4096 < 2 ^ 49 =
+    subst (λ n. n < 2 ^ 49) (sym (ap (λ ns. length ns) c.self.view_is) ∙ length-joined cs whole) c.requires in
+    subst (λ xs. AreWhole xs × (length xs ≤ 2 ^ 37)) (sym now)
     (AreWhole-push cs chunk whole c.in_ok-chunk.ensures, omega (arith, length-append cs (chunk ∷ []), few))
 
 pub returns-clause-kept : goal.returns-clause-kept

@@ -26,7 +26,7 @@ invariant_of-self c =
     ∙ length-set chunk (id % 4096) c.args.node ∙ ap (λ x. length x) c.index_mut-chunk.ensures.value
     ∙ length-get_or_whole cs (id / 4096) chunk whole there.0 in (
       AreWhole-set cs (id / 4096) c.write.new.self whole size,
-      subst (λ n. n ≤ 2 ^ 30) (sym (length-set cs (id / 4096) c.write.new.self)) c.self.invariant.1,
+      subst (λ n. n ≤ 2 ^ 37) (sym (length-set cs (id / 4096) c.write.new.self)) c.self.invariant.1,
     )
 
 pub returns : goal.returns

@@ -10,7 +10,7 @@ invariant_of-result c =
       apart = tt;
       begun = omega arith;
       room = omega arith;
-      small = subst (λ ns. length ns ≤ 2 ^ 40 + 4096) (sym c.new.ensures) (omega arith);
+      small = subst (λ ns. length ns ≤ 2 ^ 48 + 4096) (sym c.new.ensures) (omega arith);
       count = ap (λ n. 0 + n) (len-empty nat_cmp Node);
     }
 
