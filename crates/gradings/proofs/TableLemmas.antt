@@ -119,11 +119,11 @@ count_below_up_to n test =
 pub pairs_up_to : (n : ℕ) (P Q : ℕ → ℕ) → IsUpTo (n * n) (pairs n P Q)
 pairs_up_to n P Q = sum_below_up_to n n (λ c. lower_left n P c (Q c)) (λ c l. count_below_up_to n _)
 
-square_of_size : (n : ℕ) → n ≤ MAX_SIZE → n * n ≤ 81
+square_of_size : (n : ℕ) → n ≤ MAX_SIZE → n * n ≤ 100
 square_of_size n h = grind arith
 
 -- pairs of a size that is handled
-pub pairs_small : (n : ℕ) (P Q : ℕ → ℕ) → n ≤ MAX_SIZE → IsUpTo 81 (pairs n P Q)
+pub pairs_small : (n : ℕ) (P Q : ℕ → ℕ) → n ≤ MAX_SIZE → IsUpTo 100 (pairs n P Q)
 pairs_small n P Q h =
     let most = pairs_up_to n P Q in
     let square = square_of_size n h in

@@ -9,6 +9,7 @@
 --     IsMake ws size seed   the words are `make` and its two options, in either order
 use Rattle.std.specs.Prelude.{◌≡◌, ◌⊎◌, ℕ, ◌+◌, ◌<◌, ◌≤◌, List, [], ◌++◌, length, slice_index_or, codes}
 use Rattle.std.specs.Fmt.{decimal}
+use Rattle.state_rank.specs.Bijection.{greatest_size}
 use Rattle.grid_job.specs.declared.words.Flag.{Flag}
 use Rattle.grid_job.specs.declared.words.Flag.TheVariants.{Size, Seed}
 
@@ -24,7 +25,7 @@ least Size = 2
 least Seed = 0
 
 abbrev pub greatest : Flag → ℕ
-greatest Size = 9
+greatest Size = greatest_size
 greatest Seed = 2147483647
 
 pub record IsOneWord (ws : List (List ℕ)) (k : ℕ) (flag : Flag) (v next : ℕ) : Type 0 where

@@ -10,7 +10,7 @@ use std::alloc::Global;
 use torus_geom::{Grid, one_down};
 
 /// The numbers below the greatest size.
-const ASCENDING: [u8; ROOM] = [0, 1, 2, 3, 4, 5, 6, 7, 8];
+const ASCENDING: [u8; ROOM] = [0, 1, 2, 3, 4, 5, 6, 7, 8, 9];
 
 /// The script that the seed gives: a grid of this size, drawn by a linear congruential generator, and the
 /// commands `front`, `hat`, `class +` and `class -`.

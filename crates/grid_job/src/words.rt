@@ -4,6 +4,7 @@ ghost use Rattle.std.specs.Fmt.{decimal};
 ghost use Rattle.grid_job.specs.Words.{word_at as word_at_of, flag_word as flag_word_of, least as least_of, greatest as greatest_of, IsOptionAt, AreOptions, IsMake};
 
 use grid_text::numeral;
+use state_rank::MAX_SIZE;
 
 /// An option of `make`.
 #[derive(Clone, Copy, PartialEq, Eq, Debug)]
@@ -133,7 +134,7 @@ fn greatest(flag: Flag) -> u32
     ensures { result ≡ greatest_of flag }
 {
     match flag {
-        Flag::Size => 9,
+        Flag::Size => u32::from(MAX_SIZE),
         Flag::Seed => 2_147_483_647,
     }
 }

@@ -185,6 +185,22 @@ $ run
 * cocycle 456780123
 ";
 
+/// The greatest size: a front, a class that is alive, and a state that no rectangle leaves.
+pub(crate) const CLASS_OF_TEN: &str = "
+$ run
+< grid 10
+< O 0 1 2 3 4 5 6 7 8 9
+< X 3 4 5 6 7 8 9 0 1 2
+< front
+< class +
+< border 0123456789
+< end
+> front tb 11 rot 0 components 1
+> class + 3456789012 at 12 6 alive
+* cocycle 3456789012
+> border
+";
+
 /// A drawn grid, with its summary.
 pub(crate) const MADE_OF_NINE: &str = "
 $ make --size 9 --seed 2

@@ -37,7 +37,7 @@ $ run
 > refused SameSquare line 3
 
 $ run
-< grid 10
+< grid 11
 = 2
 > refused BadNumber line 1
 

@@ -174,7 +174,7 @@ $ make --size 1 --seed 1
 < end
 = 1
 
-$ make --size 10 --seed 1
+$ make --size 11 --seed 1
 < grid 2
 < O 1 0
 < X 0 1

@@ -53,6 +53,7 @@ use Rattle.std.specs.declared.option.Option.TheVariants.{None, Some}
 use Rattle.std.specs.List.{list_any, zip}
 use Rattle.std.specs.Option.{option_map_or}
 use Rattle.std.specs.Fmt.{decimal}
+use Rattle.state_rank.specs.Bijection.{greatest_size}
 use Rattle.torus_geom.specs.Marks.{Marks, size}
 use Rattle.grid_moves.specs.Moves.{are_commuting}
 use Rattle.grid_moves.specs.declared.turns.Side.TheVariants.{Left}
@@ -116,7 +117,7 @@ abbrev pub body_forms : ℕ → List (Word × Form)
 body_forms n = map (λ c. ((command_row c).0, form_of n c)) examples ++ (end_word, exactly []) ∷ []
 
 abbrev pub size_form : Form
-size_form = exactly (number_between 2 9 ∷ [])
+size_form = exactly (number_between 2 greatest_size ∷ [])
 
 abbrev pub row_form : ℕ → Form
 row_form n = exactly (replicate n (number_between 0 (n - 1)))

@@ -58,7 +58,7 @@ fn arguments_len(command: &Command) -> u128
 // The number of bytes of the words of states, each after a space.
 fn states_len(states: &[State]) -> u128
     ensures exact { result ≡ length (after_space (map state_word states.now)) }
-    ensures few { result ≤ 10 * length states.now }
+    ensures few { result ≤ 11 * length states.now }
 {
     let mut count = 0;
     for x in states {

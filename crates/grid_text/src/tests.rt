@@ -12,7 +12,7 @@ const REFUSALS: [(&str, &str, TextFault, u32); 38] = [
     (A, "", TextFault::NoEnd, 4),
     (A, "end\nfront\n", TextFault::AfterEnd, 5),
     (B, "cols 1 over\nend\n", TextFault::NotCommuting, 4),
-    ("grid 10\n", "", TextFault::BadNumber, 1),
+    ("grid 11\n", "", TextFault::BadNumber, 1),
     ("grid 2\nO 1 1\n", "", TextFault::NotPermutation, 2),
     (
         "grid 2\nO 0 1\nX 0 1\n",
@@ -51,7 +51,7 @@ const REFUSALS: [(&str, &str, TextFault, u32); 38] = [
         5,
     ),
     ("picture 2\n", "OX\nXO\nOX\n", TextFault::BadWord, 4),
-    ("picture 10\n", "", TextFault::BadNumber, 1),
+    ("picture 11\n", "", TextFault::BadNumber, 1),
     ("picture\n", "", TextFault::BadCount, 1),
     ("grid 2\n", "OX\n", TextFault::BadWord, 2),
     // one carriage return is dropped, and only at the end of a line

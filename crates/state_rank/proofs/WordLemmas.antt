@@ -40,7 +40,7 @@ state_word-more word rows k r within room digit e =
     ∙ sym (map-append (λ (q : ℕ). 48 + q) (take k rows) (r ∷ [])) ∙ ap state_word (sym (take_more_set rows k r room))
 
 -- bytes of too great a number are the word of no state
-pub state_word-too_long : (word x : List ℕ) → 9 < length word → IsState x → word ≢ state_word x
+pub state_word-too_long : (word x : List ℕ) → 10 < length word → IsState x → word ≢ state_word x
 state_word-too_long word x long is e =
     let size = is.size.greatest in absurd (omega (arith, ap length e ∙ length-state_word x))
 

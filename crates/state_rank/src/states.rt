@@ -3,7 +3,7 @@
 ghost use Rattle.std.specs.Prelude.{◌≡◌, ◌≢◌, ◌↔◌, ℕ, ◌+◌, ◌<◌, ◌≤◌, List, [], ◌∷◌, length, slice_index, swap, take, IsTrue, IsNone, IfSome, OnSome, nat_eq, not};
 ghost use Rattle.std.specs.Cmp.{partial_equiv_from_equiv};
 ghost use Rattle.std.specs.Cmp.Lexicographic.{pointwise, nat_list_eq_equiv};
-ghost use Rattle.state_rank.specs.Bijection.{IsSize, IsBijection};
+ghost use Rattle.state_rank.specs.Bijection.{IsSize, IsBijection, greatest_size};
 ghost use Rattle.state_rank.specs.Counted.{HasExactly};
 ghost use Rattle.std.specs.List.{Contains, AllPairs};
 ghost use Rattle.state_rank.specs.States.{IsState, is_before, states, rank, unrank, factorial, transpose};
@@ -48,6 +48,9 @@ impl State {
         ensures rows { IfSome result (λ x. x ≡ rows.now) }
         ensures state { OnSome result (IsState rows.now) }
         ensures none { IsNone result → IsState rows.now → ⊥ }
+
+        // No size is above `MAX_SIZE`, and this is one.
+        ensures limit { MAX_SIZE ≡ greatest_size }
     {
         if rows.len() < 2 || rows.len() > ROOM || !is_bijection(rows) {
             return None;

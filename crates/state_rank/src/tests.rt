@@ -1,4 +1,4 @@
-use crate::{State, state_count};
+use crate::State;
 use std::test::Fail;
 
 #[test]
@@ -10,7 +10,7 @@ fn ranks(rt: HostRuntime) {
         (&[1, 2, 0], 3),
         (&[1, 2, 0, 3], 8),
         (&[2, 3, 4, 0, 1], 64),
-        (&[8, 7, 6, 5, 4, 3, 2, 1, 0], 362_879),
+        (&[9, 8, 7, 6, 5, 4, 3, 2, 1, 0], 3_628_799),
     ];
     for (rows, rank) in cases {
         let state = State::of(rows).unwrap_or_default();
@@ -27,7 +27,13 @@ fn ranks(rt: HostRuntime) {
 #[test]
 fn refusals(rt: HostRuntime) {
     // too short, too long, a row twice, a row too high
-    let cases: [&[u8]; 5] = [&[], &[0], &[0, 1, 2, 3, 4, 5, 6, 7, 8, 9], &[0, 0], &[0, 2]];
+    let cases: [&[u8]; 5] = [
+        &[],
+        &[0],
+        &[0, 1, 2, 3, 4, 5, 6, 7, 8, 9, 10],
+        &[0, 0],
+        &[0, 2],
+    ];
     for rows in cases {
         assert!(rt; State::of(rows).is_none(), "at {rows:?}");
     }
@@ -46,22 +52,6 @@ fn circles_change_places(rt: HostRuntime) {
 }
 
 #[test]
-fn all_states_in_order(rt: HostRuntime) {
-    // 120 states that rise, so each state of size 5 once
-    let mut state = State::of(&[0, 1, 2, 3, 4]).unwrap_or_default();
-    let count = state_count(5);
-    assert_eq!(rt; count, 120);
-    for rank in 0..119 {
-        assert_eq!(rt; state.rank(), rank);
-        let earlier = state;
-        assert!(rt; state.advance());
-        assert!(rt; earlier.rows() < state.rows(), "after {rank}");
-    }
-    assert!(rt; !state.advance());
-    assert_eq!(rt; state.rows(), [4, 3, 2, 1, 0].as_slice());
-}
-
-#[test]
 fn words(rt: HostRuntime) -> Result<(), Fail> {
     let state = State::of(&[1, 2, 0, 3]).unwrap_or_default();
     let mut text = Vec::new(rt.alloc());
@@ -69,7 +59,7 @@ fn words(rt: HostRuntime) -> Result<(), Fail> {
     assert_eq!(rt; text.as_slice(), b"1203".as_slice());
     assert_eq!(rt; State::of_word(&text), Some(state));
     // too short, too long, a row twice, a row too high, no digit
-    let cases: [&str; 6] = ["", "0", "0123456789", "00", "02", "0a"];
+    let cases: [&str; 6] = ["", "0", "01234567890", "00", "02", "0a"];
     for word in cases {
         assert!(rt; State::of_word(word.as_bytes()).is_none(), "at {word}");
     }

@@ -43,8 +43,8 @@ IsState-ascending n size = record {
   bijection = subst (λ m. IsBijection m (ascending n)) (sym (length-ascending n)) (IsBijection-ascending n);
 }
 
--- the first n of the numbers below nine
-pub take-ascending : (n : ℕ) → n ≤ 9 → take n (0 ∷ 1 ∷ 2 ∷ 3 ∷ 4 ∷ 5 ∷ 6 ∷ 7 ∷ 8 ∷ []) ≡ ascending n
+-- the first n of the numbers below ten
+pub take-ascending : (n : ℕ) → n ≤ 10 → take n (0 ∷ 1 ∷ 2 ∷ 3 ∷ 4 ∷ 5 ∷ 6 ∷ 7 ∷ 8 ∷ 9 ∷ []) ≡ ascending n
 take-ascending zero l = refl
 take-ascending (suc zero) l = refl
 take-ascending (suc (suc zero)) l = refl
@@ -55,7 +55,8 @@ take-ascending (suc (suc (suc (suc (suc (suc zero)))))) l = refl
 take-ascending (suc (suc (suc (suc (suc (suc (suc zero))))))) l = refl
 take-ascending (suc (suc (suc (suc (suc (suc (suc (suc zero)))))))) l = refl
 take-ascending (suc (suc (suc (suc (suc (suc (suc (suc (suc zero))))))))) l = refl
-take-ascending (suc (suc (suc (suc (suc (suc (suc (suc (suc (suc n)))))))))) l = absurd (omega (arith, l))
+take-ascending (suc (suc (suc (suc (suc (suc (suc (suc (suc (suc zero)))))))))) l = refl
+take-ascending (suc (suc (suc (suc (suc (suc (suc (suc (suc (suc (suc n))))))))))) l = absurd (omega (arith, l))
 
 -- ---- shuffles, step by step
 pub IsShuffling-start : (n first : ℕ) (state : List ℕ) → state ≡ ascending n → first < 2 ^ 31
@@ -105,8 +106,8 @@ one_down_apart : (n b c : ℕ) → b < n → c < n → b ≢ c → one_down n b 
 one_down_apart n b c lb lc p e = p (sym (one_up-one_down n b lb) ∙ ap (one_up n) e ∙ one_up-one_down n c lc)
 
 -- the first rows of a list that is filled by a function that takes each value once
-IsBijection-filled : (n : ℕ) (f : ℕ → ℕ) (xs : List ℕ) → n ≤ 9 → ((c : ℕ) → c < n → f c < n)
-    → ((b c : ℕ) → b < n → c < n → b ≢ c → f b ≢ f c) → IsFilled 9 f n xs → IsBijection n (take n xs)
+IsBijection-filled : (n : ℕ) (f : ℕ → ℕ) (xs : List ℕ) → n ≤ 10 → ((c : ℕ) → c < n → f c < n)
+    → ((b c : ℕ) → b < n → c < n → b ≢ c → f b ≢ f c) → IsFilled 10 f n xs → IsBijection n (take n xs)
 IsBijection-filled n f xs few small apart filled = record {
   long = length-take-le n xs (let room = filled.room in omega arith);
   small = λ c l. let at = get_or-take n xs c 0 l ∙ filled.filled c l in let below = small c l in omega arith;
@@ -118,8 +119,8 @@ IsBijection-filled n f xs few small apart filled = record {
 module _ (cs rs places o x : List ℕ) (n : ℕ) (size : IsSize n) (in_cs : IsBijection n cs) (in_rs : IsBijection n rs)
     (in_places : IsBijection n places)
     (inverse : (c : ℕ) → c < n → slice_index places (slice_index cs c) ≡ c)
-    (in_o : IsFilled 9 (λ c. slice_index rs (one_down n (slice_index places c))) n o)
-    (in_x : IsFilled 9 (λ c. slice_index rs (slice_index places c)) n x) where
+    (in_o : IsFilled 10 (λ c. slice_index rs (one_down n (slice_index places c))) n o)
+    (in_x : IsFilled 10 (λ c. slice_index rs (slice_index places c)) n x) where
   abbrev pub put : Marks
   put = record { o = take n o; x = take n x }
 
@@ -209,8 +210,8 @@ IsBijection-transpose cs h = IsBijection-inverse (length cs) cs h
 pub put_marks : (cs rs places o x : List ℕ) (n k p q : ℕ) → IsState cs → IsState rs → n ≡ length cs
     → length rs ≡ length cs → places ≡ transpose cs
     → ((c : ℕ) → c < length cs → slice_index places (slice_index cs c) ≡ c)
-    → IsFilled 9 (λ c. slice_index rs (one_down n (slice_index places c))) k o
-    → IsFilled 9 (λ c. slice_index rs (slice_index places c)) k x → k ≡ n → p ≡ n → q ≡ n
+    → IsFilled 10 (λ c. slice_index rs (one_down n (slice_index places c))) k o
+    → IsFilled 10 (λ c. slice_index rs (slice_index places c)) k x → k ≡ n → p ≡ n → q ≡ n
     → IsGrid (record { o = take p o; x = take q x }) × IsGridThrough cs rs (record { o = take p o; x = take q x })
 put_marks cs rs places o x n k p q in_cs in_rs size same turned inverse in_o in_x all is_p is_q =
     let n_size : IsSize n = subst IsSize (sym size) in_cs.size in
@@ -221,8 +222,8 @@ put_marks cs rs places o x n k p q in_cs in_rs size same turned inverse in_o in_
     (subst (λ m. IsBijection m (transpose cs)) (sym size) (IsBijection-transpose cs in_cs.bijection)) in
     let back : (c : ℕ) → c < n → slice_index places (slice_index cs c) ≡ c =
     λ c l. inverse c (omega (arith, l, size)) in
-    let n_o = subst (λ m. IsFilled 9 (λ c. slice_index rs (one_down n (slice_index places c))) m o) all in_o in
-    let n_x = subst (λ m. IsFilled 9 (λ c. slice_index rs (slice_index places c)) m x) all in_x in
+    let n_o = subst (λ m. IsFilled 10 (λ c. slice_index rs (one_down n (slice_index places c))) m o) all in_o in
+    let n_x = subst (λ m. IsFilled 10 (λ c. slice_index rs (slice_index places c)) m x) all in_x in
     let before : Marks = record { o = take n o; x = take n x } in
     let after : Marks = record { o = take p o; x = take q x } in
     let whole : before ≡ after = λ i. record { o = take (sym is_p i) o; x = take (sym is_q i) x } in (
@@ -264,9 +265,9 @@ IsBijection-shuffled : (n s : ℕ) → IsSize n → IsBijection n (shuffled n s)
 IsBijection-shuffled n s size = let least = size.least in
     IsBijection-exchanged n (n - 1) s (ascending n) (omega (arith, least)) (IsBijection-ascending n)
 
-IsFilled-tabulate : (f : ℕ → ℕ) (n : ℕ) → n ≤ 9 → IsFilled 9 f n (tabulate 9 f)
+IsFilled-tabulate : (f : ℕ → ℕ) (n : ℕ) → n ≤ 10 → IsFilled 10 f n (tabulate 10 f)
 IsFilled-tabulate f n few =
-    record { room = length-tabulate 9 f; filled = λ k l. get_or-tabulate 9 f k 0 (omega (arith, few, l)) }
+    record { room = length-tabulate 10 f; filled = λ k l. get_or-tabulate 10 f k 0 (omega (arith, few, l)) }
 
 pub exists_script : (n seed : ℕ) → IsSize n → (s : GridScript) × IsMadeScript n seed s × IsGrid s.grid
 exists_script n seed size =
@@ -281,12 +282,12 @@ exists_script n seed size =
     let fx : ℕ → ℕ = λ c. slice_index rs (slice_index places c) in
     let in_o = IsFilled-tabulate fo n size.greatest in
     let in_x = IsFilled-tabulate fx n size.greatest in
-    let grid : Marks = record { o = take n (tabulate 9 fo); x = take n (tabulate 9 fx) } in (
+    let grid : Marks = record { o = take n (tabulate 10 fo); x = take n (tabulate 10 fx) } in (
       record { grid = grid; commands = made_commands },
       record {
         grid =
-            IsGridThrough-put cs rs places (tabulate 9 fo) (tabulate 9 fx) n size in_cs in_rs in_places back in_o in_x;
+            IsGridThrough-put cs rs places (tabulate 10 fo) (tabulate 10 fx) n size in_cs in_rs in_places back in_o in_x;
         commands = refl;
       },
-      IsGrid-put cs rs places (tabulate 9 fo) (tabulate 9 fx) n size in_cs in_rs in_places back in_o in_x,
+      IsGrid-put cs rs places (tabulate 10 fo) (tabulate 10 fx) n size in_cs in_rs in_places back in_o in_x,
     )

@@ -37,7 +37,7 @@ module _ (word : Word) (known : form_at head word ≡ Some size_form) where
       fault_in_table-count head size_form (word ∷ arguments) arguments refl known refl (count-other 1 arguments other)
 
   -- a word that is no size
-  pub head-number : (arguments : List Word) (w : Word) → arguments ≡ w ∷ [] → numeral 2 9 w ≡ None
+  pub head-number : (arguments : List Word) (w : Word) → arguments ≡ w ∷ [] → numeral 2 10 w ≡ None
       → fault_in_table head (word ∷ arguments) ≡ Some fault.BadNumber
   head-number arguments w one bad =
       ap (λ a. fault_in_table head (word ∷ a)) one
@@ -50,7 +50,7 @@ module _ (word : Word) (known : form_at head word ≡ Some size_form) where
       fault_in_table-last head size_form (word ∷ decimal n ∷ []) (decimal n ∷ []) refl known refl (record {
         count = refl;
         choice = refl;
-        number = ap (λ b. b || false) (number-good 2 9 n small.least small.greatest (omega arith));
+        number = ap (λ b. b || false) (number-good 2 10 n small.least small.greatest (omega arith));
         permutation = refl;
         square = refl;
         state = refl;
@@ -65,7 +65,7 @@ module _ (word : Word) (known : form_at head word ≡ Some size_form) where
       let rows = NoRowHolds-from_none head size_form (word ∷ arguments) arguments refl known refl e in
       let one = one_word arguments (count-exact 1 arguments rows.0.count) in
       let good = subst (λ a. has_bad fault.BadNumber size_form a ≡ false) one.1 rows.0.number in
-      let n = number_of_word 2 9 one.0 (sym (or-false (is_bad (number_between 2 9) one.0)) ∙ good) in
+      let n = number_of_word 2 10 one.0 (sym (or-false (is_bad (number_between 2 10) one.0)) ∙ good) in
       (n.0, (record { least = n.1.1; greatest = n.1.2 }, one.1 ∙ ap (λ v. v ∷ []) n.1.0))
 
 -- what is known of a first line without a fault
@@ -89,5 +89,5 @@ head-cases (w ∷ arguments) e = elim (cases_Bool (is_word grid_word w)) [
 ]
 
 -- what the reader has read of the size
-pub size-numeral : (m : ℕ) (w : Word) (r o : Option ℕ) → m ≡ 9 → r ≡ numeral 2 m w → r ≡ o → numeral 2 9 w ≡ o
+pub size-numeral : (m : ℕ) (w : Word) (r o : Option ℕ) → m ≡ 10 → r ≡ numeral 2 m w → r ≡ o → numeral 2 10 w ≡ o
 size-numeral m w r o same value is = ap (λ k. numeral 2 k w) (sym same) ∙ sym value ∙ is

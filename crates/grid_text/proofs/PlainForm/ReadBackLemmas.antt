@@ -1,13 +1,13 @@
 -- The plain form is read back. Words that are written have no byte that ends a line or a word (`IsPlainWord`), so that
 -- the lines and words of the text are those that were written (`lines-plain`); and each line is allowed where it
 -- stands, from the head over the commands to `end` (`commands-path`).
-use Rattle.std.proofs.Common.{◌≡◌, ℕ, ◌+◌, ◌<◌, ◌≤◌, true, cond, false, List, [], ◌∷◌, ◌++◌, length, map, codes, refl, ap, subst, ◌∙◌, sym, arith, inl, inr, append_assoc, length-append}
+use Rattle.std.proofs.Common.{◌≡◌, ℕ, ◌+◌, ◌/◌, ◌%◌, ◌<◌, ◌≤◌, true, cond, false, List, [], ◌∷◌, ◌++◌, length, map, codes, refl, ap, subst, ◌∙◌, sym, arith, inl, inr, append_assoc, length-append}
 use Rattle.std.specs.Prelude.{nat_le, ◌==◌, ◌||◌}
 use Rattle.std.specs.List.{filter, flat_map}
 use Rattle.std.proofs.lemmas.List.Sorted.{IsPermutation-refl}
 use Rattle.std.specs.Fmt.{decimal}
-use Rattle.std.proofs.lemmas.Bool.{and_parts, ne_eqb}
-use Rattle.std.proofs.lemmas.Fmt.{decimal_digit}
+use Rattle.std.proofs.lemmas.Bool.{cases_lt, and_parts, ne_eqb}
+use Rattle.std.proofs.lemmas.Fmt.{decimal_digit, decimal_step}
 use Rattle.state_rank.specs.States.{state_word}
 use Rattle.state_rank.proofs.MemberLemmas.{member_head, member_tail}
 use Rattle.std.specs.List.{Contains}
@@ -232,7 +232,17 @@ commands-path g done (c ∷ later) h all few =
           (ended (record { grid = g; commands = cs }))) (append_assoc done (c ∷ []) later) rest,
     )
 
--- the plain form of a script is a document of it
+-- the word of a size
+plain_size : (n : ℕ) → n ≤ 10 → IsPlainWord (decimal n)
+plain_size n small = elim (cases_lt n 10) [
+  | inl low ↦ plain_decimal n low
+  | inr high ↦
+      let digits : decimal n ≡ (48 + n / 10) ∷ (48 + n % 10) ∷ [] =
+      decimal_step n high (omega arith)
+      ∙ ap (λ ds. ds ++ (48 + n % 10) ∷ []) (decimal_digit (n / 10) (omega arith)) in
+      subst IsPlainWord (sym digits) ((omega arith, (omega arith, tt)), omega arith)
+]
+
 pub IsDocument-plain_form : (s : GridScript) → IsScript s → IsDocument (plain_form s) s
 unfolding plain_form
 IsDocument-plain_form s h =
@@ -251,7 +261,7 @@ IsDocument-plain_form s h =
     let plain_x = plain_decimals x (λ r m. let b = below-IsBijection n x h.grid.x r m in omega arith) in
     let lines = ap (λ t. map words_of (lines_of t)) whole
     ∙ lines-plain grid_word (decimal n ∷ []) (l2 ++ (l3 ++ tail)) (closed grid_word refl (omega arith))
-    (plain_decimal n (omega arith), tt)
+    (plain_size n h.grid.is_size.greatest, tt)
     ∙ ap (λ ls. (grid_word ∷ decimal n ∷ []) ∷ ls)
     (lines-plain o_word (map decimal o) (l3 ++ tail) (closed o_word refl (omega arith)) plain_o
     ∙ ap (λ ls. (o_word ∷ map decimal o) ∷ ls)

@@ -137,7 +137,7 @@ free-cells n (c ∷ cells) h =
     )
     (free-cells n cells (λ k d l. h (suc k) d (omega arith)))
 
-free-marks_line : (word rows : List ℕ) (n : ℕ) → IsFree 10 word → IsBijection n rows → n ≤ 9
+free-marks_line : (word rows : List ℕ) (n : ℕ) → IsFree 10 word → IsBijection n rows → n ≤ 10
     → IsFree 10 (marks_line word rows)
 free-marks_line word rows n free is small =
     free-append 10 word _ free (free-rows rows (λ k d l. let within = small_rows n rows is small k d l in

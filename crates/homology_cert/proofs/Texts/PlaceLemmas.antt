@@ -107,7 +107,7 @@ not_after g cell ds line d q es small is before (inr (inr (inr (z, states, l, e,
     differ line 1 3 (kind-degree g line d is) (kind-step g line (size g) z l) (λ h. omega arith)
 
 -- a row of a grid that is handled is a digit
-pub small_rows : (n : ℕ) (o : List ℕ) → IsBijection n o → n ≤ 9 → All (λ r. r < 10) o
+pub small_rows : (n : ℕ) (o : List ℕ) → IsBijection n o → n ≤ 10 → All (λ r. r < 10) o
 small_rows n o is small k d l =
     let within : k < n = omega (arith, is.long) in
     let below = is.small k within in

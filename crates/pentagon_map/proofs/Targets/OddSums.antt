@@ -213,7 +213,7 @@ none_carried columns odd =
     record { near = λ d l. absurd (omega arith); far = λ d l m. bit_at-zero (slice_index columns d) }
 
 module _ (columns : List ℕ) (s : IsBijection (length columns) columns) (odd k bits : ℕ) (lk : k < length columns)
-    (short : length columns ≤ 9) (h : AreCarried columns odd k bits) where
+    (short : length columns ≤ 10) (h : AreCarried columns odd k bits) where
   -- one that is set
   pub carried_yes : (row : ℕ) → row ≡ slice_index columns k → bit_at odd k ≡ 1
       → AreCarried columns odd (k + 1) (bit_or bits (1 * 2 ^ row % 2 ^ 16))

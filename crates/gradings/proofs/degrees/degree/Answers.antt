@@ -10,7 +10,7 @@ found c =
     let by_x = c.maslov-by_x.ensures in
     let size_is = c.size.ensures.size in
     let few = c.size.type_inv in
-    are_degrees _ _ _ _ _ _ _ 243 c.components.result c.size.ensures.grid c.rows-points.ensures.state
+    are_degrees _ _ _ _ _ _ _ 300 c.components.result c.size.ensures.grid c.rows-points.ensures.state
     c.requires.one_size c.o_rows.ensures.rows c.x_rows.ensures.rows c.rows-points.ensures.rows by_o.degree by_x.degree
     (omega arith) (by_o.low, by_o.high) (by_x.low, by_x.high) c.components.ensures.number c.components.type_inv
     (omega arith)

@@ -11,13 +11,13 @@ loop-c-preserved c =
     let few = c.size-n.ensures.state.size.greatest in
     let long = c.size-n.ensures.size in
     let inside = c.loop-c-test.true in
-    let room : c.loop-c.c < 9 = omega (arith, few, long, inside) in
+    let room : c.loop-c.c < 10 = omega (arith, few, long, inside) in
     record {
-      o = IsFilled-more 9 _ c.loop-c.c c.from.result c.row.result c.loop-c.o c.loop-c.invariant.o room c.from.ensures
+      o = IsFilled-more 10 _ c.loop-c.c c.from.result c.row.result c.loop-c.o c.loop-c.invariant.o room c.from.ensures
           (c.row.ensures.row
           ∙ ap (slice_index c.args.rows.now)
           (c.one_down.ensures.value ∙ ap (one_down c.size-n.result) c.row-place.ensures.row));
-      x = IsFilled-more 9 _ c.loop-c.c c.from-in-loop-c.result c.row-in-loop-c.result c.loop-c.x c.loop-c.invariant.x
+      x = IsFilled-more 10 _ c.loop-c.c c.from-in-loop-c.result c.row-in-loop-c.result c.loop-c.x c.loop-c.invariant.x
           room c.from-in-loop-c.ensures
           (c.row-in-loop-c.ensures.row ∙ ap (slice_index c.args.rows.now) c.row-place.ensures.row);
     }

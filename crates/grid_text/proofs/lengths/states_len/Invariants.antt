@@ -6,4 +6,4 @@ use Rattle.grid_text.proofs.lengths.states_len.Given as goal
 
 abbrev pub invariant-loop-x : goal.invariant-loop-x
 invariant-loop-x l =
-    (l.count ≡ length (after_space (map state_word (take l.x-index l.states)))) × (l.count ≤ 10 * l.x-index)
+    (l.count ≡ length (after_space (map state_word (take l.x-index l.states)))) × (l.count ≤ 11 * l.x-index)
