@@ -11,10 +11,10 @@ use Rattle.std.proofs.lemmas.Nat.{mul-le}
 use Rattle.std.proofs.Math.Nat.{mul-le-mul_left, mul-le-mul_right, one-le-mul}
 use Rattle.std.proofs.Math.Pow.{pow_mono}
 use Rattle.hat_division.specs.Table.{comes_before, AreOrdered, IsTable}
-use Rattle.hat_division.specs.Product.{stands_at, part_at, rank_at, binomial, sum_below, product_rank, IsProduct, IsSmall}
+use Rattle.hat_division.specs.Product.{stands_at, part_at, rank_at, binomial, sum_first, product_rank, IsProduct, IsSmall}
 use Rattle.hat_division.specs.Inner.Products.{ArePositive, IsPut, IsPartOfProduct, AreShiftsPut, AreRowsPut}
 use Rattle.hat_division.specs.declared.tables.TableRow.{TableRow}
-use Rattle.hat_division.proofs.SumLemmas.{sum_below-le, term-le, term-found, sum_below-scaled, sum-binomials, binomial-none, binomial-positive}
+use Rattle.hat_division.proofs.SumLemmas.{sum_first-le, term-le, term-found, sum_first-scaled, sum-binomials, binomial-none, binomial-positive}
 use Rattle.hat_division.proofs.RankLemmas.{apart, apart_back, order_of, comes_before-transitive, degrees_of, together_back, stands_itself, rank_at-nil, rank_at-insert, part_at-here, part_at-elsewhere, rank_at-le, rank_at-none, row_found, rank_at-row}
 
 -- a term of the product
@@ -22,7 +22,7 @@ abbrev pub term : ℕ → List TableRow → ℤ → ℤ → ℕ → ℕ
 term k rows m a i = binomial k i * rank_at rows (m +ℤ pos i) (a +ℤ pos i)
 
 pub product_rank-sum : (k : ℕ) (rows : List TableRow) (m a : ℤ)
-    → product_rank k rows m a ≡ sum_below (suc k) (term k rows m a)
+    → product_rank k rows m a ≡ sum_first (suc k) (term k rows m a)
 unfolding product_rank
 product_rank-sum k rows m a = refl
 
@@ -79,10 +79,10 @@ pub product_rank-le : (k b : ℕ) (rows : List TableRow) (m a : ℤ) → ((m a :
     → product_rank k rows m a ≤ 2 ^ k * b
 product_rank-le k b rows m a h =
     let terms =
-    sum_below-le (suc k) (term k rows m a) (λ i. binomial k i * b)
+    sum_first-le (suc k) (term k rows m a) (λ i. binomial k i * b)
     (λ i l. mul-le-mul_left (binomial k i) (h (m +ℤ pos i) (a +ℤ pos i))) in
     let whole = mul-le-mul_right b (sum-binomials k (suc k)) in
-    omega (arith, product_rank-sum k rows m a, sum_below-scaled (suc k) b (binomial k))
+    omega (arith, product_rank-sum k rows m a, sum_first-scaled (suc k) b (binomial k))
 
 -- ranks of a product are within those of tables
 pub product_rank-small : (k : ℕ) (rows : List TableRow) (m a : ℤ) → k ≤ 16 → AreOrdered rows

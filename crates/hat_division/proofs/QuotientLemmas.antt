@@ -10,11 +10,11 @@ use Rattle.std.proofs.lemmas.List.Elements.{All-push}
 use Rattle.std.proofs.lemmas.List.Quantifiers.{all_pairs_push}
 use Rattle.std.proofs.Math.Nat.{mul-le-mul_left}
 use Rattle.hat_division.specs.Table.{comes_before, AreOrdered}
-use Rattle.hat_division.specs.Product.{stands_at, part_at, rank_at, binomial, sum_below, product_rank, IsProduct, IsQuotient, IsSmall}
+use Rattle.hat_division.specs.Product.{stands_at, part_at, rank_at, binomial, sum_first, product_rank, IsProduct, IsQuotient, IsSmall}
 use Rattle.hat_division.specs.Inner.Products.{ArePositive}
 use Rattle.hat_division.specs.Inner.Quotients.{IsCandidate}
 use Rattle.hat_division.specs.declared.tables.TableRow.{TableRow}
-use Rattle.hat_division.proofs.SumLemmas.{sum_below-first, sum_below-le}
+use Rattle.hat_division.proofs.SumLemmas.{sum_first-first, sum_first-le}
 use Rattle.hat_division.proofs.RankLemmas.{not_higher, later_not_higher, comes_before-degrees, degrees_of, together_back, stands_itself, rank_at-nil, rank_at-push, rank_at-more, rank_at-take-drop, part_at-here, part_at-elsewhere, rank_at-le, rank_at-none, row_found, rank_at-row, same_rows}
 use Rattle.hat_division.proofs.ProductLemmas.{term, term-first, product_rank-sum, product_rank-ge, product-found, product-step}
 
@@ -89,7 +89,7 @@ module _ (k : ℕ) (rows : List TableRow) (positive : ArePositive rows) (n : ℕ
       let none : term k now row.m row.a 0 ≡ 0 =
       omega (arith, term-first k now row.m row.a, so_far.under row.m row.a, earlier_none) in
       let sums =
-      sum_below-first k (term k q row.m row.a) (term k now row.m row.a) none
+      sum_first-first k (term k q row.m row.a) (term k now row.m row.a) none
       (λ i. ap (λ r. binomial k (suc i) * r) (above_same q h i)) in
       omega (
         arith,
@@ -284,7 +284,7 @@ module _ (k : ℕ) (rows c : List TableRow) (under : (m a : ℤ) → rank_at c m
         arith,
         product_rank-sum k c m a,
         product_rank-sum k rows m a,
-        sum_below-le (suc k) (term k c m a) (term k rows m a)
+        sum_first-le (suc k) (term k c m a) (term k rows m a)
             (λ i l. mul-le-mul_left (binomial k i) (under (m +ℤ pos i) (a +ℤ pos i))),
       )
 

@@ -3,59 +3,59 @@ use Rattle.std.proofs.Common.{◌≡◌, ℕ, zero, suc, ◌+◌, ◌-◌, ◌*�
 use Rattle.std.proofs.lemmas.Bool.{cases_eq, cases_lt}
 use Rattle.std.proofs.lemmas.Nat.{mul-le}
 use Rattle.std.proofs.Math.Nat.{pow-suc, mul-le-mul_left}
-use Rattle.hat_division.specs.Product.{sum_below, binomial}
+use Rattle.hat_division.specs.Product.{sum_first, binomial}
 
 -- ---- sums
 -- one more term
-pub sum_below-suc : (n : ℕ) (f : ℕ → ℕ) → sum_below (suc n) f ≡ sum_below n f + f n
-unfolding sum_below
-sum_below-suc n f = refl
+pub sum_first-suc : (n : ℕ) (f : ℕ → ℕ) → sum_first (suc n) f ≡ sum_first n f + f n
+unfolding sum_first
+sum_first-suc n f = refl
 
 -- the sum of no terms
-pub sum_below-zero : (f : ℕ → ℕ) → sum_below 0 f ≡ 0
-unfolding sum_below
-sum_below-zero f = refl
+pub sum_first-zero : (f : ℕ → ℕ) → sum_first 0 f ≡ 0
+unfolding sum_first
+sum_first-zero f = refl
 
 -- a sum of larger terms is larger
-pub sum_below-le : (n : ℕ) (f g : ℕ → ℕ) → ((i : ℕ) → i < n → f i ≤ g i) → sum_below n f ≤ sum_below n g
-sum_below-le zero f g h = omega (arith, sum_below-zero f, sum_below-zero g)
-sum_below-le (suc n) f g h =
+pub sum_first-le : (n : ℕ) (f g : ℕ → ℕ) → ((i : ℕ) → i < n → f i ≤ g i) → sum_first n f ≤ sum_first n g
+sum_first-le zero f g h = omega (arith, sum_first-zero f, sum_first-zero g)
+sum_first-le (suc n) f g h =
     omega (
       arith,
-      sum_below-suc n f,
-      sum_below-suc n g,
-      sum_below-le n f g (λ i l. h i (omega arith)),
+      sum_first-suc n f,
+      sum_first-suc n g,
+      sum_first-le n f g (λ i l. h i (omega arith)),
       h n (omega arith),
     )
 
 -- a term is at most the sum
-pub term-le : (n i : ℕ) (f : ℕ → ℕ) → i < n → f i ≤ sum_below n f
+pub term-le : (n i : ℕ) (f : ℕ → ℕ) → i < n → f i ≤ sum_first n f
 term-le zero i f l = absurd (omega arith)
 term-le (suc n) i f l = elim (cases_eq i n) [
-  | inl e ↦ let same = ap f e in omega (arith, sum_below-suc n f)
-  | inr p ↦ omega (arith, sum_below-suc n f, term-le n i f (omega arith))
+  | inl e ↦ let same = ap f e in omega (arith, sum_first-suc n f)
+  | inr p ↦ omega (arith, sum_first-suc n f, term-le n i f (omega arith))
 ]
 
 -- a sum above 0 has a term above 0
-pub term-found : (n : ℕ) (f : ℕ → ℕ) → 0 < sum_below n f → (i : ℕ) × (i < n) × (0 < f i)
-term-found zero f h = absurd (omega (arith, sum_below-zero f))
+pub term-found : (n : ℕ) (f : ℕ → ℕ) → 0 < sum_first n f → (i : ℕ) × (i < n) × (0 < f i)
+term-found zero f h = absurd (omega (arith, sum_first-zero f))
 term-found (suc n) f h = elim (cases_lt 0 (f n)) [
   | inl l ↦ (n, omega arith, l)
-  | inr l ↦ let t = term-found n f (omega (arith, sum_below-suc n f)) in let below = t.1 in (t.0, omega arith, t.2)
+  | inr l ↦ let t = term-found n f (omega (arith, sum_first-suc n f)) in let below = t.1 in (t.0, omega arith, t.2)
 ]
 
 -- multiples
-pub sum_below-scaled : (n b : ℕ) (f : ℕ → ℕ) → sum_below n (λ i. f i * b) ≡ sum_below n f * b
-sum_below-scaled zero b f = omega (arith, sum_below-zero (λ i. f i * b), ap (λ s. s * b) (sum_below-zero f))
-sum_below-scaled (suc n) b f =
-    omega (arith, sum_below-suc n (λ i. f i * b), sum_below-scaled n b f, ap (λ s. s * b) (sum_below-suc n f))
+pub sum_first-scaled : (n b : ℕ) (f : ℕ → ℕ) → sum_first n (λ i. f i * b) ≡ sum_first n f * b
+sum_first-scaled zero b f = omega (arith, sum_first-zero (λ i. f i * b), ap (λ s. s * b) (sum_first-zero f))
+sum_first-scaled (suc n) b f =
+    omega (arith, sum_first-suc n (λ i. f i * b), sum_first-scaled n b f, ap (λ s. s * b) (sum_first-suc n f))
 
 -- two sums that differ in the first term alone
-pub sum_below-first : (n : ℕ) (f g : ℕ → ℕ) → g 0 ≡ 0 → ((i : ℕ) → f (suc i) ≡ g (suc i))
-    → sum_below (suc n) f ≡ f 0 + sum_below (suc n) g
-sum_below-first zero f g e h = omega (arith, sum_below-suc 0 f, sum_below-suc 0 g, sum_below-zero f, sum_below-zero g)
-sum_below-first (suc n) f g e h =
-    omega (arith, sum_below-suc (suc n) f, sum_below-suc (suc n) g, sum_below-first n f g e h, h n)
+pub sum_first-first : (n : ℕ) (f g : ℕ → ℕ) → g 0 ≡ 0 → ((i : ℕ) → f (suc i) ≡ g (suc i))
+    → sum_first (suc n) f ≡ f 0 + sum_first (suc n) g
+sum_first-first zero f g e h = omega (arith, sum_first-suc 0 f, sum_first-suc 0 g, sum_first-zero f, sum_first-zero g)
+sum_first-first (suc n) f g e h =
+    omega (arith, sum_first-suc (suc n) f, sum_first-suc (suc n) g, sum_first-first n f g e h, h n)
 
 -- ---- binomial coefficients
 pub binomial-none : (n : ℕ) → binomial n 0 ≡ 1
@@ -86,33 +86,33 @@ binomial-above (suc n) (suc i) l =
 
 -- the coefficients of one power add up to at most 2^k
 sum-pascal : (k n : ℕ)
-    → sum_below (suc n) (binomial (suc k)) ≡ sum_below n (binomial k) + sum_below (suc n) (binomial k)
+    → sum_first (suc n) (binomial (suc k)) ≡ sum_first n (binomial k) + sum_first (suc n) (binomial k)
 sum-pascal k zero =
     omega (
       arith,
-      sum_below-suc 0 (binomial (suc k)),
-      sum_below-suc 0 (binomial k),
-      sum_below-zero (binomial (suc k)),
-      sum_below-zero (binomial k),
+      sum_first-suc 0 (binomial (suc k)),
+      sum_first-suc 0 (binomial k),
+      sum_first-zero (binomial (suc k)),
+      sum_first-zero (binomial k),
       binomial-none k,
       binomial-none (suc k),
     )
 sum-pascal k (suc n) =
     omega (
       arith,
-      sum_below-suc (suc n) (binomial (suc k)),
-      sum_below-suc (suc n) (binomial k),
-      sum_below-suc n (binomial k),
+      sum_first-suc (suc n) (binomial (suc k)),
+      sum_first-suc (suc n) (binomial k),
+      sum_first-suc n (binomial k),
       sum-pascal k n,
       pascal k n,
     )
 
-pub sum-binomials : (k n : ℕ) → sum_below n (binomial k) ≤ 2 ^ k
-sum-binomials k zero = omega (arith, sum_below-zero (binomial k))
+pub sum-binomials : (k n : ℕ) → sum_first n (binomial k) ≤ 2 ^ k
+sum-binomials k zero = omega (arith, sum_first-zero (binomial k))
 sum-binomials zero (suc zero) =
-    omega (arith, sum_below-suc 0 (binomial 0), sum_below-zero (binomial 0), binomial-none 0)
+    omega (arith, sum_first-suc 0 (binomial 0), sum_first-zero (binomial 0), binomial-none 0)
 sum-binomials zero (suc (suc n)) =
-    omega (arith, sum_below-suc (suc n) (binomial 0), sum-binomials zero (suc n), binomial-start n)
+    omega (arith, sum_first-suc (suc n) (binomial 0), sum-binomials zero (suc n), binomial-start n)
 sum-binomials (suc k) (suc n) = omega (arith, sum-pascal k n, sum-binomials k n, sum-binomials k (suc n), pow-suc 2 k)
 
 -- one coefficient is at most their sum

@@ -6,7 +6,7 @@
 --                                  a
 --                                  table at most one row is there; of a list with more, it is the sum
 --     binomial n i                 the number of ways to choose i things of n
---     sum_below n f                f 0 + f 1 + .. + f (n - 1)
+--     sum_first n f                f 0 + f 1 + .. + f (n - 1)
 --     product_rank k rows m a      the rank in the bidegree (m, a) of the product of the table and (1 + q^-1 t^-1)^k:
 --                                  the
 --                                  sum over i from 0 to k of binomial k i times the rank in (m + i, a + i)
@@ -34,12 +34,12 @@ binomial n zero = 1
 binomial zero (suc i) = 0
 binomial (suc n) (suc i) = binomial n i + binomial n (suc i)
 
-unfoldable pub sum_below : ℕ → (ℕ → ℕ) → ℕ
-sum_below zero f = 0
-sum_below (suc n) f = sum_below n f + f n
+unfoldable pub sum_first : ℕ → (ℕ → ℕ) → ℕ
+sum_first zero f = 0
+sum_first (suc n) f = sum_first n f + f n
 
 unfoldable pub product_rank : ℕ → List TableRow → ℤ → ℤ → ℕ
-product_rank k rows m a = sum_below (suc k) (λ i. binomial k i * rank_at rows (m +ℤ pos i) (a +ℤ pos i))
+product_rank k rows m a = sum_first (suc k) (λ i. binomial k i * rank_at rows (m +ℤ pos i) (a +ℤ pos i))
 
 abbrev pub IsProduct : ℕ → List TableRow → List TableRow → Type 0
 IsProduct k rows product = (m a : ℤ) → rank_at product m a ≡ product_rank k rows m a

@@ -2,9 +2,10 @@
 --     comes_before p q    p stands before q: its Alexander degree is higher, or that is the same and its
 --                         Maslov degree is higher
 --     AreOrdered rows     the rows are in this order, and no degree comes twice
+--     greatest_rank       2^48, the greatest rank of a table
 --     HasRank row         the rank of the row is from 1 to 2^48
 --     IsTable rows        the rows are in this order, no degree comes twice, and each has a rank
-use Rattle.std.specs.Prelude.{◌≤◌, ◌^◌, Bool, List, IsTrue}
+use Rattle.std.specs.Prelude.{ℕ, ◌≤◌, ◌^◌, Bool, List, IsTrue}
 use Rattle.std.specs.List.{All, AllPairs}
 use Rattle.f2_algebra.specs.Bigraded.{stands_before}
 use Rattle.hat_division.specs.declared.tables.TableRow.{TableRow}
@@ -15,9 +16,12 @@ comes_before p q = stands_before (p.m, p.a) (q.m, q.a)
 abbrev pub AreOrdered : List TableRow → Type 0
 AreOrdered rows = AllPairs (λ p q. IsTrue (comes_before p q)) rows
 
+abbrev pub greatest_rank : ℕ
+greatest_rank = 2 ^ 48
+
 pub record HasRank (row : TableRow) : Type 0 where
   pub positive : 1 ≤ row.rank
-  pub bounded : row.rank ≤ 2 ^ 48
+  pub bounded : row.rank ≤ greatest_rank
 
 pub record IsTable (rows : List TableRow) : Type 0 where
   pub ordered : AreOrdered rows

@@ -1,7 +1,7 @@
 //! Tables of ranks.
 ghost use Rattle.std.specs.Prelude.{◌≡◌, ℕ, ◌↔◌, ◌≤◌, IsTrue, IsSome, IfSome, length};
 ghost use Rattle.std.specs.List.{All, sum_by};
-ghost use Rattle.hat_division.specs.Table.{IsTable, comes_before, AreOrdered, HasRank};
+ghost use Rattle.hat_division.specs.Table.{IsTable, comes_before, AreOrdered, HasRank, greatest_rank};
 ghost use Rattle.hat_division.specs.Product.{stands_at};
 
 use std::marker::Model;
@@ -92,6 +92,9 @@ impl Table {
     pub fn of(rows: Vec<TableRow>) -> Option<Table>
         ensures accepted { IsSome result ↔ IsTable rows.items }
         ensures rows { IfSome result (λ t. t ≡ rows.items) }
+
+        // No rank of a table is above `MAX_RANK`, and this is the greatest.
+        ensures limit { MAX_RANK ≡ greatest_rank }
     {
         if are_ordered(&rows) && have_ranks(&rows) {
             Some(Table { rows })
