@@ -1,6 +1,6 @@
 //! Grid states.
 
-ghost use Rattle.std.specs.Prelude.{◌≡◌, ◌≢◌, ◌↔◌, ℕ, ◌+◌, ◌<◌, ◌≤◌, List, [], ◌∷◌, length, slice_index, swap, take, IsTrue, IsNone, IfSome, OnSome, nat_eq, not};
+ghost use Rattle.std.specs.Prelude.{◌≡◌, ◌≢◌, ◌↔◌, ℕ, ◌+◌, ◌<◌, ◌≤◌, List, [], ◌∷◌, length, slice_index, swap, take, IsTrue, IsNone, IfSome, OnSome, Ok, nat_eq, not};
 ghost use Rattle.std.specs.Cmp.{partial_equiv_from_equiv};
 ghost use Rattle.std.specs.Cmp.Lexicographic.{pointwise, nat_list_eq_equiv};
 ghost use Rattle.state_rank.specs.Bijection.{IsSize, IsBijection, greatest_size};
@@ -10,6 +10,7 @@ ghost use Rattle.state_rank.specs.States.{IsState, is_before, states, rank, unra
 ghost use Rattle.state_rank.specs.Inner.Steps.{FallsFrom};
 
 use crate::{MAX_SIZE, ROOM};
+use std::alloc::AllocError;
 use std::marker::Model;
 
 /// A grid state: a bijection of 0 to n - 1, where the size n is from 2 to `MAX_SIZE`.
@@ -17,7 +18,7 @@ use std::marker::Model;
 /// It has one point on each vertical circle and one on each horizontal circle of the torus. Contracts
 /// see it as the list that says, for each vertical circle from circle 0 on, on which horizontal circle
 /// its point is (Ozsváth, Stipsicz and Szabó, "Grid Homology for Knots and Links", chapter 4).
-#[derive(Clone, Copy, Debug)]
+#[derive(Copy, Debug)]
 pub struct State {
     rows: [u8; ROOM],
     size: u8,
@@ -216,6 +217,16 @@ impl Default for State {
         let mut rows = [0; ROOM];
         rows[1] = 1;
         State { rows, size: 2 }
+    }
+}
+
+/// The state itself.
+impl Clone for State {
+    #[inline]
+    fn clone(&self) -> Result<State, AllocError>
+        ensures { result ≡ Ok self.now }
+    {
+        Ok(*self)
     }
 }
 
