@@ -17,7 +17,7 @@ use Rattle.torus_geom.proofs.Sums.HalfLemmas.{int_div-double}
 use Rattle.gradings.proofs.EvennessLemmas.{doubled_alexander_even}
 
 -- the points left of a column are those of the columns below it
-lower_left-left : (n : ℕ) (P : ℕ → ℕ) (c r : ℕ) → c ≤ n → lower_left n P c r ≡ count_below c (λ d. ltb (P d) r)
+pub lower_left-left : (n : ℕ) (P : ℕ → ℕ) (c r : ℕ) → c ≤ n → lower_left n P c r ≡ count_below c (λ d. ltb (P d) r)
 lower_left-left zero P c r h = let e : c ≡ zero = omega arith in ap (λ m. count_below m (λ d. ltb (P d) r)) (sym e)
 lower_left-left (suc n) P c r h = elim (cases_eq c (suc n)) [
   | inl e ↦

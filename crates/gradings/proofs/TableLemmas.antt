@@ -108,7 +108,7 @@ one_if_up_to : (b : Bool) → IsUpTo 1 (one_if b)
 one_if_up_to true = (omega (arith, ints), omega (arith, ints))
 one_if_up_to false = (omega (arith, ints), omega (arith, ints))
 
-count_below_up_to : (n : ℕ) (test : ℕ → Bool) → IsUpTo n (count_below n test)
+pub count_below_up_to : (n : ℕ) (test : ℕ → Bool) → IsUpTo n (count_below n test)
 count_below_up_to n test =
     let h = sum_below_up_to n 1 (λ t. one_if (test t)) (λ t l. one_if_up_to (test t)) in
     let low = h.0 in

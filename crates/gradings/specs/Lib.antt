@@ -1,2 +1,3 @@
 pub mod Degrees
+pub mod Sums
 pub mod Inner

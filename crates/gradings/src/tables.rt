@@ -5,6 +5,7 @@ ghost use Rattle.torus_geom.specs.Counts.{sum_below, count_below};
 ghost use Rattle.torus_geom.specs.Marks.{IsGrid, size};
 ghost use Rattle.torus_geom.specs.Degrees.{maslov_o as maslov_o_of, alexander as alexander_of};
 ghost use Rattle.gradings.specs.Degrees.{greatest_degree};
+ghost use Rattle.gradings.specs.Sums.{weight as weight_of, least as least_of, sum_before};
 ghost use Rattle.gradings.specs.Inner.Tables.{left_below, pairs_of, weight};
 
 use crate::degrees::{Bidegree, below, half};
@@ -100,6 +101,45 @@ impl DegreeTables {
             a: self.alexander(x),
         }
     }
+}
+
+impl DegreeTables {
+    /// What the marks alone give to the Alexander degree of a state, which is this and the sum of its weights.
+    pub fn least(&self) -> i32
+        ensures value { result ≡ least_of self.now }
+        ensures low { neg_ℤ (pos 2000) ≤ℤ result }
+        ensures high { result ≤ℤ pos 2000 }
+        ensures law { (x : List ℕ) → IsBijection (size self.now) x
+            → alexander_of self.now x ≡ least_of self.now +ℤ sum_before self.now (size self.now) x }
+        ensures sums { (x : List ℕ) → IsBijection (size self.now) x
+            → (pos 0 ≤ℤ sum_before self.now (size self.now) x) × (sum_before self.now (size self.now) x ≤ℤ pos 127) }
+    {
+        self.alexander_of_marks + columns_below(self.grid.size()) as i32
+    }
+
+    /// The weight of a point on column `c` and row `row`.
+    #[inline]
+    pub fn weight(&self, c: u8, row: u8) -> u8
+        requires column { c < size self.now }
+        requires row { row < size self.now }
+        ensures value { pos result ≡ weight_of self.now c row }
+        ensures small { result ≤ 20 }
+    {
+        self.weights[c as usize][row as usize] - (MAX_SIZE - c)
+    }
+}
+
+// How much more `MAX_SIZE` is than the columns below `n`, in all.
+fn columns_below(n: u8) -> u32
+    requires { n ≤ MAX_SIZE }
+    ensures value { pos result ≡ sum_below n (λ c. pos MAX_SIZE -ℤ pos c) }
+    ensures high { result ≤ MAX_SIZE * n }
+{
+    let mut sum = 0;
+    for c in 0..n {
+        sum += u32::from(MAX_SIZE - c);
+    }
+    sum
 }
 
 // How many O are left of each column and below each row.

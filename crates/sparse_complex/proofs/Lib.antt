@@ -9,4 +9,5 @@ pub mod QueryLemmas
 pub mod CancelLemmas
 pub mod GridPartLemmas
 pub mod BuildLemmas
+pub mod VisitLemmas
 pub mod LiveLemmas

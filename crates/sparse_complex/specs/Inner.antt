@@ -2,4 +2,5 @@
 pub mod Lists
 pub mod Graph
 pub mod Stored
+pub mod Visits
 pub mod Built

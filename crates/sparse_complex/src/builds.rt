@@ -7,10 +7,11 @@ ghost use Rattle.torus_geom.specs.Marks.{size};
 ghost use Rattle.torus_geom.specs.Inner.GridComplex.{grid_complex};
 ghost use Rattle.sparse_complex.specs.Inner.Graph.{code_at, width};
 ghost use Rattle.sparse_complex.specs.Inner.Built.{AreCells, AreKeys, AreLinksBelow};
+ghost use Rattle.sparse_complex.specs.Inner.Visits.{IsBranch};
 
 use crate::links::Links;
 use crate::slices::{AlexSlice, Cell, NO_KEY};
-use gradings::DegreeTables;
+use gradings::{DegreeTables, PossibleSums};
 use grid_ports::NoMemory;
 use rectangles::targets;
 use state_rank::{State, state_count};
@@ -23,8 +24,8 @@ impl AlexSlice {
     /// Live are the ranks of the states of this Alexander degree, each with its Maslov degree by the O;
     /// a state has arrows to the states of its border, all of which have the same Alexander degree
     /// (Ozsváth, Stipsicz and Szabó, "Grid Homology for Knots and Links", chapter 4). Where no state has
-    /// the degree, no code is live. All n! states are visited, where n is the size of `g`, each by a step
-    /// from the one before.
+    /// the degree, no code is live. The states are visited depth first over their rows, only where the degree can
+    /// still be reached, so the time is that of the states of the degree.
     ///
     /// # Errors
     ///
@@ -40,20 +41,80 @@ impl AlexSlice {
     }
 }
 
+// The states that begin as `first` does on the columns before `column`: `count` of them, of the ranks from `base` on, of
+// which `first` is the first. `used` has their rows on these columns as bits. They have the degree that is looked for if
+// their weights from `column` on add up to `left`.
+#[derive(Drop)]
+pub(crate) struct Branch {
+    pub(crate) first: State,
+    pub(crate) column: u8,
+    pub(crate) used: usize,
+    pub(crate) left: i64,
+    pub(crate) base: u32,
+    pub(crate) count: u32,
+}
+
 // The cells of the degree `a`, by Maslov degree, and by code among those of one degree.
 fn cells_of(alloc: Global, g: &Grid, a: i32) -> Result<Vec<Cell>, NoMemory>
     ensures { IfOk result (λ cells.
         AreCells (at_alexander a (grid_complex g.now)) (factorial (size g.now)) cells.items) }
 {
-    let tables = DegreeTables::of(g);
+    let sums = PossibleSums::of(alloc, g)?;
     let mut cells = Vec::new(alloc);
-    let mut x = State::unrank(g.size(), 0);
-    for code in 0..state_count(g.size()) {
-        push_cell(&tables, a, code, &x, &mut cells)?;
-        x.advance();
-    }
+    let all = Branch {
+        first: State::unrank(g.size(), 0),
+        column: 0,
+        used: 0,
+        left: i64::from(a) - i64::from(sums.tables().least()),
+        base: 0,
+        count: state_count(g.size()),
+    };
+    visit(&sums, a, &all, &mut cells)?;
     cells.sort_by_key(|cell| cell.maslov)?;
     Ok(cells)
+}
+
+// Appends the cells of the degree `a` among the states of a branch, by their codes.
+//
+// A branch whose sum cannot be reached is left out as a whole, so that each branch that is gone through has a state of the
+// degree.
+fn visit(
+    sums: &PossibleSums,
+    a: i32,
+    branch: &Branch,
+    cells: &mut Vec<Cell>,
+) -> Result<(), NoMemory>
+    requires branch { IsBranch sums.now a branch.now }
+    requires below { AreCells (at_alexander a (grid_complex sums.now)) branch.now.base cells.old.items }
+    ensures { OnOk result (AreCells (at_alexander a (grid_complex sums.now)) (branch.now.base + branch.now.count)
+        cells.new.items) }
+{
+    if !sums.can_give(branch.used, branch.left) {
+        return Ok(());
+    }
+    let n = branch.first.size();
+    let c = branch.column;
+    if c == n {
+        return push_cell(sums.tables(), a, branch.base, &branch.first, cells);
+    }
+    let count = branch.count / u32::from(n - c);
+    let mut first = branch.first;
+    let mut base = branch.base;
+    for next in c + 1..n + 1 {
+        let row = first.row(c);
+        let part = Branch {
+            first,
+            column: c + 1,
+            used: branch.used | 1 << row,
+            left: branch.left - i64::from(sums.weight(c, row)),
+            base,
+            count,
+        };
+        visit(sums, a, &part, cells)?;
+        base += count;
+        first = first.exchange(c, next.min(n - 1));
+    }
+    Ok(())
 }
 
 // Appends the cell of `x`, the state of rank `code`, if its Alexander degree is `a`.

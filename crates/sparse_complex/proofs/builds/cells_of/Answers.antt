@@ -1,59 +1,47 @@
--- Each state is visited, and when all are, the cells are sorted.
-use Rattle.std.proofs.Common.{◌≡◌, ◌+◌, ◌<◌, w32, ap, sym, ◌∙◌, rules, subst, arith}
-use mir.Val.{SFits, of_z, to_z}
+-- The whole visit is one branch.
+use Rattle.std.proofs.Common.{◌≡◌, ◌+◌, w32, ℕ, ap, subst, sym, ◌∙◌, arith, rules}
+use mir.Val.{SFits}
 use Rattle.std.proofs.Math.IntN.{ℤ}
-use Rattle.std.proofs.lemmas.Int.{to_z-of_z}
+use Rattle.std.proofs.lemmas.Int.{ints, to_z-of_z}
 use Rattle.f2_algebra.specs.Bigraded.{at_alexander}
-use Rattle.state_rank.specs.States.{factorial, unrank}
+use Rattle.state_rank.specs.States.{factorial}
 use Rattle.state_rank.proofs.LehmerLemmas.{factorial_positive}
-use Rattle.torus_geom.specs.Marks.{Marks, size}
+use Rattle.torus_geom.specs.Marks.{Marks, size, IsGrid}
 use Rattle.torus_geom.specs.Inner.GridComplex.{grid_complex}
+use Rattle.gradings.specs.Sums.{least}
 use Rattle.sparse_complex.specs.Inner.Built.{AreCells}
-use Rattle.sparse_complex.proofs.BuildLemmas.{AreCells-same, AreCells-none, AreCells-sorted, visited-next}
+use Rattle.sparse_complex.proofs.BuildLemmas.{AreCells-same, AreCells-none, AreCells-sorted}
+use Rattle.sparse_complex.proofs.VisitLemmas.{IsBranch-all}
 use Rattle.sparse_complex.proofs.builds.cells_of.Goals as goal
 
-pub unrank-x-requires-clause-rank : goal.unrank-x-requires-clause-rank
-unrank-x-requires-clause-rank c = factorial_positive c.size.result
+pub unrank-requires-clause-rank : goal.unrank-requires-clause-rank
+unrank-requires-clause-rank c = factorial_positive c.size.result
 
-pub loop-code-init : goal.loop-code-init
-loop-code-init c =
+pub visit-requires-clause-branch : goal.visit-requires-clause-branch
+visit-requires-clause-branch c =
     let fits : SFits w32 c.args.a = search rules in
-    record {
-      cells = subst (λ (a : ℤ). AreCells (at_alexander a (grid_complex c.args.g.now)) 0 c.new-cells.result.items)
-          (sym (to_z-of_z w32 c.args.a fits))
-          (AreCells-same (at_alexander c.args.a (grid_complex c.args.g.now)) 0 _ _ c.new-cells.ensures.items
-          (AreCells-none (at_alexander c.args.a (grid_complex c.args.g.now))));
-      visited = λ l. c.unrank-x.ensures.state ∙ ap (λ n. unrank n 0) c.size.ensures.size;
-    }
+    let low = c.least.ensures.low in
+    let high = c.least.ensures.high in
+    let value = c.least.ensures.value ∙ ap least c.tables.ensures in
+    let a_is = c.from.ensures in
+    let least_is = c.from-2.ensures in
+    IsBranch-all c.in_ok-sums.sums _ c.unrank.result _ c.state_count.result c.size.result
+    (subst IsGrid (sym c.in_ok-sums.ensures) c.size.ensures.grid)
+    (c.size.ensures.size ∙ ap size (sym c.in_ok-sums.ensures)) c.unrank.ensures.state
+    (omega (arith, ints)) (c.state_count.ensures ∙ ap factorial (c.size-2.ensures.size ∙ sym c.size.ensures.size))
 
-pub push_cell-requires-clause-rank : goal.push_cell-requires-clause-rank
-push_cell-requires-clause-rank c =
-    let count : c.state_count-code-end.result ≡ factorial (size c.args.g.now) =
-    c.state_count-code-end.ensures ∙ ap factorial c.size-2.ensures.size in
-    subst (λ (g : Marks). c.loop-code.code < factorial (size g)) (sym c.of-tables.ensures) (omega arith)
-
-pub loop-code-preserved : goal.loop-code-preserved
-loop-code-preserved c =
-    let count : c.state_count-code-end.result ≡ factorial (size c.args.g.now) =
-    c.state_count-code-end.ensures ∙ ap factorial c.size-2.ensures.size in
-    record {
-      cells = subst (λ (g : Marks). AreCells (at_alexander (to_z w32 (of_z w32 c.args.a)) (grid_complex g))
-          (c.loop-code.code + 1) c.push_cell.new.cells.items) c.of-tables.ensures c.in_ok-push_cell.ensures;
-      visited =
-          visited-next (size c.args.g.now) c.loop-code.code c.loop-code.x c.advance.new.self c.advance.result
-          (omega arith) c.loop-code.invariant.visited c.advance.ensures.state c.advance.ensures.last;
-    }
+pub visit-requires-clause-below : goal.visit-requires-clause-below
+visit-requires-clause-below c =
+    AreCells-same (at_alexander _ (grid_complex c.in_ok-sums.sums)) 0 _ _ c.new-cells.ensures.items
+    (AreCells-none (at_alexander _ (grid_complex c.in_ok-sums.sums)))
 
 pub returns : goal.returns
 returns c =
     let fits : SFits w32 c.args.a = search rules in
-    let count : c.state_count-code-end.result ≡ factorial (size c.args.g.now) =
-    c.state_count-code-end.ensures ∙ ap factorial c.size-2.ensures.size in
-    let all : c.loop-code.code ≡ factorial (size c.args.g.now) = omega arith in
-    let cells =
-    subst (λ (a : ℤ). AreCells (at_alexander a (grid_complex c.args.g.now)) c.loop-code.code c.loop-code.cells.items)
-    (to_z-of_z w32 c.args.a fits) c.loop-code.invariant.cells in
-    subst (λ n. AreCells (at_alexander c.args.a (grid_complex c.args.g.now)) n c.sort_by_key.new.self.items) all
-    (AreCells-sorted
-    (at_alexander c.args.a (grid_complex c.args.g.now)) c.loop-code.code c.loop-code.cells.items cells
-    c.sort_by_key.new.self.items c.sort_by_key.ensures.permutation)
+    let count : 0 + c.state_count.result ≡ factorial (size c.args.g.now) =
+    let e = c.state_count.ensures ∙ ap factorial c.size-2.ensures.size in omega (arith, e) in
+    AreCells-sorted (at_alexander c.args.a (grid_complex c.args.g.now)) (factorial (size c.args.g.now))
+    c.visit.new.cells.items
+    (subst (λ (e : (Marks × ℤ) × ℕ). AreCells (at_alexander e.0.1 (grid_complex e.0.0)) e.1 c.visit.new.cells.items)
+    (λ i. ((c.in_ok-sums.ensures i, to_z-of_z w32 c.args.a fits i), count i)) c.in_ok-visit.ensures)
+    c.sort_by_key.new.self.items c.sort_by_key.ensures.permutation
