@@ -3,7 +3,7 @@ ghost use Rattle.std.specs.Prelude.{◌≡◌, ◌≢◌, ◌⊎◌, ℕ, ◌+�
 ghost use Rattle.std.specs.Io.KnownBytes.{Appends};
 ghost use Rattle.grid_ports.specs.Bytes.{TakesAtMost, AppendsPrefix};
 ghost use Rattle.grid_job.specs.Made.{IsMade};
-ghost use Rattle.grid_job.specs.Words.{IsMake};
+ghost use Rattle.grid_job.specs.Words.{word_at, IsMake};
 ghost use Rattle.grid_job.specs.Outcome.{IsForm, IsRefusal, IsOutcome, IsEnd, HasEnded, HasBegun, most_read};
 ghost use Rattle.grid_cli.specs.Usage.{usage_line};
 
@@ -37,7 +37,8 @@ pub(crate) fn answer<S: Source, K: Sink, E: Sink>(
         (S.left src.new) (K.written out.old) (K.written out.new)) }
 
     // Where a write failed or memory ran out, a prefix of such an answer was written.
-    ensures begun { (result ≡ Status.WriteFault) ⊎ (result ≡ Status.NoMemory)
+    ensures begun { (mode : Mode) → IsForm (map string_bytes words.now) mode
+        → (result ≡ Status.WriteFault) ⊎ (result ≡ Status.NoMemory)
         → IfSome (S.left src.old) (λ text. HasBegun (map string_bytes words.now) text
         (K.written out.old) (K.written out.new)) }
 
@@ -47,11 +48,15 @@ pub(crate) fn answer<S: Source, K: Sink, E: Sink>(
         → IfSome (S.left src.old) (λ text. (status : Status) (answer : List ℕ)
         → IsOutcome mode text status answer → (result ≡ status) ⊎ (result ≡ Status.NoMemory)) }
 
-    // Words that ask for nothing are the only cause of Usage, and then nothing is touched.
-    ensures usage { (result ≡ Status.Usage)
-        ↔ ((mode : Mode) → ¬ IsForm (map string_bytes words.now) mode) }
-    ensures usage_touches_nothing { result ≡ Status.Usage
-        → (src.new ≡ src.old) × (out.new ≡ out.old) }
+    // Words that ask for nothing are the only cause of Usage, and they have no other answer, but that memory may run out
+    // on words that begin with `make`. Then nothing is read or written.
+    ensures usage { result ≡ Status.Usage
+        → (mode : Mode) → ¬ IsForm (map string_bytes words.now) mode }
+    ensures always_usage { ((mode : Mode) → ¬ IsForm (map string_bytes words.now) mode)
+        → word_at (map string_bytes words.now) 0 ≢ codes "make" → result ≡ Status.Usage }
+    ensures no_form { ((mode : Mode) → ¬ IsForm (map string_bytes words.now) mode)
+        → ((result ≡ Status.Usage) ⊎ (result ≡ Status.NoMemory))
+        × (src.new ≡ src.old) × (out.new ≡ out.old) }
 
     // One read that failed in this call is the only cause of ReadFault, and no other answer hides one;
     // nothing is written then. So it is with writes.

@@ -2,3 +2,4 @@ pub mod Generated
 pub mod Certified
 pub mod Reported
 pub mod Outcomes
+pub mod Parsed

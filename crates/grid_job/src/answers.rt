@@ -3,7 +3,7 @@ ghost use Rattle.std.specs.Prelude.{◌≡◌, ◌≢◌, ◌⊎◌, ℕ, ◌+�
 ghost use Rattle.std.specs.Io.KnownBytes.{Appends};
 ghost use Rattle.grid_ports.specs.Bytes.{TakesAtMost, AppendsPrefix};
 ghost use Rattle.grid_job.specs.Made.{IsMade};
-ghost use Rattle.grid_job.specs.Words.{IsMake};
+ghost use Rattle.grid_job.specs.Words.{word_at, IsMake};
 ghost use Rattle.grid_job.specs.Outcome.{IsForm, IsRefusal, IsOutcome, IsEnd, HasEnded, HasBegun, most_read};
 
 use crate::certificates::cert;
@@ -12,6 +12,7 @@ use crate::made::make;
 use crate::modes::{Mode, mode_of};
 use crate::runs::run;
 use crate::statuses::Status;
+use crate::words::make_numbers;
 use grid_ports::{Sink, Source};
 use std::alloc::Global;
 
@@ -27,17 +28,21 @@ pub(crate) fn answer_words<S: Source, K: Sink>(
     ensures ended { IsEnd result → IfSome (S.left src.old) (λ text. HasEnded
         (map string_bytes words.now) text result
         (S.left src.new) (K.written out.old) (K.written out.new)) }
-    ensures begun { (result ≡ Status.WriteFault) ⊎ (result ≡ Status.NoMemory)
+    ensures begun { (mode : Mode) → IsForm (map string_bytes words.now) mode
+        → (result ≡ Status.WriteFault) ⊎ (result ≡ Status.NoMemory)
         → IfSome (S.left src.old) (λ text. HasBegun (map string_bytes words.now) text
         (K.written out.old) (K.written out.new)) }
     ensures answer { (mode : Mode) → IsForm (map string_bytes words.now) mode
         → S.faults src.new ≡ S.faults src.old → K.faults out.new ≡ K.faults out.old
         → IfSome (S.left src.old) (λ text. (status : Status) (answer : List ℕ)
         → IsOutcome mode text status answer → (result ≡ status) ⊎ (result ≡ Status.NoMemory)) }
-    ensures usage { (result ≡ Status.Usage)
-        ↔ ((mode : Mode) → ¬ IsForm (map string_bytes words.now) mode) }
-    ensures usage_touches_nothing { result ≡ Status.Usage
-        → (src.new ≡ src.old) × (out.new ≡ out.old) }
+    ensures usage { result ≡ Status.Usage
+        → (mode : Mode) → ¬ IsForm (map string_bytes words.now) mode }
+    ensures always_usage { ((mode : Mode) → ¬ IsForm (map string_bytes words.now) mode)
+        → word_at (map string_bytes words.now) 0 ≢ codes "make" → result ≡ Status.Usage }
+    ensures no_form { ((mode : Mode) → ¬ IsForm (map string_bytes words.now) mode)
+        → ((result ≡ Status.Usage) ⊎ (result ≡ Status.NoMemory))
+        × (src.new ≡ src.old) × (out.new ≡ out.old) }
     ensures read_fault { result ≡ Status.ReadFault
         → (S.faults src.new ≡ S.faults src.old + 1) × (out.new ≡ out.old) }
     ensures no_read_fault { result ≢ Status.ReadFault → S.faults src.new ≡ S.faults src.old }
@@ -67,7 +72,10 @@ pub(crate) fn answer_words<S: Source, K: Sink>(
         → IfSome (S.left src.old) (λ text. (answer : List ℕ) → IsRefusal text answer
         → out.new ≡ out.old) }
 {
-    match mode_of(words) {
+    let Ok(made) = make_numbers(alloc, words) else {
+        return Status::NoMemory;
+    };
+    match mode_of(words, made) {
         Some(Mode::Run) => run(alloc, src, out),
         Some(Mode::Cert) => cert(alloc, src, out),
         Some(Mode::Check) => check(alloc, src, out),

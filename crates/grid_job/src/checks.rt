@@ -12,9 +12,7 @@ use crate::modes::Mode;
 use crate::refusals::refuse;
 use crate::statuses::Status;
 use grid_ports::{NoMemory, ReadEnd, Sink, Source, read_all, write_all};
-use homology_cert::{
-    Cert, CertEnd, CertTest, CertVerdict, MAX_CERTIFICATE, check_cert, read_cert,
-};
+use homology_cert::{Cert, CertEnd, CertTest, CertVerdict, MAX_CERTIFICATE, check_cert, read_cert};
 use std::alloc::Global;
 use text_lines::push_number;
 

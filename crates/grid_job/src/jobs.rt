@@ -12,7 +12,7 @@ ghost use Rattle.homology_cert.specs.CertificateText.{certificate_text};
 ghost use Rattle.grid_job.specs.Checked.{yes_line};
 ghost use Rattle.grid_job.specs.Made.{IsMade};
 ghost use Rattle.grid_job.specs.Report.{IsReport};
-ghost use Rattle.grid_job.specs.Words.{IsMake};
+ghost use Rattle.grid_job.specs.Words.{word_at, IsMake};
 ghost use Rattle.grid_job.specs.Outcome.{IsForm, IsRefusal, IsOutcome, IsEnd, HasEnded, HasBegun, most_read};
 
 use crate::answers::answer_words;
@@ -28,7 +28,7 @@ use std::alloc::Global;
 /// nothing, and writes the script of this size and seed with a summary of its grid.
 ///
 /// The words are those after the program's name. The options of `make` stand in either order, each in one word
-/// with `=` or in two. All is read before anything is written. A text that is no document is refused by one
+/// with `=` or in two, and are read by `clap`, which asks for memory. All is read before anything is written. A text that is no document is refused by one
 /// line, which tells its first fault and the line that has it; to `check`, one that is no certificate is, by its first
 /// bad line. A chain that the document names is followed through the turns and the commutations of the grid. The ranks
 /// that a report or a certificate tells are those of the homology of the fully blocked grid complex over F2
@@ -52,7 +52,8 @@ pub fn gridhom<S: Source, K: Sink>(
         (S.left src.new) (K.written out.old) (K.written out.new)) }
 
     // Where a write failed or memory ran out, a prefix of such an answer was written.
-    ensures begun { (result ≡ Status.WriteFault) ⊎ (result ≡ Status.NoMemory)
+    ensures begun { (mode : Mode) → IsForm (map string_bytes words.now) mode
+        → (result ≡ Status.WriteFault) ⊎ (result ≡ Status.NoMemory)
         → IfSome (S.left src.old) (λ text. HasBegun (map string_bytes words.now) text
         (K.written out.old) (K.written out.new)) }
 
@@ -62,11 +63,15 @@ pub fn gridhom<S: Source, K: Sink>(
         → IfSome (S.left src.old) (λ text. (status : Status) (answer : List ℕ)
         → IsOutcome mode text status answer → (result ≡ status) ⊎ (result ≡ Status.NoMemory)) }
 
-    // Words that ask for nothing are the only cause of Usage, and then nothing is touched.
-    ensures usage { (result ≡ Status.Usage)
-        ↔ ((mode : Mode) → ¬ IsForm (map string_bytes words.now) mode) }
-    ensures usage_touches_nothing { result ≡ Status.Usage
-        → (src.new ≡ src.old) × (out.new ≡ out.old) }
+    // Words that ask for nothing are the only cause of Usage, and they have no other answer, but that memory may run out
+    // on words that begin with `make`. Then nothing is read or written.
+    ensures usage { result ≡ Status.Usage
+        → (mode : Mode) → ¬ IsForm (map string_bytes words.now) mode }
+    ensures always_usage { ((mode : Mode) → ¬ IsForm (map string_bytes words.now) mode)
+        → word_at (map string_bytes words.now) 0 ≢ codes "make" → result ≡ Status.Usage }
+    ensures no_form { ((mode : Mode) → ¬ IsForm (map string_bytes words.now) mode)
+        → ((result ≡ Status.Usage) ⊎ (result ≡ Status.NoMemory))
+        × (src.new ≡ src.old) × (out.new ≡ out.old) }
 
     // One read that failed in this call is the only cause of ReadFault, and no other answer hides one;
     // nothing is written then. So it is with writes.

@@ -1,8 +1,7 @@
 //! What the words after the program's name ask for.
-ghost use Rattle.std.specs.Prelude.{◌↔◌, map, string_bytes, ◌≡◌, [], ◌∷◌, IfSome, IfNone, IsTrue};
+ghost use Rattle.std.specs.Prelude.{◌↔◌, ℕ, map, string_bytes, ◌≡◌, [], ◌∷◌, IfSome, IfNone, IsTrue};
 ghost use Rattle.grid_job.specs.Outcome.{IsForm};
-
-use crate::words::make_numbers;
+ghost use Rattle.grid_job.specs.Words.{IsMake};
 
 /// What a call of the program does.
 #[derive(Clone, Copy, PartialEq, Eq, Debug)]
@@ -17,8 +16,11 @@ pub enum Mode {
     Make { size: u8, seed: u32 },
 }
 
-/// What the words ask for.
-pub(crate) fn mode_of(words: &[String]) -> Option<Mode>
+/// What the words ask for, where `made` has the size and the seed that they ask `make` for.
+pub(crate) fn mode_of(words: &[String], made: Option<(u32, u32)>) -> Option<Mode>
+    requires some { IfSome made (λ p. IsMake (map string_bytes words.now) p.0 p.1) }
+    requires none { IfNone made ((size seed : ℕ)
+        → ¬ IsMake (map string_bytes words.now) size seed) }
     ensures some { IfSome result (λ mode. IsForm (map string_bytes words.now) mode) }
     ensures none { IfNone result ((mode : Mode) → ¬ IsForm (map string_bytes words.now) mode) }
 {
@@ -31,7 +33,7 @@ pub(crate) fn mode_of(words: &[String]) -> Option<Mode>
     if is_alone(words, "check") {
         return Some(Mode::Check);
     }
-    let Some((size, seed)) = make_numbers(words) else {
+    let Some((size, seed)) = made else {
         return None;
     };
     Some(Mode::Make {

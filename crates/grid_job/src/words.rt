@@ -1,10 +1,17 @@
 //! The words of `make`.
-ghost use Rattle.std.specs.Prelude.{◌≡◌, ◌≢◌, ◌++◌, ◌<◌, ◌≤◌, ℕ, map, string_bytes, length, codes, IfSome, IfNone};
-ghost use Rattle.std.specs.Fmt.{decimal};
-ghost use Rattle.grid_job.specs.Words.{word_at as word_at_of, flag_word as flag_word_of, least as least_of, greatest as greatest_of, IsOptionAt, AreOptions, IsMake};
+ghost use Rattle.std.specs.Prelude.{◌≡◌, ◌≢◌, ◌↔◌, ℕ, None, map, string_bytes, codes, IfOk, IfSome, IfNone, IsTrue, OnErr};
+ghost use Rattle.std.specs.List.{list_any};
+ghost use Rattle.std.specs.Str.{bytes_eq};
+ghost use Rattle.clap.specs.Words.{FailsBy, fault_of, found_of, kind_of, matches_of, rows_of};
+ghost use Rattle.clap.specs.declared.error.kind.ErrorKind.TheVariants.{OutOfMemory};
+ghost use Rattle.grid_job.specs.Words.{word_at, least as least_of, greatest as greatest_of, IsMake};
+ghost use Rattle.grid_job.specs.Inner.Parsing.{flag_id as flag_id_of, make_command, dashes, MayBeMake, HasValue};
 
+use clap::error::ErrorKind;
+use clap::{Arg, ArgAction, ArgMatches, Command, Error};
 use grid_text::numeral;
 use state_rank::MAX_SIZE;
+use std::alloc::{AllocError, Global};
 
 /// An option of `make`.
 #[derive(Clone, Copy, PartialEq, Eq, Debug)]
@@ -15,109 +22,115 @@ pub enum Flag {
     Seed,
 }
 
-/// The size and the seed that the words ask `make` for.
-pub(crate) fn make_numbers(words: &[String]) -> Option<(u32, u32)>
-    ensures some { IfSome result (λ p. IsMake (map string_bytes words.now) p.0 p.1) }
-    ensures none { IfNone result ((size seed : ℕ) → ¬ IsMake (map string_bytes words.now) size seed) }
+/// The size and the seed that the words ask `make` for. Its options are read by `clap`, which may run out of memory.
+pub(crate) fn make_numbers(
+    alloc: Global,
+    words: &[String],
+) -> Result<Option<(u32, u32)>, AllocError>
+    ensures some { IfOk result (λ asked. IfSome asked (λ p.
+        IsMake (map string_bytes words.now) p.0 p.1)) }
+    ensures none { IfOk result (λ asked. IfNone asked ((size seed : ℕ)
+        → ¬ IsMake (map string_bytes words.now) size seed)) }
+    ensures memory { OnErr result (word_at (map string_bytes words.now) 0 ≡ codes "make") }
 {
-    let Some(command) = word_at(words, 0) else {
+    if !may_be_make(words) {
+        return Ok(None);
+    }
+    match parse(alloc, words) {
+        Ok(matches) => Ok(numbers_of(&matches)),
+        Err(error) => no_numbers(&error),
+    }
+}
+
+// What a parse that fails comes to: memory ran out, or the words ask for nothing.
+fn no_numbers(error: &Error) -> Result<Option<(u32, u32)>, AllocError>
+    ensures { IfOk result (λ asked. (asked ≡ None) × (kind_of error.now ≢ OutOfMemory)) }
+{
+    match error.kind() {
+        ErrorKind::OutOfMemory => Err(AllocError),
+        _ => Ok(None),
+    }
+}
+
+// Whether the words begin with `make`, two, three or four follow, and none is `--`, behind which `clap` reads no option.
+fn may_be_make(words: &[String]) -> bool
+    ensures { IsTrue result ↔ MayBeMake (map string_bytes words.now) }
+{
+    if words.len() < 3 || words.len() > 5 {
+        return false;
+    }
+    if !is_make(words[0].as_str()) {
+        return false;
+    }
+    !have_dashes(words)
+}
+
+fn is_make(word: &str) -> bool
+    ensures { result ≡ bytes_eq word.now (codes "make") }
+{
+    word == "make"
+}
+
+// Whether one of the words is `--`.
+fn have_dashes(words: &[String]) -> bool
+    ensures { result ≡ list_any (λ w. bytes_eq (string_bytes w) dashes) words.now }
+{
+    words.iter().any(|word| is_dashes(word.as_str()))
+}
+
+fn is_dashes(word: &str) -> bool
+    ensures { result ≡ bytes_eq word.now dashes }
+{
+    word == "--"
+}
+
+// What `clap` reads of the words.
+fn parse<'a>(alloc: Global, words: &'a [String]) -> Result<ArgMatches<'a>, Error>
+    ensures matches { IfOk result (λ m.
+        rows_of (found_of m) ≡ matches_of make_command (map string_bytes words.now)) }
+    ensures faults { FailsBy (fault_of make_command (map string_bytes words.now)) result }
+{
+    let size = Arg::new(alloc, "size").long("size").action(ArgAction::Set);
+    let seed = Arg::new(alloc, "seed").long("seed").action(ArgAction::Set);
+    let command = Command::new(alloc, "make")
+        .disable_help_flag(true)
+        .arg(size)?
+        .arg(seed)?;
+    command.try_get_matches_from(words)
+}
+
+// The values of both options.
+fn numbers_of(matches: &ArgMatches) -> Option<(u32, u32)>
+    ensures some { IfSome result (λ p. HasValue matches.now Flag.Size p.0 × HasValue matches.now Flag.Seed p.1) }
+    ensures none { IfNone result ((size seed : ℕ)
+        → HasValue matches.now Flag.Size size → HasValue matches.now Flag.Seed seed → ⊥) }
+{
+    let Some(size) = value_of(matches, Flag::Size) else {
         return None;
     };
-    if command != "make" {
-        return None;
-    }
-    if let Some((size, seed)) = two_options(words, Flag::Size, Flag::Seed) {
-        return Some((size, seed));
-    }
-    let Some((seed, size)) = two_options(words, Flag::Seed, Flag::Size) else {
+    let Some(seed) = value_of(matches, Flag::Seed) else {
         return None;
     };
     Some((size, seed))
 }
 
-// The values of two options that are the words after the first.
-fn two_options(words: &[String], first: Flag, second: Flag) -> Option<(u32, u32)>
-    ensures some { IfSome result (λ p. AreOptions (map string_bytes words.now) first p.0 second p.1) }
-    ensures none { IfNone result ((a b : ℕ)
-        → ¬ AreOptions (map string_bytes words.now) first a second b) }
+// The value of an option.
+fn value_of(matches: &ArgMatches, flag: Flag) -> Option<u32>
+    ensures some { IfSome result (HasValue matches.now flag) }
+    ensures none { IfNone result ((v : ℕ) → ¬ HasValue matches.now flag v) }
 {
-    let Some((a, between)) = option_at(words, 1, first) else {
+    let Some(text) = matches.get_str(flag_id(flag)) else {
         return None;
     };
-    let Some((b, end)) = option_at(words, between, second) else {
-        return None;
-    };
-    if end != words.len() {
-        return None;
-    }
-    Some((a, b))
+    numeral(text.as_bytes(), least(flag), greatest(flag))
 }
 
-// The value of the option that stands at this place, and where the words after it begin.
-fn option_at(words: &[String], place: usize, flag: Flag) -> Option<(u32, usize)>
-    ensures some { IfSome result (λ p. IsOptionAt (map string_bytes words.now) place flag p.0 p.1) }
-    ensures none { IfNone result ((v next : ℕ)
-        → ¬ IsOptionAt (map string_bytes words.now) place flag v next) }
-{
-    let Some(word) = word_at(words, place) else {
-        return None;
-    };
-    if let Some(value) = joined_value(word, flag) {
-        return Some((value, place + 1));
-    }
-    if word != flag_word(flag) {
-        return None;
-    }
-    let Some(next) = word_at(words, place + 1) else {
-        return None;
-    };
-    let Some(value) = numeral(next.as_bytes(), least(flag), greatest(flag)) else {
-        return None;
-    };
-    Some((value, place + 2))
-}
-
-// The value in a word `FLAG=VALUE`.
-fn joined_value(word: &str, flag: Flag) -> Option<u32>
-    ensures some { IfSome result (λ v. (word.now ≡ flag_word_of flag ++ codes "=" ++ decimal v)
-        × (least_of flag ≤ v) × (v ≤ greatest_of flag)) }
-    ensures none { IfNone result ((v : ℕ) → least_of flag ≤ v → v ≤ greatest_of flag
-        → word.now ≢ flag_word_of flag ++ codes "=" ++ decimal v) }
-{
-    let Some(value) = word.as_bytes().strip_prefix(flag_start(flag).as_bytes()) else {
-        return None;
-    };
-    numeral(value, least(flag), greatest(flag))
-}
-
-// The word at this place.
-fn word_at(words: &[String], place: usize) -> Option<&str>
-    ensures some { IfSome result (λ word. (place < length words.now)
-        × (word.now ≡ word_at_of (map string_bytes words.now) place)) }
-    ensures none { IfNone result (length words.now ≤ place) }
-{
-    if place >= words.len() {
-        return None;
-    }
-    Some(words[place].as_str())
-}
-
-fn flag_word(flag: Flag) -> &'static str
-    ensures { result.now ≡ flag_word_of flag }
+fn flag_id(flag: Flag) -> &'static str
+    ensures { result.now ≡ flag_id_of flag }
 {
     match flag {
-        Flag::Size => "--size",
-        Flag::Seed => "--seed",
-    }
-}
-
-// The word of an option, and the sign between it and its value.
-fn flag_start(flag: Flag) -> &'static str
-    ensures { result.now ≡ flag_word_of flag ++ codes "=" }
-{
-    match flag {
-        Flag::Size => "--size=",
-        Flag::Seed => "--seed=",
+        Flag::Size => "size",
+        Flag::Seed => "seed",
     }
 }
 

@@ -1,5 +1,5 @@
 -- The words of a mode: they are those of no other.
-use Rattle.std.proofs.Common.{◌≡◌, ℕ, ◌<◌, ◌≤◌, Bool, false, List, [], ◌∷◌, length, get_or, codes, IsTrue, sym, ap, ◌∙◌, arith}
+use Rattle.std.proofs.Common.{◌≡◌, ℕ, ◌<◌, ◌≤◌, Bool, false, List, [], ◌∷◌, length, get_or, codes, Option, None, IfNone, IsTrue, sym, ap, subst, ◌∙◌, arith}
 use Rattle.std.specs.Str.{bytes_eq}
 use Rattle.std.proofs.lemmas.Bool.{false≢true}
 use Rattle.std.proofs.lemmas.Slice.Eq.{bytes_eq-Decides}
@@ -56,3 +56,8 @@ pub told_apart : (words : List (List ℕ)) (m k : Mode) → bytes_eq (mode_word 
 told_apart words m k differ f g =
     let same : mode_word m ≡ mode_word k = sym (first-word words m f) ∙ first-word words k g in
     false≢true (sym differ ∙ (bytes_eq-Decides (mode_word m) (mode_word k)).1 same)
+
+-- ---- the numbers of `make` that were not found
+pub not_made : (P : ℕ → ℕ → Type 0) (made : Option (ℕ × ℕ)) → made ≡ None → IfNone made ((n s : ℕ) → P n s → ⊥)
+    → (n s : ℕ) → P n s → ⊥
+not_made P made is none = subst (λ o. IfNone o ((n s : ℕ) → P n s → ⊥)) is none

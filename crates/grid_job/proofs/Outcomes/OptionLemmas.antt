@@ -1,40 +1,12 @@
--- The options of `make`: where an option stands, its value and its end are known; words are those of one call.
-use Rattle.std.proofs.Common.{◌≡◌, ◌⊎◌, ℕ, ◌+◌, ◌^◌, ◌<◌, ◌≤◌, Bool, false, not, List, ◌++◌, length, slice_index, codes, refl, sym, ap, subst, ◌∙◌, inl, inr, arith}
+-- The options of `make`: where an option stands, its value and its end are known, so words ask for one size and seed.
+use Rattle.std.proofs.Common.{◌≡◌, ◌⊎◌, ℕ, ◌^◌, ◌<◌, ◌≤◌, List, ◌++◌, length, slice_index, codes, sym, ap, subst, ◌∙◌, inl, inr, arith}
 use Rattle.std.specs.Fmt.{decimal}
-use Rattle.std.specs.Str.{bytes_eq}
-use Rattle.std.proofs.lemmas.Bool.{cases_Bool, false≢true}
 use Rattle.std.proofs.lemmas.Fmt.{decimal_injective}
 use Rattle.std.proofs.lemmas.List.{append_cancel_left, length-append}
-use Rattle.std.proofs.lemmas.Slice.Eq.{bytes_eq-Decides}
 use Rattle.state_rank.specs.Bijection.{IsSize}
-use Rattle.grid_job.specs.Words.{word_at, flag_word, least, greatest, IsOneWord, IsTwoWords, IsOptionAt, AreOptions, IsMake}
+use Rattle.grid_job.specs.Words.{word_at, flag_word, greatest, IsOneWord, IsTwoWords, IsOptionAt, AreOptions, IsMake}
 use Rattle.grid_job.specs.declared.words.Flag.{Flag}
 use Rattle.grid_job.specs.declared.words.Flag.TheVariants.{Size, Seed}
-
--- words that do not differ are equal
-pub same_words : (w x : List ℕ) (b : Bool) → b ≡ not (bytes_eq w x) → b ≡ false → w ≡ x
-same_words w x b is e = elim (cases_Bool (bytes_eq w x)) [
-  | inl same ↦ (bytes_eq-Decides w x).0 same
-  | inr other ↦ absurd (false≢true (sym e ∙ is ∙ ap not other))
-]
-
--- an option in two words
-pub two_words_at : (ws : List (List ℕ)) (long k : ℕ) (flag : Flag) (w f x bytes : List ℕ) (v low high : ℕ)
-    → long ≡ length ws → k + 1 < long
-    → w ≡ word_at ws k → w ≡ f → f ≡ flag_word flag → x ≡ word_at ws (k + 1) → bytes ≡ x → bytes ≡ decimal v
-    → low ≡ least flag → low ≤ v → high ≡ greatest flag → v ≤ high
-    → IsOptionAt ws k flag v (k + 2)
-two_words_at ws long k flag w f x bytes v low high counted within first is flag_is second told number low_is low_le
-    high_is le_high = record {
-      low = omega (arith, low_is, low_le);
-      high = omega (arith, high_is, le_high);
-      words = inr (record {
-        within = omega (arith, counted, within);
-        first = sym first ∙ is ∙ flag_is;
-        second = sym second ∙ sym told ∙ number;
-        after = refl;
-      });
-    }
 
 -- ---- one value and one end
 small : (flag : Flag) (v : ℕ) → v ≤ greatest flag → v < 2 ^ 64

@@ -2,7 +2,7 @@
 use Rattle.std.proofs.Common.{◌≡◌, ◌≢◌, ◌⊎◌, ℕ, ◌+◌, ◌-◌, ◌^◌, ◌<◌, ◌≤◌, Bool, true, false, List, [], ◌++◌, length, drop, codes, Option, None, Some, IfSome, refl, sym, ap, subst, ◌∙◌, inl, inr, arith, append-nil}
 use Rattle.std.specs.Io.KnownBytes.{Consumes, IsAtEnd}
 use Rattle.std.proofs.lemmas.List.{drop_all}
-use Rattle.grid_ports.specs.Bytes.{Takes, TakesAtMost}
+use Rattle.grid_ports.specs.Bytes.{Takes, TakesAtMost, AppendsPrefix}
 use Rattle.grid_ports.specs.Faults.{count_up}
 use Rattle.grid_ports.proofs.BytesLemmas.{Appends-none, Takes-from_consumed}
 use Rattle.grid_text.specs.Document.{IsDocument}
@@ -48,6 +48,10 @@ HasWritten-nothing O f a s t outcome = record {
     not_fault : NoMemory ≡ WriteFault → ⊥
     not_fault e = cc
 
+-- nothing is a prefix of each text
+pub nothing_of : (a : Option (List ℕ)) (answer : List ℕ) → AppendsPrefix a a answer
+nothing_of a answer = ([], (answer, refl), Appends-none a)
+
 -- ---- the text that was left
 -- what holds of the bytes that were read to the end holds of the text that was left
 pub IfSome-read : (left left' : Option (List ℕ)) (bytes : List ℕ) (P : List ℕ → Type 0) → Consumes left left' bytes
@@ -90,10 +94,6 @@ module _ (limit : ℕ) where
 -- ---- the top call
 count-up : (n : ℕ) → n < 2 ^ 64 - 1 → count_up n ≡ n + 1
 count-up n below = grind arith
-
--- the mode that the words ask for
-pub form_of : (words : List (List ℕ)) (mode other : Mode) → other ≡ mode → IsForm words other → IsForm words mode
-form_of words mode other same form = subst (IsForm words) same form
 
 -- where the source tells the text, a call that ended has ended so
 pub HasEnded-written : (words : List (List ℕ)) (mode : Mode) (result : Status) (left left' : Option (List ℕ)) (f g : ℕ)

@@ -1,9 +1,12 @@
 use Rattle.std.proofs.Common.{map, string_bytes, Global, refl, subst}
-use Rattle.grid_job.specs.Outcome.{IsForm}
+use Rattle.grid_job.specs.Outcome.{IsForm, IsOutcome}
+use Rattle.grid_job.specs.declared.statuses.Status.TheVariants.{NoMemory}
+use Rattle.grid_job.proofs.Generated.MadeLemmas.{exists_made}
+use Rattle.grid_job.proofs.Outcomes.OutcomeLemmas.{some_outcome}
 use Rattle.grid_job.specs.declared.modes.Mode.TheVariants.{Run, Cert, Check, Make}
 use Rattle.grid_job.proofs.Outcomes.ModeLemmas.{told_apart}
 use Rattle.grid_job.proofs.Outcomes.OptionLemmas.{IsMake-one, IsMake-size, IsMake-seed}
-use Rattle.grid_job.proofs.Outcomes.WrittenLemmas.{HasEnded-written, HasBegun-written, HasWritten-made, IsMade-same, left_alone, ended_not_read_fault, begun_not_read_fault, status_of_reading, status_of_mode}
+use Rattle.grid_job.proofs.Outcomes.WrittenLemmas.{HasEnded-written, HasBegun-written, HasWritten-made, HasWritten-unread, nothing_of, IsMade-same, left_alone, ended_not_read_fault, begun_not_read_fault, status_of_reading, status_of_mode}
 use Rattle.grid_job.proofs.answers.answer_words.Goals as goal
 
 -- ---- a run
@@ -15,7 +18,7 @@ returns-in-Some-Run-clause-ended g c is_end =
     (c.run.ensures.written (ended_not_read_fault c.run.result is_end))
 
 pub returns-in-Some-Run-clause-begun : goal.returns-in-Some-Run-clause-begun
-returns-in-Some-Run-clause-begun g c begun =
+returns-in-Some-Run-clause-begun g c _ _ begun =
     let ws = map (string_bytes {Z = Global}) c.args.words.now in
     HasBegun-written ws Run c.run.result _ _ _ _ _ (subst (IsForm ws) c.in-Some-Run.field-0-is
     c.in-Some-Run.ensures.some)
@@ -47,7 +50,7 @@ returns-in-Some-Cert-clause-ended g c is_end =
     (c.cert.ensures.written (ended_not_read_fault c.cert.result is_end))
 
 pub returns-in-Some-Cert-clause-begun : goal.returns-in-Some-Cert-clause-begun
-returns-in-Some-Cert-clause-begun g c begun =
+returns-in-Some-Cert-clause-begun g c _ _ begun =
     let ws = map (string_bytes {Z = Global}) c.args.words.now in
     HasBegun-written ws Cert c.cert.result _ _ _ _ _
     (subst (IsForm ws) c.in-Some-Cert.field-0-is c.in-Some-Cert.ensures.some)
@@ -79,7 +82,7 @@ returns-in-Some-Check-clause-ended g c is_end =
     (c.check.ensures.written (ended_not_read_fault c.check.result is_end))
 
 pub returns-in-Some-Check-clause-begun : goal.returns-in-Some-Check-clause-begun
-returns-in-Some-Check-clause-begun g c begun =
+returns-in-Some-Check-clause-begun g c _ _ begun =
     let ws = map (string_bytes {Z = Global}) c.args.words.now in
     HasBegun-written ws Check c.check.result _ _ _ _ _
     (subst (IsForm ws) c.in-Some-Check.field-0-is c.in-Some-Check.ensures.some)
@@ -127,7 +130,7 @@ returns-in-Some-Make-clause-ended g c is_end =
     (left_alone n seed _ _ refl) (HasWritten-made n seed _ c.make.result _ _ _ _ c.make.ensures.written)
 
 pub returns-in-Some-Make-clause-begun : goal.returns-in-Some-Make-clause-begun
-returns-in-Some-Make-clause-begun g c begun =
+returns-in-Some-Make-clause-begun g c _ _ begun =
     let ws = map (string_bytes {Z = Global}) c.args.words.now in
     let n = c.in-Some-Make.size in
     let seed = c.in-Some-Make.seed in
@@ -163,4 +166,19 @@ returns-in-Some-Make-clause-make_begun g c size seed make _ =
     (part.1, IsMade-same _ _ _ _ _ same.0 same.1 part.2.1, part.3)
 
 pub returns-in-None-clause-make_answer : goal.returns-in-None-clause-make_answer
-returns-in-None-clause-make_answer g c size seed make _ = absurd (c.in-None.ensures.none (Make size seed) make)
+returns-in-None-clause-make_answer g c size seed make _ =
+    let ws = map (string_bytes {Z = Global}) c.args.words.now in
+    absurd (c.in-None.ensures.none (Make size seed) make)
+
+-- ---- memory ran out before anything was done
+pub returns-in_default-clause-begun : goal.returns-in_default-clause-begun
+returns-in_default-clause-begun g c mode form _ =
+    let ws = map (string_bytes {Z = Global}) c.args.words.now in
+    HasBegun-written ws mode NoMemory _ 0 0 _ _ form
+    (HasWritten-unread (IsOutcome mode) _ 0 _ (λ text. some_outcome ws mode text form))
+
+pub returns-in_default-clause-make_begun : goal.returns-in_default-clause-make_begun
+returns-in_default-clause-make_begun g c size seed make _ =
+    let ws = map (string_bytes {Z = Global}) c.args.words.now in
+    let made = exists_made size seed (IsMake-size ws size seed make) in
+    (made.0, made.1, nothing_of _ made.0)
