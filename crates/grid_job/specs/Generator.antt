@@ -2,15 +2,13 @@
 --     next_number s       the number after s
 --     number_after k s    the number k steps after s
 --     draw s m            what the number s draws below m
---     exchanged i s xs    the list after exchanges at the places i down to 1, each with a place at or below it that the
---                         next
---                         number draws, from the number after s on
+--     exchanged i s xs    the list after exchanges at the places i down to 1, each with a place at or below it that
+--                         the next number draws, from the number after s on
 --     shuffled n s        the list of 0 to n - 1 after these exchanges at all places but 0
 --     columns n seed      the columns in the order in which the made grid goes through them: shuffled by the seed
 --     rows n seed         the rows, shuffled by the numbers that follow
---     IsGridThrough cs rs g    the X of the i-th of these columns is in the i-th of these rows, and so is the O of the
---                              next
---                              column; after the last comes the first
+--     IsGridThrough cs rs g    the X of the i-th of these columns is in the i-th of these rows, and so is the O of
+--                              the next column; after the last comes the first
 --     made_commands       the commands of each made script
 --     IsMadeScript n seed s    the script of this size and seed
 use Rattle.std.specs.Prelude.{◌≡◌, ℕ, zero, suc, ◌+◌, ◌-◌, ◌*◌, ◌/◌, ◌%◌, ◌^◌, ◌<◌, List, [], ◌∷◌, length, slice_index}

@@ -1,10 +1,9 @@
 -- The hat of a grid: the quotient of its table by one factor 1 + q^-1 t^-1 for each column beyond one per component,
 -- where a row (m, a, d) is the term d q^m t^a. A grid has at most one.
 --     hat_exponent g     the number of these factors
---     IsHat g hat        the rows are of positive ranks, in the order of tables, and their product with the factors is
---                        the
---                        table of the grid
---     IsHatText g text   the exponent and the rows of the hat; or that there is none, exactly where there is none
+--     IsHat g hat        the rows are of positive ranks, in the order of tables, and their product with the factors
+--                        is the table of the grid
+--     IsHatText g text   the exponent and the rows of the hat; or that there is none, exactly if there is none
 use Rattle.std.specs.Prelude.{◌≡◌, ℕ, ◌-◌, List, map, Option, MatchOption}
 use Rattle.hat_division.specs.Product.{IsQuotient}
 use Rattle.hat_division.specs.declared.tables.TableRow.{TableRow}

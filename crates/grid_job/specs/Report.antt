@@ -27,11 +27,9 @@ pub record IsTableText (g : Marks) (text : List ℕ) : Type 0 where
   pub table : IsHomologyTable g (map homology_row rows)
   pub lines : text ≡ table_lines rows
 
--- the classical invariants of the front; the table of ranks; the hat, or that there is none; the verdict of the class
--- of
--- x+ or x-, and of the chain in force, each with its evidence; the states of the border, and those of the chain in
--- force,
--- in ascending order; nothing where a command makes what is in force
+-- the classical invariants of the front; the table of ranks; the hat, or that there is none; the verdict of the
+-- class of x+ or x-, and of the chain in force, each with its evidence; the states of the border, and those of the
+-- chain in force, in ascending order; nothing if a command makes what is in force
 abbrev pub IsAnswer : InForce → Command → List ℕ → Type 0
 IsAnswer p command.Front text = text ≡ front_line (thurston_bennequin p.grid) (rotation p.grid) (components p.grid)
 IsAnswer p command.Ranks text = IsTableText p.grid text

@@ -1,8 +1,6 @@
 -- A report written answer by answer.
--- Each script has a report: a front line and a border line are given, each grid has a table, and a hat or
--- none, and each chain has a verdict. So what was written after the first k commands can be completed to a report at
--- any
--- place.
+-- Each script has a report: a front line and a border line are given, each grid has a table, and a hat or none, and
+-- each chain has a verdict. So what was written after the first k commands can be completed to a report at any place.
 use Rattle.std.proofs.Common.{◌≡◌, ℕ, zero, suc, ◌+◌, ◌<◌, ◌≤◌, List, [], ◌∷◌, ◌++◌, length, get_or, take, drop, Option, refl, sym, ap, subst, ◌∙◌, append_assoc, append-nil, drop-cons}
 use Rattle.std.specs.Io.KnownBytes.{Appends}
 use Rattle.std.proofs.lemmas.List.{take-append-drop, take_more, take_all}
