@@ -1,6 +1,7 @@
 -- The words of states: each digit is the byte 48 and more, so that no two lists have one word.
-use Rattle.std.proofs.Common.{◌≡◌, ◌≢◌, ℕ, zero, suc, ◌+◌, ◌<◌, ◌≤◌, List, [], ◌∷◌, ◌++◌, length, get_or, set, take, Option, None, Some, IfSome, IfNone, IsNone, refl, sym, ap, subst, ◌∙◌, arith}
-use Rattle.std.proofs.lemmas.List.{take_more, take_more_set, map-append, length-map}
+use Rattle.std.proofs.Common.{IsAscii, slice_index, inl, inr, ◌≡◌, ◌≢◌, ℕ, zero, suc, ◌+◌, ◌<◌, ◌≤◌, List, [], ◌∷◌, ◌++◌, length, get_or, set, take, Option, None, Some, IfSome, IfNone, IsNone, refl, sym, ap, subst, ◌∙◌, arith}
+use Rattle.std.proofs.lemmas.List.{take_more, take_more_set, take_all, map-append, length-map, get_or-map, get_or_past}
+use Rattle.std.proofs.lemmas.Bool.{cases_lt}
 use Rattle.state_rank.specs.States.{IsState, state_word}
 
 -- a word is that of one list alone
@@ -68,3 +69,30 @@ pub read_back-of : (word : List ℕ) (r : Option (List ℕ)) → IfSome r (λ x.
     → r ≡ Some x
 read_back-of word None is none x state e = absurd (none x state e)
 read_back-of word (Some y) is none x state e = ap Some (state_word_injective y x (sym is ∙ e))
+
+-- one more digit
+pub digits-more : (digits rows : List ℕ) (k d : ℕ) → k < length digits → k < length rows
+    → take k digits ≡ state_word (take k rows)
+    → take (k + 1) (set digits k (48 + get_or rows k d)) ≡ state_word (take (k + 1) rows)
+digits-more digits rows k d room within e =
+    take_more_set digits k (48 + get_or rows k d) room
+    ∙ ap (λ w. w ++ (48 + get_or rows k d) ∷ []) e
+    ∙ sym (map-append (λ (q : ℕ). 48 + q) (take k rows) (get_or rows k d ∷ []))
+    ∙ ap state_word (sym (take_more rows k d within))
+
+-- all digits
+pub digits-all : (digits rows x : List ℕ) (k : ℕ) → rows ≡ x → k ≡ length rows
+    → take k digits ≡ state_word (take k rows) → take (length x) digits ≡ state_word x
+digits-all digits rows x k same all e =
+    ap (λ n. take n digits) (ap length (sym same) ∙ sym all) ∙ e
+    ∙ ap state_word (take_all k rows (omega arith) ∙ same)
+
+-- the word of a state is ASCII
+pub IsAscii-state_word : (x : List ℕ) → IsState x → IsAscii (state_word x)
+IsAscii-state_word x state i = elim (cases_lt i (length x)) [
+  | inl within ↦
+      let row : slice_index x i < 9 =
+      omega (arith, state.bijection.small i within, state.size.greatest) in
+      omega (arith, get_or-map (λ (q : ℕ). 48 + q) x i 0 0 within, row)
+  | inr past ↦ omega (arith, get_or_past (state_word x) i 0 (omega (arith, past, length-state_word x)))
+]

@@ -18,7 +18,7 @@ use std::marker::Model;
 /// It has one point on each vertical circle and one on each horizontal circle of the torus. Contracts
 /// see it as the list that says, for each vertical circle from circle 0 on, on which horizontal circle
 /// its point is (Ozsváth, Stipsicz and Szabó, "Grid Homology for Knots and Links", chapter 4).
-#[derive(Copy, Debug)]
+#[derive(Copy)]
 pub struct State {
     rows: [u8; ROOM],
     size: u8,

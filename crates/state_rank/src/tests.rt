@@ -58,6 +58,8 @@ fn words(rt: HostRuntime) -> Result<(), Fail> {
     state.push_word(&mut text)?;
     assert_eq!(rt; text.as_slice(), b"1203".as_slice());
     assert_eq!(rt; State::of_word(&text), Some(state));
+    let shown = format!(in rt.alloc(); "{state:?}")?;
+    assert_eq!(rt; shown.as_str(), "1203");
     // too short, too long, a row twice, a row too high, no digit
     let cases: [&str; 6] = ["", "0", "01234567890", "00", "02", "0a"];
     for word in cases {

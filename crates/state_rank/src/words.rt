@@ -1,9 +1,10 @@
 //! The words of states.
-ghost use Rattle.std.specs.Prelude.{◌≡◌, ◌≢◌, ℕ, ◌≤◌, ◌++◌, List, Some, length, take, IfSome, IfNone, OnOk};
+ghost use Rattle.std.specs.Prelude.{◌≡◌, ◌≢◌, ℕ, ◌≤◌, ◌++◌, List, Some, length, take, IfSome, IfNone, OnOk, OnErr};
 ghost use Rattle.state_rank.specs.States.{IsState, state_word};
 
 use crate::{ROOM, State};
 use std::alloc::AllocError;
+use std::fmt::{self, Debug, Formatter, Write};
 
 impl State {
     /// The state whose word it is: its rows as digits, from circle 0 on, with nothing between them.
@@ -33,12 +34,38 @@ impl State {
     ///
     /// `AllocError` if the allocator refuses.
     pub fn push_word(&self, text: &mut Vec<u8>) -> Result<(), AllocError>
-        ensures { OnOk result (text.new.items ≡ text.old.items ++ state_word self.now) }
+        ensures ok { OnOk result (text.new.items ≡ text.old.items ++ state_word self.now) }
+        ensures err { OnErr result (text.new.items ≡ text.old.items) }
     {
-        for row in self.rows() {
-            text.push(b'0' + *row)?;
+        let digits = self.digits();
+        text.extend_from_slice(&digits[..self.rows().len()])
+    }
+
+    // The digits of the rows, in front of an array.
+    fn digits(&self) -> [u8; ROOM]
+        ensures { take (length self.now) result ≡ state_word self.now }
+    {
+        let mut digits = [0; ROOM];
+        for (c, row) in self.rows().iter().enumerate() {
+            digits[c] = b'0' + *row;
         }
-        Ok(())
+        digits
+    }
+}
+
+/// The word of the state.
+impl Debug for State {
+    ghost use Rattle.std.specs.Prelude.{Some};
+    ghost use Rattle.state_rank.specs.States.{state_word};
+
+    ghost debug_output = { λ x. Some (state_word x) };
+
+    fn fmt<W: Write>(&self, f: &mut Formatter<W>) -> fmt::Result {
+        let digits = self.digits();
+        match str::from_utf8(&digits[..self.rows().len()]) {
+            Ok(word) => f.write_str(word),
+            Err(_) => unreachable!(),
+        }
     }
 }
 
