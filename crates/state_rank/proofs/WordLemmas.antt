@@ -91,7 +91,7 @@ digits-all digits rows x k same all e =
 pub IsAscii-state_word : (x : List ℕ) → IsState x → IsAscii (state_word x)
 IsAscii-state_word x state i = elim (cases_lt i (length x)) [
   | inl within ↦
-      let row : slice_index x i < 9 =
+      let row : slice_index x i < 10 =
       omega (arith, state.bijection.small i within, state.size.greatest) in
       omega (arith, get_or-map (λ (q : ℕ). 48 + q) x i 0 0 within, row)
   | inr past ↦ omega (arith, get_or_past (state_word x) i 0 (omega (arith, past, length-state_word x)))

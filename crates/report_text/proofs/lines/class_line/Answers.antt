@@ -13,7 +13,7 @@ returns c =
     let sign =
     c.in_ok-push.ensures.items ∙ ap₂ (λ (l s : List ℕ). l ++ s) c.in_ok-line.ensures.items c.sign_byte.ensures in
     let before_x = c.in_ok-push-2.ensures.items ∙ ap (λ l. l ++ 32 ∷ []) sign in
-    let x = c.in_ok-push_word.ensures ∙ ap (λ l. l ++ state_word c.args.x.now) before_x in
+    let x = c.in_ok-push_word.ensures.ok ∙ ap (λ l. l ++ state_word c.args.x.now) before_x in
     let at = c.in_ok-extend_from_slice.ensures.items ∙ ap (λ l. l ++ codes " at ") x in
     let m = printed _ _ d.m (search rules) c.in_ok-push_number.ensures ∙ ap (λ l. l ++ signed_decimal d.m) at in
     let space = c.in_ok-push-3.ensures.items ∙ ap (λ l. l ++ 32 ∷ []) m in
