@@ -5,7 +5,7 @@
 //! document and a report are is said in specs/, with no trace of how they are read and written.
 //! Stands on `grid_ports`, on `grid_text`, which judges texts, on `front_data`, `rectangles`, `homology_cert`,
 //! `hat_division` and `legendrian_class`, which answer the commands, and on `report_text`, which prints their
-//! answers. `homology_cert` makes, reads and checks certificates too.
+//! answers. `homology_cert` makes, reads and checks certificates too. `clap` reads the options of `make`.
 //!
 //! Example: the word `run` and the lines `grid 2`, `O 1 0`, `X 0 1`, `hat` and `end` write the lines
 //! `hat exponent 1 rows 1` and `rank 0 0 1`, and the answer is `Done`.

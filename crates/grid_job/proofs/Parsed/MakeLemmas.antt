@@ -105,9 +105,6 @@ module _ (w : Text) (f : Flag) (a b : Text) (args : List Text) (command : w ≡ 
   two_words : (3 ≤ length (w ∷ args)) × (length (w ∷ args) ≤ 5) × (list_any (λ u. bytes_eq u dashes) (w ∷ args) ≡ false)
   two_words = by_words two.0 two.1 two.2
     where
-      Fine : List Text → Type 0
-      Fine us = (3 ≤ length (w ∷ us)) × (length (w ∷ us) ≤ 5) × (list_any (λ u. bytes_eq u dashes) (w ∷ us) ≡ false)
-
       by_words : (rest : List Text) → IsOption f a rest args → IsOption (other f) b [] rest
           → (3 ≤ length (w ∷ args)) × (length (w ∷ args) ≤ 5) × (list_any (λ u. bytes_eq u dashes) (w ∷ args) ≡ false)
       by_words rest (inl e) (inl d) =

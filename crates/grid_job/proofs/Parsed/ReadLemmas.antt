@@ -3,7 +3,7 @@ use Rattle.std.proofs.Common.{◌≡◌, ◌⊎◌, ℕ, Bool, true, false, not,
 use Rattle.std.specs.Prelude.{fold, if◌then◌else◌, ◌==◌, ◌+◌}
 use Rattle.clap.proofs.FaultLemmas.{leaf_fault}
 use Rattle.clap.specs.declared.parser.matches.ValueSource.TheVariants.{CommandLine}
-use Rattle.clap.specs.Walk.{Row, Text, walked, settled_rows, used, has_row, nothing_held, walk_from, reading_by, with_default}
+use Rattle.clap.specs.Walk.{Row, Text, walked, settled_rows, used, has_row, nothing_held, walk_from, with_default}
 use Rattle.clap.specs.Simple.{built, matches_of}
 use Rattle.clap.specs.Faults.{fault_of, walk_fault, settle_fault, option_fault, level_fault}
 use Rattle.std.specs.List.{prefix_len}
@@ -150,9 +150,6 @@ module _ (rows : List Row) (pending : Option (Text × List Text)) (w : Text) (ws
       by_value f (Some v) is free = read_attached f v is free
 
 -- ---- two options
-abbrev row : Flag → Text → Row
-row f v = record { id = flag_id f; values = v ∷ []; count = None; source = Some CommandLine; reading = reading_by (read_rule f) }
-
 -- all that a walk to the end of the words may have read: nothing, one option, or both
 pub record ReadsBoth (words : List Text) : Type 0 where
   pub first : Flag

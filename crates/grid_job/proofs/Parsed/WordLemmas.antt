@@ -24,12 +24,7 @@ shape = (built make_command).top
 abbrev pub rules : List Rule
 rules = read_rule Size ∷ read_rule Seed ∷ []
 
-rules_are : shape.rules ≡ rules
-rules_are = refl
-
-pub simple : is_simple make_command ≡ true
-simple = refl
-
+-- `clap` says of such a command which words it refuses, and what it finds
 pub simple_and_free : is_simple_and_free make_command ≡ true
 simple_and_free = refl
 
