@@ -2,7 +2,7 @@
 use Rattle.std.proofs.Common.{◌≡◌, ℕ, zero, suc, ℤ, pos, ◌+ℤ◌, ◌+◌, ◌<◌, ◌≤◌, Bool, true, false, not, cond, ◌&&◌, ◌||◌, eqb, ltb, List, [], ◌∷◌, ◌++◌, map, length, length-append, take, le_trans, get_or, set, length-set, replicate, Option, Some, None, is_some, ◌⊎◌, inl, inr, refl, sym, ap, ap₂, subst, ◌∙◌, arith}
 use Rattle.std.specs.Prelude.{IsTrue, ◌↔◌}
 use Rattle.std.specs.List.Sorted.{IsPermutation}
-use Rattle.std.proofs.lemmas.List.{length-replicate, take_more, map-append}
+use Rattle.std.proofs.lemmas.List.{get_or_default, length-replicate, take_more, map-append}
 use Rattle.std.proofs.lemmas.Bool.{eq-eqb, eqb-true, ne_eqb, lt-ltb, ltb-true, ltb-false, true≢false, and_parts, and_from}
 use Rattle.std.proofs.lemmas.List.Elements.{All-nil, All-push}
 use Rattle.std.proofs.lemmas.List.Sorted.{All-permutation, sum_by-IsPermutation, length_permutation}
@@ -223,6 +223,23 @@ module _ (D : Complex ℤ) (n : ℕ) (cells : List Cell) (s : AreCells D n cells
     degrees = All-permutation (λ x. D.degree x.code ≡ Some x.maslov) cells sorted p s.degrees;
     counts = λ c. sum_by-IsPermutation (λ x. cond (eqb x.code c) 1 0) cells sorted p ∙ s.counts c;
   }
+
+-- each has a code below n
+pub cell-below : (D : Complex ℤ) (n : ℕ) (cells : List Cell) → AreCells D n cells → (k : ℕ) (d : Cell) → k < length cells
+    → (get_or cells k d).code < n
+unfolding code_at
+cell-below D n cells s k d l =
+    subst (λ (e : Cell). e.code < n) (get_or_default cells k no_cell d l) (code-below D n cells s k l)
+
+-- no code comes twice
+pub cells-apart : (D : Complex ℤ) (n : ℕ) (cells : List Cell) → AreCells D n cells → (j k : ℕ) (d : Cell) → j < k
+    → k < length cells → (get_or cells j d).code ≡ (get_or cells k d).code → ⊥
+unfolding code_at
+cells-apart D n cells s j k d l m e =
+    let same : j ≡ k = once D n cells s j k (omega arith) m
+    (ap (λ (x : Cell). x.code) (get_or_default cells j no_cell d (omega arith)) ∙ e
+    ∙ ap (λ (x : Cell). x.code) (get_or_default cells k d no_cell m)) in
+    absurd (omega arith)
 
 pub AreCells-none : (D : Complex ℤ) → AreCells D 0 []
 AreCells-none D = record {

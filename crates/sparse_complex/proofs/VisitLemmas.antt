@@ -1,5 +1,14 @@
 -- The visit of the states of one degree, branch by branch.
-use Rattle.std.proofs.Common.{◌≡◌, ℕ, ℤ, zero, suc, ◌+◌, ◌-◌, ◌*◌, ◌/◌, ◌%◌, ◌^◌, ◌<◌, ◌≤◌, List, [], ◌∷◌, ◌++◌, length, map, take, drop, swap, slice_index, None, refl, ap, ap₂, subst, ◌∙◌, sym, arith, add-one, append_assoc, length-append, min, bit_or, ◌+ℤ◌, ◌-ℤ◌}
+use Rattle.std.proofs.Common.{◌≡◌, inr, inl, false, ◌⊎◌, ◌&&◌, not, ltb, slice_index_or, Some, ℕ, ℤ, zero, suc, ◌+◌, ◌-◌, ◌*◌, ◌/◌, ◌%◌, ◌^◌, ◌<◌, ◌≤◌, List, [], ◌∷◌, ◌++◌, length, map, take, drop, swap, slice_index, None, refl, ap, ap₂, subst, ◌∙◌, sym, arith, add-one, append_assoc, length-append, min, bit_or, ◌+ℤ◌, ◌-ℤ◌, ◌<ℤ◌}
+use Rattle.std.proofs.lemmas.Bool.{cases_lt, cases_order, lt-ltb, le-ltb, false≢true}
+use Rattle.std.specs.List.Sorted.{IsSortedBy, IsStableBy}
+use Rattle.std.specs.Ordering.{int_cmp, is_lt}
+use Rattle.std.specs.Cmp.{int_cmp_is}
+use Rattle.std.specs.declared.cmp.Ordering.TheVariants.{Less, Equal}
+use Rattle.std.proofs.lemmas.Cmp.{int_cmp_total}
+use Rattle.std.proofs.lemmas.List.Sorted.{ties_stay_sorted}
+use Rattle.std.proofs.lemmas.List.MinMax.{IsStrictWeakOrder-by_number, ranks_by}
+use Rattle.std.proofs.Math.IntN.{pos, negsuc}
 use Rattle.std.proofs.lemmas.Int.{ints}
 use Rattle.std.proofs.lemmas.List.{length-take-le, length-drop, get_or-take, get_or_append_left, get_or-append_right, length-map, take-append-drop}
 use Rattle.std.proofs.lemmas.Nat.{one_shl}
@@ -23,8 +32,8 @@ use Rattle.gradings.specs.Sums.{weight, least, sum_before, rows_used}
 use Rattle.sparse_complex.specs.declared.builds.Branch.{Branch}
 use Rattle.sparse_complex.specs.declared.slices.Cell.{Cell}
 use Rattle.sparse_complex.specs.Inner.Built.{AreCells}
-use Rattle.sparse_complex.specs.Inner.Visits.{IsBranch}
-use Rattle.sparse_complex.proofs.BuildLemmas.{AreCells-skip}
+use Rattle.sparse_complex.specs.Inner.Visits.{IsBranch, AreFirstCells, IsAscending}
+use Rattle.sparse_complex.proofs.BuildLemmas.{AreCells-skip, AreCells-push, AreCells-none, cell-below, cells-apart}
 use Rattle.sparse_complex.proofs.GridPartLemmas.{degree-other}
 
 -- ---- lists that begin alike
@@ -40,16 +49,57 @@ sum_before-alike g c x z h =
     sum_below_same c (λ d. weight g d (slice_index z d)) (λ d. weight g d (slice_index x d))
     (λ d l. ap (weight g d) (h d l))
 
+-- a code that is no cell adds nothing
+pub AreFirstCells-skip : (D : Complex ℤ) (n : ℕ) (cells : List Cell) → AreFirstCells D n cells → D.degree n ≡ None
+    → AreFirstCells D (n + 1) cells
+AreFirstCells-skip D n cells s none =
+    record { are_cells = AreCells-skip D n cells s.are_cells none; rising = s.rising }
+
+-- one that is a cell is the last
+pub AreFirstCells-push : (D : Complex ℤ) (n : ℕ) (cells : List Cell) → AreFirstCells D n cells → (m : ℤ)
+    → D.degree n ≡ Some m → AreFirstCells D (n + 1) (cells ++ record { code = n; maslov = m } ∷ [])
+AreFirstCells-push D n cells s m live =
+    record {
+      are_cells = AreCells-push D n cells s.are_cells m live;
+      rising = λ k d l.
+          let long = length-append cells (record { code = n; maslov = m } ∷ []) in
+          elim (cases_lt (k + 1) (length cells)) [
+            | inl p ↦
+                let a = get_or_append_left cells (record { code = n; maslov = m } ∷ []) d k (omega arith) in
+                let b = get_or_append_left cells (record { code = n; maslov = m } ∷ []) d (k + 1) p in
+                subst (λ (e : Cell × Cell). e.0.code < e.1.code) (λ i. (sym a i, sym b i)) (s.rising k d p)
+            | inr p ↦
+                let a = get_or_append_left cells (record { code = n; maslov = m } ∷ []) d k (omega arith) in
+                let b : slice_index_or (cells ++ record { code = n; maslov = m } ∷ []) (k + 1) d
+                ≡ record { code = n; maslov = m } =
+                get_or-append_right cells (record { code = n; maslov = m } ∷ []) (length cells) (k + 1) d refl p
+                ∙ ap (λ j. slice_index_or (record { code = n; maslov = m } ∷ []) j d)
+                (none (k + 1) (length cells) (omega arith)) in
+                subst (λ (e : Cell × Cell). e.0.code < e.1.code) (λ i. (sym a i, sym b i))
+                (cell-below D n cells s.are_cells k d (omega arith))
+          ];
+    }
+  where
+    none : (i n : ℕ) → i ≡ n → i - n ≡ 0
+    none i n e = omega arith
+
+pub AreFirstCells-none : (D : Complex ℤ) → AreFirstCells D 0 []
+AreFirstCells-none D = record { are_cells = AreCells-none D; rising = λ k d l. absurd (omega arith) }
+
+pub AreFirstCells-same : (D : Complex ℤ) (n : ℕ) (cells cells_too : List Cell) → cells_too ≡ cells
+    → AreFirstCells D n cells → AreFirstCells D n cells_too
+AreFirstCells-same D n cells cells_too e s = subst (AreFirstCells D n) (sym e) s
+
 -- codes that are no cells add nothing
-AreCells-skip_all : (D : Complex ℤ) (base : ℕ) (cells : List Cell) → AreCells D base cells → (m : ℕ)
-    → ((k : ℕ) → base ≤ k → k < base + m → D.degree k ≡ None) → AreCells D (base + m) cells
-AreCells-skip_all D base cells s zero none = subst (λ n. AreCells D n cells) (sym (zero_more base)) s
+AreFirstCells-skip_all : (D : Complex ℤ) (base : ℕ) (cells : List Cell) → AreFirstCells D base cells → (m : ℕ)
+    → ((k : ℕ) → base ≤ k → k < base + m → D.degree k ≡ None) → AreFirstCells D (base + m) cells
+AreFirstCells-skip_all D base cells s zero none = subst (λ n. AreFirstCells D n cells) (sym (zero_more base)) s
   where
     zero_more : (n : ℕ) → n + 0 ≡ n
     zero_more n = omega arith
-AreCells-skip_all D base cells s (suc m) none =
-    subst (λ n. AreCells D n cells) (moved base m)
-    (AreCells-skip D (base + m) cells (AreCells-skip_all D base cells s m (λ k l h. none k l (omega arith)))
+AreFirstCells-skip_all D base cells s (suc m) none =
+    subst (λ n. AreFirstCells D n cells) (moved base m)
+    (AreFirstCells-skip D (base + m) cells (AreFirstCells-skip_all D base cells s m (λ k l h. none k l (omega arith)))
     (none (base + m) (omega arith) (omega arith)))
   where
     moved : (n m : ℕ) → n + m + 1 ≡ n + suc m
@@ -99,10 +149,10 @@ module _ (g : Marks) (grid : IsGrid g) (a : ℤ) (b : Branch) (s : IsBranch g a 
   -- where the sum that is left cannot be reached, it has no cell
   pub branch-none : ((z : List ℕ) (c : ℕ) → IsBijection (size g) z → c ≤ size g → rows_used c z ≡ b.used
       → b.left +ℤ sum_before g c z ≡ sum_before g (size g) z → ⊥)
-      → (cells : List Cell) → AreCells (at_alexander a (grid_complex g)) b.base cells
-      → AreCells (at_alexander a (grid_complex g)) (b.base + b.count) cells
+      → (cells : List Cell) → AreFirstCells (at_alexander a (grid_complex g)) b.base cells
+      → AreFirstCells (at_alexander a (grid_complex g)) (b.base + b.count) cells
   branch-none cannot cells below =
-      AreCells-skip_all (at_alexander a (grid_complex g)) b.base cells below b.count
+      AreFirstCells-skip_all (at_alexander a (grid_complex g)) b.base cells below b.count
       (λ k low high.
       let within = branch-within in
       let z = unrank (size g) k in
@@ -187,7 +237,7 @@ pub record IsGoneThrough (g : Marks) (a : ℤ) (b : Branch) (count next base : �
   pub first_is : (r : ℕ) (later : List ℕ) → back ≡ r ∷ later → first ≡ take b.column b.first ++ r ∷ (front ++ later)
   pub state : IsBijection (size g) first
   pub base_is : base ≡ b.base + length front * count
-  pub cells_below : AreCells (at_alexander a (grid_complex g)) base cells
+  pub cells_below : AreFirstCells (at_alexander a (grid_complex g)) base cells
 
 -- the branch of the next part
 abbrev pub part_of : Branch → List ℕ → ℕ → ℕ → ℕ → ℤ → Branch
@@ -200,7 +250,7 @@ module _ (g : Marks) (grid : IsGrid g) (a : ℤ) (b : Branch) (s : IsBranch g a 
   rows_left = length-left g grid a b s
 
   -- before the first part
-  pub gone-start : (cells : List Cell) → AreCells (at_alexander a (grid_complex g)) b.base cells
+  pub gone-start : (cells : List Cell) → AreFirstCells (at_alexander a (grid_complex g)) b.base cells
       → IsGoneThrough g a b count (b.column + 1) b.base b.first cells
   gone-start cells below =
       record {
@@ -320,7 +370,7 @@ module _ (g : Marks) (grid : IsGrid g) (a : ℤ) (b : Branch) (s : IsBranch g a 
 
     -- and when it is gone through, the others are ahead
     pub gone-next : (new : List ℕ) (cells_new : List Cell) → new ≡ swap first b.column (min next (size g - 1))
-        → AreCells (at_alexander a (grid_complex g)) (base + count) cells_new
+        → AreFirstCells (at_alexander a (grid_complex g)) (base + count) cells_new
         → IsGoneThrough g a b count (next + 1) (base + count) new cells_new
     gone-next new cells_new new_is below =
         let rows = rows_left in
@@ -390,11 +440,11 @@ module _ (g : Marks) (grid : IsGrid g) (a : ℤ) (b : Branch) (s : IsBranch g a 
 
   -- when all parts are gone through, so is the branch
   pub gone-end : (next base : ℕ) (first : List ℕ) (cells : List Cell) → IsGoneThrough g a b count next base first cells
-      → next ≡ size g + 1 → AreCells (at_alexander a (grid_complex g)) (b.base + b.count) cells
+      → next ≡ size g + 1 → AreFirstCells (at_alexander a (grid_complex g)) (b.base + b.count) cells
   gone-end next base first cells t last =
       let passed = t.passed in
       let all : length t.front ≡ size g - b.column = omega arith in
-      subst (λ n. AreCells (at_alexander a (grid_complex g)) n cells)
+      subst (λ n. AreFirstCells (at_alexander a (grid_complex g)) n cells)
       (t.base_is ∙ ap (λ k. b.base + k * count) all ∙ ap (λ k. b.base + k) parts_whole) t.cells_below
 
 -- ---- the whole visit
@@ -417,3 +467,49 @@ IsBranch-all g a first left count n grid long first_is left_is count_is =
   where
     same : (m : ℕ) → m ≡ m - 0
     same m = omega arith
+
+-- ---- the order of the cells
+int_order : (m n : ℤ) → (m <ℤ n) ⊎ ((m ≡ n) ⊎ (n <ℤ m))
+int_order (pos a) (pos b) = elim (cases_order a b) [
+  | inl e ↦ inr (inl (ap pos e))
+  | inr o ↦ elim o [ inl l ↦ inl (omega (arith, ints)) | inr l ↦ inr (inr (omega (arith, ints))) ]
+]
+int_order (pos a) (negsuc b) = inr (inr (omega (arith, ints)))
+int_order (negsuc a) (pos b) = inl (omega (arith, ints))
+int_order (negsuc a) (negsuc b) = elim (cases_order a b) [
+  | inl e ↦ inr (inl (ap negsuc e))
+  | inr o ↦ elim o [ inl l ↦ inr (inr (omega (arith, ints))) | inr l ↦ inl (omega (arith, ints)) ]
+]
+
+-- a stable sort by Maslov degree of cells in the order of their codes
+pub ascending-sorted : (D : Complex ℤ) (n : ℕ) (xs ys : List Cell) → AreFirstCells D n xs → AreCells D n ys
+    → IsSortedBy (λ x y. is_lt (int_cmp x.maslov y.maslov)) ys
+    → IsStableBy (λ x y. is_lt (int_cmp x.maslov y.maslov)) xs ys → IsAscending ys
+ascending-sorted D n xs ys first cells sorted stable k d l =
+    elim (int_order (slice_index_or ys k d).maslov (slice_index_or ys (k + 1) d).maslov) [
+      | inl less ↦ inl less
+      | inr o ↦ elim o [
+        | inl same ↦
+            let e = int_cmp_is (slice_index_or ys k d).maslov (slice_index_or ys (k + 1) d).maslov Equal same in
+            let f = int_cmp_is (slice_index_or ys (k + 1) d).maslov (slice_index_or ys k d).maslov Equal (sym same) in
+            let stays = ties_stay_sorted (λ x y. ltb x.code y.code) (λ x y. is_lt (int_cmp x.maslov y.maslov))
+            (IsStrictWeakOrder-by_number (λ (x : Cell). x.code)) (ranks_by int_cmp_total (λ (x : Cell). x.maslov)) xs ys
+            (λ j c low m. le-ltb (slice_index_or xs (j + 1) c).code (slice_index_or xs j c).code
+            (let h = first.rising j c m in omega arith)) stable k d l
+            ((λ i. not (is_lt (sym e i)) && not (is_lt (sym f i)))) in
+            inr (same, apart stays)
+        | inr more ↦
+            let e = int_cmp_is (slice_index_or ys (k + 1) d).maslov (slice_index_or ys k d).maslov Less more in
+            absurd (false≢true (sym (sorted k d (omega arith) l) ∙ ap is_lt (sym e)))
+      ]
+    ]
+  where
+    apart : ltb (slice_index_or ys (k + 1) d).code (slice_index_or ys k d).code ≡ false
+        → (slice_index_or ys k d).code < (slice_index_or ys (k + 1) d).code
+    apart h = elim (cases_order (slice_index_or ys k d).code (slice_index_or ys (k + 1) d).code) [
+      | inl e ↦ absurd (cells-apart D n ys cells k (k + 1) d (omega arith) l e)
+      | inr o ↦ elim o [
+        | inl low ↦ low
+        | inr high ↦ absurd (false≢true (sym h ∙ lt-ltb (slice_index_or ys (k + 1) d).code (slice_index_or ys k d).code high))
+      ]
+    ]

@@ -7,7 +7,7 @@ ghost use Rattle.torus_geom.specs.Marks.{size};
 ghost use Rattle.torus_geom.specs.Inner.GridComplex.{grid_complex};
 ghost use Rattle.sparse_complex.specs.Inner.Graph.{code_at, width};
 ghost use Rattle.sparse_complex.specs.Inner.Built.{AreCells, AreKeys, AreLinksBelow};
-ghost use Rattle.sparse_complex.specs.Inner.Visits.{IsBranch};
+ghost use Rattle.sparse_complex.specs.Inner.Visits.{IsBranch, AreFirstCells, IsAscending};
 
 use crate::links::Links;
 use crate::slices::{AlexSlice, Cell, NO_KEY};
@@ -56,8 +56,9 @@ pub(crate) struct Branch {
 
 // The cells of the degree `a`, by Maslov degree, and by code among those of one degree.
 fn cells_of(alloc: Global, g: &Grid, a: i32) -> Result<Vec<Cell>, NoMemory>
-    ensures { IfOk result (λ cells.
+    ensures cells { IfOk result (λ cells.
         AreCells (at_alexander a (grid_complex g.now)) (factorial (size g.now)) cells.items) }
+    ensures order { IfOk result (λ cells. IsAscending cells.items) }
 {
     let sums = PossibleSums::of(alloc, g)?;
     let mut cells = Vec::new(alloc);
@@ -85,8 +86,8 @@ fn visit(
     cells: &mut Vec<Cell>,
 ) -> Result<(), NoMemory>
     requires branch { IsBranch sums.now a branch.now }
-    requires below { AreCells (at_alexander a (grid_complex sums.now)) branch.now.base cells.old.items }
-    ensures { OnOk result (AreCells (at_alexander a (grid_complex sums.now)) (branch.now.base + branch.now.count)
+    requires below { AreFirstCells (at_alexander a (grid_complex sums.now)) branch.now.base cells.old.items }
+    ensures { OnOk result (AreFirstCells (at_alexander a (grid_complex sums.now)) (branch.now.base + branch.now.count)
         cells.new.items) }
 {
     if !sums.can_give(branch.used, branch.left) {
@@ -127,8 +128,8 @@ fn push_cell(
 ) -> Result<(), NoMemory>
     requires rank { code < factorial (size tables.now) }
     requires state { x.now ≡ unrank (size tables.now) code }
-    requires below { AreCells (at_alexander a (grid_complex tables.now)) code cells.old.items }
-    ensures { OnOk result (AreCells (at_alexander a (grid_complex tables.now)) (code + 1) cells.new.items) }
+    requires below { AreFirstCells (at_alexander a (grid_complex tables.now)) code cells.old.items }
+    ensures { OnOk result (AreFirstCells (at_alexander a (grid_complex tables.now)) (code + 1) cells.new.items) }
 {
     if tables.alexander(x) != a {
         return Ok(());

@@ -9,7 +9,7 @@ use Rattle.state_rank.specs.States.{factorial, unrank}
 use Rattle.torus_geom.specs.Inner.GridComplex.{grid_complex}
 use Rattle.torus_geom.specs.Marks.{Marks, size}
 use Rattle.gradings.specs.Sums.{sum_before}
-use Rattle.sparse_complex.specs.Inner.Built.{AreCells}
+use Rattle.sparse_complex.specs.Inner.Visits.{AreFirstCells}
 use Rattle.sparse_complex.specs.Inner.Visits.{IsBranch}
 use Rattle.sparse_complex.proofs.BuildLemmas.{factorial_fits}
 use Rattle.sparse_complex.proofs.VisitLemmas.{branch-within, branch-none, branch-leaf, part_divisor, parts_fit, part_within, gone-start, gone-next, gone-end, IsBranch-part}
@@ -47,7 +47,7 @@ returns-then-c-n t c =
     (c.if-c-n.true ∙ c.size-n.ensures.size ∙ s.state.long) in
     let fits : SFits w32 c.args.a = search rules in
     on_ok_weaker c.push_cell.result
-    (λ ok. subst (λ (e : (Marks × ℤ) × ℕ). AreCells (at_alexander e.0.1 (grid_complex e.0.0))
+    (λ ok. subst (λ (e : (Marks × ℤ) × ℕ). AreFirstCells (at_alexander e.0.1 (grid_complex e.0.0))
     (c.args.branch.now.base + e.1) c.push_cell.new.cells.items)
     (λ i. ((c.tables.ensures i, to_z-of_z w32 c.args.a fits i), sym leaf.1 i)) ok) c.push_cell.ensures
 
@@ -61,7 +61,7 @@ loop-next-init t c =
     (part_divisor c.args.sums.now s.grid _ c.args.branch.now s some c.size-n.result c.from.result
     c.size-n.ensures.size c.from.ensures)
     c.args.cells.now.items
-    (subst (λ (a : ℤ). AreCells (at_alexander a (grid_complex c.args.sums.now)) c.args.branch.now.base
+    (subst (λ (a : ℤ). AreFirstCells (at_alexander a (grid_complex c.args.sums.now)) c.args.branch.now.base
     c.args.cells.now.items) (sym (to_z-of_z w32 c.args.a fits)) c.requires.below)
 
 pub visit-requires : goal.visit-requires
@@ -128,7 +128,7 @@ returns t c =
     let some = parts_fit c.args.sums.now _ c.args.branch.now s c.size-n.result c.size-n.ensures.size c.if-c-n.false in
     let count_is = part_divisor c.args.sums.now s.grid _ c.args.branch.now s some c.size-n.result c.from.result
     c.size-n.ensures.size c.from.ensures in
-    subst (λ (a : ℤ). AreCells (at_alexander a (grid_complex c.args.sums.now))
+    subst (λ (a : ℤ). AreFirstCells (at_alexander a (grid_complex c.args.sums.now))
     (c.args.branch.now.base + c.args.branch.now.count) c.loop-next.cells.items) (to_z-of_z w32 c.args.a fits)
     (gone-end c.args.sums.now s.grid _ c.args.branch.now s some _ count_is c.loop-next.next c.loop-next.base
     c.loop-next.first c.loop-next.cells.items c.loop-next.invariant

@@ -2,16 +2,18 @@
 use Rattle.std.proofs.Common.{◌≡◌, ◌+◌, w32, ℕ, ap, subst, sym, ◌∙◌, arith, rules}
 use mir.Val.{SFits}
 use Rattle.std.proofs.Math.IntN.{ℤ}
+use Rattle.std.proofs.lemmas.Fn.{always_returns_same}
 use Rattle.std.proofs.lemmas.Int.{ints, to_z-of_z}
+use Rattle.sparse_complex.specs.declared.slices.Cell.{Cell}
 use Rattle.f2_algebra.specs.Bigraded.{at_alexander}
 use Rattle.state_rank.specs.States.{factorial}
 use Rattle.state_rank.proofs.LehmerLemmas.{factorial_positive}
 use Rattle.torus_geom.specs.Marks.{Marks, size, IsGrid}
 use Rattle.torus_geom.specs.Inner.GridComplex.{grid_complex}
 use Rattle.gradings.specs.Sums.{least}
-use Rattle.sparse_complex.specs.Inner.Built.{AreCells}
-use Rattle.sparse_complex.proofs.BuildLemmas.{AreCells-same, AreCells-none, AreCells-sorted}
-use Rattle.sparse_complex.proofs.VisitLemmas.{IsBranch-all}
+use Rattle.sparse_complex.specs.Inner.Visits.{AreFirstCells}
+use Rattle.sparse_complex.proofs.BuildLemmas.{AreCells-sorted}
+use Rattle.sparse_complex.proofs.VisitLemmas.{IsBranch-all, AreFirstCells-same, AreFirstCells-none, ascending-sorted}
 use Rattle.sparse_complex.proofs.builds.cells_of.Goals as goal
 
 pub unrank-requires-clause-rank : goal.unrank-requires-clause-rank
@@ -32,16 +34,28 @@ visit-requires-clause-branch c =
 
 pub visit-requires-clause-below : goal.visit-requires-clause-below
 visit-requires-clause-below c =
-    AreCells-same (at_alexander _ (grid_complex c.in_ok-sums.sums)) 0 _ _ c.new-cells.ensures.items
-    (AreCells-none (at_alexander _ (grid_complex c.in_ok-sums.sums)))
+    AreFirstCells-same (at_alexander _ (grid_complex c.in_ok-sums.sums)) 0 _ _ c.new-cells.ensures.items
+    (AreFirstCells-none (at_alexander _ (grid_complex c.in_ok-sums.sums)))
 
-pub returns : goal.returns
-returns c =
+first : (c : goal.After-drop-sums-inside-2)
+    → AreFirstCells (at_alexander c.args.a (grid_complex c.args.g.now)) (factorial (size c.args.g.now))
+    c.visit.new.cells.items
+first c =
     let fits : SFits w32 c.args.a = search rules in
     let count : 0 + c.state_count.result ≡ factorial (size c.args.g.now) =
     let e = c.state_count.ensures ∙ ap factorial c.size-2.ensures.size in omega (arith, e) in
+    subst (λ (e : (Marks × ℤ) × ℕ). AreFirstCells (at_alexander e.0.1 (grid_complex e.0.0)) e.1 c.visit.new.cells.items)
+    (λ i. ((c.in_ok-sums.ensures i, to_z-of_z w32 c.args.a fits i), count i)) c.in_ok-visit.ensures
+
+pub returns-clause-cells : goal.returns-clause-cells
+returns-clause-cells c =
     AreCells-sorted (at_alexander c.args.a (grid_complex c.args.g.now)) (factorial (size c.args.g.now))
-    c.visit.new.cells.items
-    (subst (λ (e : (Marks × ℤ) × ℕ). AreCells (at_alexander e.0.1 (grid_complex e.0.0)) e.1 c.visit.new.cells.items)
-    (λ i. ((c.in_ok-sums.ensures i, to_z-of_z w32 c.args.a fits i), count i)) c.in_ok-visit.ensures)
-    c.sort_by_key.new.self.items c.sort_by_key.ensures.permutation
+    c.visit.new.cells.items (first c).are_cells c.sort_by_key.new.self.items c.sort_by_key.ensures.permutation
+
+pub returns-clause-order : goal.returns-clause-order
+returns-clause-order c =
+    let key : Cell → ℤ = λ x. x.maslov in
+    ascending-sorted (at_alexander c.args.a (grid_complex c.args.g.now)) (factorial (size c.args.g.now))
+    c.visit.new.cells.items c.sort_by_key.new.self.items (first c) (returns-clause-cells c)
+    (c.in_ok-sort_by_key.ensures.sorted key (always_returns_same _ _ _ (λ a r q k. search rules)))
+    (c.sort_by_key.ensures.stable key (always_returns_same _ _ _ (λ a r q k. search rules)))

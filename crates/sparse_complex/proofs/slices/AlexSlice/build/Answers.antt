@@ -20,7 +20,7 @@ of_parts-requires-clause-by_key c =
     let cells =
     subst (λ (a : ℤ). AreCells (at_alexander a (grid_complex c.args.g.now))
     (factorial (size c.args.g.now)) c.in_ok-cells.cells.items)
-    (to_z-of_z w32 c.args.a fits) c.in_ok-cells.ensures in
+    (to_z-of_z w32 c.args.a fits) c.in_ok-cells.ensures.cells in
     let keys =
     subst (λ (cs : List Cell). AreKeys c.in_ok-keys.keys.items cs) c.deref.ensures.value c.in_ok-keys.ensures in
     let links =
@@ -39,7 +39,7 @@ of_parts-requires-clause-rules c =
     let cells =
     subst (λ (a : ℤ). AreCells (at_alexander a (grid_complex c.args.g.now))
     (factorial (size c.args.g.now)) c.in_ok-cells.cells.items)
-    (to_z-of_z w32 c.args.a fits) c.in_ok-cells.ensures in
+    (to_z-of_z w32 c.args.a fits) c.in_ok-cells.ensures.cells in
     let keys =
     subst (λ (cs : List Cell). AreKeys c.in_ok-keys.keys.items cs) c.deref.ensures.value c.in_ok-keys.ensures in
     let links =
@@ -58,7 +58,7 @@ returns c =
     let cells =
     subst (λ (a : ℤ). AreCells (at_alexander a (grid_complex c.args.g.now))
     (factorial (size c.args.g.now)) c.in_ok-cells.cells.items)
-    (to_z-of_z w32 c.args.a fits) c.in_ok-cells.ensures in
+    (to_z-of_z w32 c.args.a fits) c.in_ok-cells.ensures.cells in
     let keys =
     subst (λ (cs : List Cell). AreKeys c.in_ok-keys.keys.items cs) c.deref.ensures.value c.in_ok-keys.ensures in
     let links =
