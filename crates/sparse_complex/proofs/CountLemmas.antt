@@ -12,9 +12,10 @@ use Rattle.sparse_complex.specs.declared.links.Links.{Links}
 use Rattle.sparse_complex.specs.Inner.Lists.{Nodes, among, AreDistinct, is_node, node_at}
 use Rattle.sparse_complex.specs.Inner.Graph.{AreListed, width, outs_of, targets, sources, others}
 use Rattle.sparse_complex.specs.Inner.Stored.{most_keys}
-use Rattle.sparse_complex.proofs.ListLemmas.{live-member}
+use Rattle.sparse_complex.proofs.ThreadLemmas.{live-member}
 use Rattle.sparse_complex.proofs.LinkLemmas.{is_node-remove}
-use Rattle.sparse_complex.proofs.GraphLemmas.{lt_or_eq, length-map, has_arrow-from, has_arrow-to, has_arrow-sources, has_arrow-targets, distinct-sources, distinct-targets}
+use Rattle.sparse_complex.proofs.ArrowChangeLemmas.{lt_or_eq}
+use Rattle.sparse_complex.proofs.GraphLemmas.{length-map, has_arrow-from, has_arrow-to, has_arrow-sources, has_arrow-targets, distinct-sources, distinct-targets}
 
 -- ---- a walk that counts
 others-first : (k j : ℕ) (ks : List ℕ) → length (others k (j ∷ ks)) ≡ bool_byte (not (eqb j k)) + length (others k ks)

@@ -10,7 +10,7 @@ use Rattle.sparse_complex.specs.declared.slices.Cell.{Cell}
 use Rattle.sparse_complex.specs.Slices.{ListsCells}
 use Rattle.sparse_complex.specs.Inner.Graph.{no_cell, code_at}
 use Rattle.sparse_complex.specs.Inner.Stored.{key_of, is_live, maslov_at, slice_of, IsStoredByKey, ListsLive}
-use Rattle.sparse_complex.proofs.GraphLemmas.{lt_or_eq}
+use Rattle.sparse_complex.proofs.ArrowChangeLemmas.{lt_or_eq}
 use Rattle.sparse_complex.proofs.StoredLemmas.{live_is, degree-live, degree-slice_of}
 
 -- an optional value that is there, under a test

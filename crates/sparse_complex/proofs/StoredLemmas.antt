@@ -14,7 +14,7 @@ use Rattle.sparse_complex.specs.Inner.Lists.{no_id, among, node_at, head_at, out
 use Rattle.sparse_complex.specs.Inner.Graph.{width, targets, has_arrow, no_cell, code_at}
 use Rattle.sparse_complex.specs.Inner.Stored.{no_key, most_keys, key_of, is_live, maslov_at, target_codes, entry_of, entries_below, slice_of, IsLiveKey, IsStoredByKey, IsStored}
 use Rattle.sparse_complex.proofs.ListLemmas.{same_test}
-use Rattle.sparse_complex.proofs.LinkLemmas.{AreInLists-same}
+use Rattle.sparse_complex.proofs.WriteLemmas.{AreInLists-same}
 use Rattle.sparse_complex.proofs.GraphLemmas.{among-map, among-of_map, has_arrow-targets, has_arrow-from, has_arrow-to}
 
 -- ---- the entries of live codes

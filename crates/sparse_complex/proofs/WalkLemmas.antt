@@ -8,7 +8,8 @@ use Rattle.sparse_complex.specs.declared.links.Head.{Head}
 use Rattle.sparse_complex.specs.declared.links.Links.{Links}
 use Rattle.sparse_complex.specs.Inner.Lists.{Nodes, no_id, among, node_at, is_node, head_at, ids_from, outs_from, ins_from, IsList, AreLists}
 use Rattle.sparse_complex.specs.Inner.Graph.{AreListed, width, outs_of, ins_of, has_arrow}
-use Rattle.sparse_complex.proofs.ListLemmas.{in_head, ids_from-list, IsList-at, members-ids}
+use Rattle.sparse_complex.proofs.ListLemmas.{in_head, ids_from-list, IsList-at}
+use Rattle.sparse_complex.proofs.ThreadLemmas.{members-ids}
 use Rattle.sparse_complex.proofs.LinkLemmas.{distinct_length, node_is}
 use Rattle.sparse_complex.proofs.GraphLemmas.{out_member, in_member, has_arrow-ends}
 

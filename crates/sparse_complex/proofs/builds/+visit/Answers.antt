@@ -12,7 +12,8 @@ use Rattle.gradings.specs.Sums.{sum_before}
 use Rattle.sparse_complex.specs.Inner.Visits.{AreFirstCells}
 use Rattle.sparse_complex.specs.Inner.Visits.{IsBranch}
 use Rattle.sparse_complex.proofs.BuildLemmas.{factorial_fits}
-use Rattle.sparse_complex.proofs.VisitLemmas.{branch-within, branch-none, branch-leaf, part_divisor, parts_fit, part_within, gone-start, gone-next, gone-end, IsBranch-part}
+use Rattle.sparse_complex.proofs.VisitLemmas.{branch-within, branch-none, branch-leaf, part_divisor, parts_fit}
+use Rattle.sparse_complex.proofs.BranchPartLemmas.{part_within, gone-start, gone-next, gone-end, IsBranch-part}
 use Rattle.sparse_complex.proofs.builds.+visit.Goals as goal
 
 pub returns-then-not-can_give : goal.returns-then-not-can_give

@@ -1,7 +1,7 @@
 -- Each branch has a column less ahead; the parts before `next` are gone through.
 use Rattle.std.proofs.Common.{◌-◌}
 use Rattle.torus_geom.specs.Marks.{size}
-use Rattle.sparse_complex.proofs.VisitLemmas.{IsGoneThrough}
+use Rattle.sparse_complex.proofs.BranchPartLemmas.{IsGoneThrough}
 use Rattle.sparse_complex.proofs.builds.+visit.Given as goal
 
 abbrev pub decreases-visit : goal.decreases-visit

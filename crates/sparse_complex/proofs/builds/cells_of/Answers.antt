@@ -13,7 +13,9 @@ use Rattle.torus_geom.specs.Inner.GridComplex.{grid_complex}
 use Rattle.gradings.specs.Sums.{least}
 use Rattle.sparse_complex.specs.Inner.Visits.{AreFirstCells}
 use Rattle.sparse_complex.proofs.BuildLemmas.{AreCells-sorted}
-use Rattle.sparse_complex.proofs.VisitLemmas.{IsBranch-all, AreFirstCells-same, AreFirstCells-none, ascending-sorted}
+use Rattle.sparse_complex.proofs.BranchPartLemmas.{IsBranch-all}
+use Rattle.sparse_complex.proofs.VisitLemmas.{AreFirstCells-same, AreFirstCells-none}
+use Rattle.sparse_complex.proofs.CellOrderLemmas.{ascending-sorted}
 use Rattle.sparse_complex.proofs.builds.cells_of.Goals as goal
 
 pub unrank-requires-clause-rank : goal.unrank-requires-clause-rank

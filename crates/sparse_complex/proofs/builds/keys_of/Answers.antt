@@ -7,7 +7,8 @@ use Rattle.torus_geom.specs.Marks.{size}
 use Rattle.torus_geom.specs.Inner.GridComplex.{grid_complex}
 use Rattle.sparse_complex.specs.Inner.Graph.{code_at}
 use Rattle.sparse_complex.specs.Inner.Stored.{no_key}
-use Rattle.sparse_complex.proofs.BuildLemmas.{KeysPlace, keys-start, keys-step, keys-end, factorial_fits}
+use Rattle.sparse_complex.proofs.KeyLemmas.{KeysPlace, keys-start, keys-step, keys-end}
+use Rattle.sparse_complex.proofs.BuildLemmas.{factorial_fits}
 use Rattle.sparse_complex.proofs.builds.keys_of.Goals as goal
 
 pub loop-key-init : goal.loop-key-init

@@ -15,8 +15,8 @@ use Rattle.sparse_complex.specs.Inner.Graph.{code_at, width, has_arrow, IsLinked
 use Rattle.sparse_complex.specs.Inner.Stored.{is_live, most_keys}
 use Rattle.sparse_complex.proofs.CountLemmas.{nodes_fit}
 use Rattle.sparse_complex.proofs.StoredLemmas.{key_read_zero}
-use Rattle.sparse_complex.proofs.CancelLemmas.{live-below}
-use Rattle.sparse_complex.proofs.BuildLemmas.{ArrowsPlace, arrows-start, arrows-step, arrows-end, source-in, target-in, not-yet, all-targets, target-live, target-fresh, read-more}
+use Rattle.sparse_complex.proofs.TakenKeyLemmas.{live-below}
+use Rattle.sparse_complex.proofs.ArrowLemmas.{ArrowsPlace, arrows-start, arrows-step, arrows-end, source-in, target-in, not-yet, all-targets, target-live, target-fresh, read-more}
 use Rattle.sparse_complex.proofs.builds.push_arrows.Goals as goal
 
 pub reserve-requires : goal.reserve-requires

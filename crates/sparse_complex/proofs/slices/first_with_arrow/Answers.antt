@@ -3,8 +3,8 @@ use Rattle.std.proofs.Common.{◌<◌, length, ap, sym, ◌∙◌, arith, inl, i
 use Rattle.std.proofs.lemmas.Bool.{ne_eqb}
 use Rattle.sparse_complex.specs.declared.links.Head.{Head}
 use Rattle.sparse_complex.specs.Inner.Lists.{no_id, head_at}
-use Rattle.sparse_complex.proofs.LinkLemmas.{head_is}
-use Rattle.sparse_complex.proofs.GraphLemmas.{lt_or_eq}
+use Rattle.sparse_complex.proofs.WriteLemmas.{head_is}
+use Rattle.sparse_complex.proofs.ArrowChangeLemmas.{lt_or_eq}
 use Rattle.sparse_complex.proofs.slices.first_with_arrow.Goals as goal
 
 pub returns-then-index-clause-some_here : goal.returns-then-index-clause-some_here

@@ -3,9 +3,9 @@ use Rattle.std.proofs.Common.{◌<◌, eqb, refl, sym, ap, subst, ◌∙◌, ari
 use Rattle.std.proofs.lemmas.Bool.{eq-eqb, eqb-true}
 use Rattle.sparse_complex.specs.Inner.Lists.{node_at}
 use Rattle.sparse_complex.specs.Inner.Graph.{width, has_arrow}
-use Rattle.sparse_complex.proofs.LinkLemmas.{head_is}
-use Rattle.sparse_complex.proofs.GraphLemmas.{width-unlinked}
-use Rattle.sparse_complex.proofs.FillLemmas.{clear-start, clear-step, clear-end, clear-smaller-in, node-first_in, no_in}
+use Rattle.sparse_complex.proofs.WriteLemmas.{head_is}
+use Rattle.sparse_complex.proofs.ArrowChangeLemmas.{width-unlinked}
+use Rattle.sparse_complex.proofs.ClearLemmas.{clear-start, clear-step, clear-end, clear-smaller-in, node-first_in, no_in}
 use Rattle.sparse_complex.proofs.links.Links.clear_in.Goals as goal
 
 pub loop-at-init : goal.loop-at-init

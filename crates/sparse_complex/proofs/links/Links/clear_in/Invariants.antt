@@ -2,7 +2,7 @@
 use Rattle.std.proofs.Common.{◌≡◌, eqb, length}
 use Rattle.sparse_complex.specs.Inner.Lists.{head_at}
 use Rattle.sparse_complex.specs.Inner.Graph.{ins_of}
-use Rattle.sparse_complex.proofs.FillLemmas.{ClearPlace}
+use Rattle.sparse_complex.proofs.ClearLemmas.{ClearPlace}
 use Rattle.sparse_complex.proofs.links.Links.clear_in.Given as goal
 
 abbrev pub invariant-loop-at : goal.invariant-loop-at

@@ -2,7 +2,7 @@
 use Rattle.std.proofs.Common.{◌∷◌, ap, ◌∙◌, length, arith}
 use Rattle.sparse_complex.specs.Inner.Lists.{node_at, ins_from}
 use Rattle.sparse_complex.specs.Inner.Graph.{ins_of, froms, sources, others}
-use Rattle.sparse_complex.proofs.LinkLemmas.{head_is, is_node-contains}
+use Rattle.sparse_complex.proofs.WriteLemmas.{head_is, is_node-contains}
 use Rattle.sparse_complex.proofs.WalkLemmas.{in-live, in-facts, in-begin, in-none, in-length}
 use Rattle.sparse_complex.proofs.GraphLemmas.{length-map}
 use Rattle.sparse_complex.proofs.CountLemmas.{counted, others-shorter}

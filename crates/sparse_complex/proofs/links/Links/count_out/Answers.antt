@@ -2,7 +2,7 @@
 use Rattle.std.proofs.Common.{◌∷◌, ap, ◌∙◌, length, arith}
 use Rattle.sparse_complex.specs.Inner.Lists.{node_at, outs_from}
 use Rattle.sparse_complex.specs.Inner.Graph.{outs_of, tos, targets, others}
-use Rattle.sparse_complex.proofs.LinkLemmas.{head_is, is_node-contains}
+use Rattle.sparse_complex.proofs.WriteLemmas.{head_is, is_node-contains}
 use Rattle.sparse_complex.proofs.WalkLemmas.{out-live, out-facts, out-begin, out-none, out-length}
 use Rattle.sparse_complex.proofs.GraphLemmas.{length-map}
 use Rattle.sparse_complex.proofs.CountLemmas.{counted, others-shorter}

@@ -1,9 +1,9 @@
 -- Each step goes through one source, or passes x.
 use Rattle.std.proofs.Common.{◌<◌, sym, subst}
 use Rattle.std.proofs.lemmas.Bool.{eq-eqb, ne_eqb}
-use Rattle.sparse_complex.proofs.LinkLemmas.{head_is, is_node-contains}
+use Rattle.sparse_complex.proofs.WriteLemmas.{head_is, is_node-contains}
 use Rattle.sparse_complex.proofs.WalkLemmas.{in-live, in-facts, in-begin}
-use Rattle.sparse_complex.proofs.FillLemmas.{fill-start, fill-skip, fill-room, fill-toggle, fill-smaller, fill-end}
+use Rattle.sparse_complex.proofs.FillSourceLemmas.{fill-start, fill-skip, fill-room, fill-toggle, fill-smaller, fill-end}
 use Rattle.sparse_complex.proofs.links.Links.fill.Goals as goal
 
 pub loop-at-init : goal.loop-at-init

@@ -1,7 +1,7 @@
 -- The sources that were passed have been gone through.
 use Rattle.std.proofs.Common.{length}
 use Rattle.sparse_complex.specs.Inner.Lists.{ins_from}
-use Rattle.sparse_complex.proofs.FillLemmas.{FillPlace}
+use Rattle.sparse_complex.proofs.FillSourceLemmas.{FillPlace}
 use Rattle.sparse_complex.proofs.links.Links.fill.Given as goal
 
 abbrev pub invariant-loop-at : goal.invariant-loop-at

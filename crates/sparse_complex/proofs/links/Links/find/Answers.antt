@@ -3,7 +3,7 @@ use Rattle.std.proofs.Common.{◌||◌, ap, sym, ◌∙◌}
 use Rattle.std.proofs.lemmas.Bool.{ne_eqb}
 use Rattle.sparse_complex.specs.Inner.Lists.{among, node_at, outs_from}
 use Rattle.sparse_complex.specs.Inner.Graph.{tos}
-use Rattle.sparse_complex.proofs.LinkLemmas.{head_is, is_node-contains}
+use Rattle.sparse_complex.proofs.WriteLemmas.{head_is, is_node-contains}
 use Rattle.sparse_complex.proofs.WalkLemmas.{out-live, out-facts, out-begin, out-none}
 use Rattle.sparse_complex.proofs.GraphLemmas.{has_arrow-targets}
 use Rattle.sparse_complex.proofs.links.Links.find.Goals as goal

@@ -1,9 +1,9 @@
 -- The larger of two targets is one.
 use Rattle.std.proofs.Common.{◌≡◌, true}
 use Rattle.sparse_complex.specs.Inner.Graph.{has_arrow}
-use Rattle.sparse_complex.proofs.LinkLemmas.{head_is, is_node-contains}
+use Rattle.sparse_complex.proofs.WriteLemmas.{head_is, is_node-contains}
 use Rattle.sparse_complex.proofs.WalkLemmas.{out-live, out-facts, out-begin}
-use Rattle.sparse_complex.proofs.GraphLemmas.{larger, one_of, some_id}
+use Rattle.sparse_complex.proofs.ArrowChangeLemmas.{larger, one_of, some_id}
 use Rattle.sparse_complex.proofs.links.Links.last_target.Goals as goal
 
 pub get-first-requires : goal.get-first-requires

@@ -1,7 +1,8 @@
 -- A node more, and four writes.
 use Rattle.std.proofs.Common.{◌≡◌, ap, ◌∙◌}
 use Rattle.sparse_complex.specs.Inner.Lists.{no_id, is_node, with_prev_out, with_prev_in, with_first_out, with_first_in, linked_nodes, linked_heads}
-use Rattle.sparse_complex.proofs.LinkLemmas.{head_is, can_link, none_is_node, small_id, linked_nodes-is, linked_heads-is, AreInLists-same, AreInLists-linked}
+use Rattle.sparse_complex.proofs.WriteLemmas.{head_is, can_link, none_is_node, small_id, linked_nodes-is, linked_heads-is, AreInLists-same}
+use Rattle.sparse_complex.proofs.PutInLemmas.{AreInLists-linked}
 use Rattle.sparse_complex.proofs.GraphLemmas.{no_node}
 use Rattle.sparse_complex.proofs.links.Links.link.Goals as goal
 

@@ -2,7 +2,7 @@
 use Rattle.std.proofs.Common.{◌≡◌, ℕ, length, replicate, ap, ◌∙◌}
 use Rattle.std.proofs.lemmas.List.{length-replicate}
 use Rattle.sparse_complex.specs.Inner.Lists.{no_head, head_at}
-use Rattle.sparse_complex.proofs.GraphLemmas.{listed-none, has_arrow-none, head_at-replicate}
+use Rattle.sparse_complex.proofs.ArrowChangeLemmas.{listed-none, has_arrow-none, head_at-replicate}
 use Rattle.sparse_complex.proofs.links.Links.new.Goals as goal
 
 pub returns : goal.returns

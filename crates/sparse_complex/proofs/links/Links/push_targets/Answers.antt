@@ -2,7 +2,7 @@
 use Rattle.std.proofs.Common.{◌<◌, ◌++◌, [], ◌∷◌, map, ap, sym, subst, ◌∙◌, append_assoc, append-nil}
 use Rattle.sparse_complex.specs.Inner.Lists.{outs_from}
 use Rattle.sparse_complex.specs.Inner.Graph.{tos, code_at}
-use Rattle.sparse_complex.proofs.LinkLemmas.{head_is, is_node-contains}
+use Rattle.sparse_complex.proofs.WriteLemmas.{head_is, is_node-contains}
 use Rattle.sparse_complex.proofs.WalkLemmas.{out-live, out-facts, out-begin, out-none}
 use Rattle.sparse_complex.proofs.QueryLemmas.{on_err-from}
 use Rattle.sparse_complex.proofs.links.Links.push_targets.Goals as goal

@@ -1,6 +1,6 @@
 -- What was found is taken out, and what was not is put in.
 use Rattle.std.proofs.Common.{◌+◌, ◌≤◌, refl, arith}
-use Rattle.sparse_complex.proofs.GraphLemmas.{IsToggled-unlinked, IsToggled-linked}
+use Rattle.sparse_complex.proofs.ArrowChangeLemmas.{IsToggled-unlinked, IsToggled-linked}
 use Rattle.sparse_complex.proofs.links.Links.toggle.Goals as goal
 
 pub returns-in-Some : goal.returns-in-Some

@@ -1,7 +1,7 @@
 -- Each step toggles one arrow, or passes y.
 use Rattle.std.proofs.Common.{◌<◌, sym, subst}
 use Rattle.std.proofs.lemmas.Bool.{eq-eqb, ne_eqb}
-use Rattle.sparse_complex.proofs.LinkLemmas.{head_is, is_node-contains}
+use Rattle.sparse_complex.proofs.WriteLemmas.{head_is, is_node-contains}
 use Rattle.sparse_complex.proofs.WalkLemmas.{out-live, out-facts, out-begin}
 use Rattle.sparse_complex.proofs.FillLemmas.{from-start, from-skip, from-room, from-toggle, from-smaller, from-end}
 use Rattle.sparse_complex.proofs.links.Links.toggle_from.Goals as goal

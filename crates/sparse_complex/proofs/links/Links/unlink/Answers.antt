@@ -2,7 +2,9 @@
 use Rattle.std.proofs.Common.{◌≡◌, ◌<◌, ap, sym, subst, ◌∙◌, length}
 use Rattle.std.specs.FinMap as fin
 use Rattle.sparse_complex.specs.Inner.Lists.{is_node, with_prev_out, with_next_in, with_prev_in, with_first_in, unlinked_nodes, unlinked_heads}
-use Rattle.sparse_complex.proofs.LinkLemmas.{node_is, is_node-contains, can_unlink, unlinked_nodes-is, unlinked_heads-is, AreInLists-same, AreInLists-unlinked}
+use Rattle.sparse_complex.proofs.LinkLemmas.{node_is}
+use Rattle.sparse_complex.proofs.WriteLemmas.{is_node-contains, can_unlink, unlinked_nodes-is, unlinked_heads-is, AreInLists-same}
+use Rattle.sparse_complex.proofs.UnlinkLemmas.{AreInLists-unlinked}
 use Rattle.sparse_complex.proofs.links.Links.unlink.Goals as goal
 
 pub get-node-requires : goal.get-node-requires

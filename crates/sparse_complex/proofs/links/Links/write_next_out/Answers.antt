@@ -4,7 +4,8 @@ use Rattle.std.proofs.lemmas.Bool.{ne_eqb}
 use Rattle.node_pool.specs.declared.Node.{Node}
 use Rattle.sparse_complex.specs.declared.links.Head.{Head}
 use Rattle.sparse_complex.specs.Inner.Lists.{no_id}
-use Rattle.sparse_complex.proofs.LinkLemmas.{node_is, head_is, with_node-is, first-is, is_node-contains}
+use Rattle.sparse_complex.proofs.LinkLemmas.{node_is}
+use Rattle.sparse_complex.proofs.WriteLemmas.{head_is, with_node-is, first-is, is_node-contains}
 use Rattle.sparse_complex.proofs.links.Links.write_next_out.Goals as goal
 
 pub returns-then-at-eq-NO_NODE-clause-heads : goal.returns-then-at-eq-NO_NODE-clause-heads

@@ -3,7 +3,8 @@ use Rattle.std.proofs.Common.{ap, sym, ◌∙◌}
 use Rattle.std.proofs.lemmas.Bool.{ne_eqb}
 use Rattle.node_pool.specs.declared.Node.{Node}
 use Rattle.sparse_complex.specs.Inner.Lists.{no_id}
-use Rattle.sparse_complex.proofs.LinkLemmas.{node_is, with_node-is, is_node-contains}
+use Rattle.sparse_complex.proofs.LinkLemmas.{node_is}
+use Rattle.sparse_complex.proofs.WriteLemmas.{with_node-is, is_node-contains}
 use Rattle.sparse_complex.proofs.links.Links.write_prev_out.Goals as goal
 
 pub get-node-requires : goal.get-node-requires

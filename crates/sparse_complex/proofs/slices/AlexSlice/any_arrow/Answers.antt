@@ -3,7 +3,8 @@ use Rattle.std.proofs.Common.{◌<◌, ◌≤◌, sym, ap, ap₂, subst, ◌∙�
 use Rattle.f2_algebra.specs.Complex.{arrow}
 use Rattle.f2_algebra.specs.Slice.{slice_complex}
 use Rattle.sparse_complex.specs.Inner.Graph.{width}
-use Rattle.sparse_complex.proofs.GraphLemmas.{cell_is, has_arrow-from, has_arrow-to}
+use Rattle.sparse_complex.proofs.ArrowChangeLemmas.{cell_is}
+use Rattle.sparse_complex.proofs.GraphLemmas.{has_arrow-from, has_arrow-to}
 use Rattle.sparse_complex.proofs.StoredLemmas.{arrow-keys}
 use Rattle.sparse_complex.proofs.QueryLemmas.{none_left}
 use Rattle.sparse_complex.proofs.slices.AlexSlice.any_arrow.Goals as goal

@@ -11,7 +11,7 @@ use Rattle.torus_geom.specs.Inner.GridComplex.{grid_complex}
 use Rattle.sparse_complex.specs.declared.slices.Cell.{Cell}
 use Rattle.sparse_complex.specs.Inner.Built.{AreCells, AreKeys, AreLinksBelow}
 use Rattle.sparse_complex.proofs.GridPartLemmas.{part_rules, no_cell_past}
-use Rattle.sparse_complex.proofs.BuildLemmas.{stored-built, built-is, built-rules}
+use Rattle.sparse_complex.proofs.WholeSliceLemmas.{stored-built, built-is, built-rules}
 use Rattle.sparse_complex.proofs.slices.AlexSlice.build.Goals as goal
 
 pub of_parts-requires-clause-by_key : goal.of_parts-requires-clause-by_key

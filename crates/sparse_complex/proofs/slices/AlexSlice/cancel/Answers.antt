@@ -6,7 +6,8 @@ use Rattle.f2_algebra.specs.Slice.{slice_complex}
 use Rattle.f2_algebra.proofs.Cancelling.Cancellation.{cancelled_IsComplex}
 use Rattle.sparse_complex.specs.Slices.{fill}
 use Rattle.sparse_complex.specs.Inner.Stored.{key_of, slice_of}
-use Rattle.sparse_complex.proofs.CancelLemmas.{can_cancel, IsCut, IsCut-cleared, stored_after, cancelled_after, rules_after}
+use Rattle.sparse_complex.proofs.CancelledLemmas.{can_cancel, stored_after, cancelled_after, rules_after}
+use Rattle.sparse_complex.proofs.TakenKeyLemmas.{IsCut, IsCut-cleared}
 use Rattle.sparse_complex.proofs.slices.AlexSlice.cancel.Goals as goal
 
 pub fill-requires-clause-ends : goal.fill-requires-clause-ends

@@ -5,7 +5,7 @@ use Rattle.f2_algebra.specs.Slice.{slice_complex}
 use Rattle.sparse_complex.specs.Inner.Graph.{has_arrow}
 use Rattle.sparse_complex.specs.Inner.Stored.{key_of}
 use Rattle.sparse_complex.proofs.StoredLemmas.{no_arrow-from, no_arrow-to, arrow-live, live_is}
-use Rattle.sparse_complex.proofs.GraphLemmas.{found-has_arrow}
+use Rattle.sparse_complex.proofs.ArrowChangeLemmas.{found-has_arrow}
 use Rattle.sparse_complex.proofs.slices.AlexSlice.is_arrow.Goals as goal
 
 pub returns-then-from : goal.returns-then-from

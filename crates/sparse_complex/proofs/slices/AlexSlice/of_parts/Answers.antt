@@ -1,5 +1,5 @@
 -- The cursor is the first key with an arrow out.
-use Rattle.sparse_complex.proofs.CancelLemmas.{first-begin}
+use Rattle.sparse_complex.proofs.CancelledLemmas.{first-begin}
 use Rattle.sparse_complex.proofs.slices.AlexSlice.of_parts.Goals as goal
 
 pub invariant_of-result : goal.invariant_of-result
