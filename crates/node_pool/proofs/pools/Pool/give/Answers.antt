@@ -1,7 +1,8 @@
 use Rattle.std.proofs.Common.{◌+◌, refl, sym, ap, ◌∙◌, subst, arith}
 use Rattle.std.specs.FinMap.{contains_key, remove}
 use Rattle.node_pool.specs.Inner.FreeList.{free_ids, live_map, IsPool}
-use Rattle.node_pool.proofs.FreeListLemmas.{live_place, gives_back}
+use Rattle.node_pool.proofs.FreeListLemmas.{live_place}
+use Rattle.node_pool.proofs.PoolCallLemmas.{gives_back}
 use Rattle.node_pool.proofs.pools.Pool.give.Goals as goal
 
 pub write-requires : goal.write-requires

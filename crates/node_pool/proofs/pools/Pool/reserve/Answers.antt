@@ -1,5 +1,6 @@
 use Rattle.std.proofs.Common.{◌∙◌, ap, arith}
-use Rattle.node_pool.proofs.FreeListLemmas.{grows, length-longer}
+use Rattle.node_pool.proofs.PoolCallLemmas.{grows}
+use Rattle.node_pool.proofs.FreeListLemmas.{length-longer}
 use Rattle.node_pool.proofs.pools.Pool.reserve.Goals as goal
 
 pub invariant_of-self : goal.invariant_of-self

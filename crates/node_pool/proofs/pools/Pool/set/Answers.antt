@@ -1,7 +1,8 @@
 use Rattle.std.proofs.Common.{sym, ap, ◌∙◌, subst, arith}
 use Rattle.std.specs.FinMap.{contains_key, insert}
 use Rattle.node_pool.specs.Inner.FreeList.{free_ids, live_map, IsPool}
-use Rattle.node_pool.proofs.FreeListLemmas.{live_place, sets_node}
+use Rattle.node_pool.proofs.FreeListLemmas.{live_place}
+use Rattle.node_pool.proofs.PoolCallLemmas.{sets_node}
 use Rattle.node_pool.proofs.pools.Pool.set.Goals as goal
 
 pub write-requires : goal.write-requires

@@ -2,7 +2,7 @@ use Rattle.std.proofs.Common.{◌+◌, ◌-◌, List, sym, ap, ◌∙◌, subst,
 use Rattle.std.specs.FinMap.{get, insert}
 use Rattle.node_pool.specs.declared.Node.{Node}
 use Rattle.node_pool.specs.Inner.FreeList.{free_ids, live_map, IsPool}
-use Rattle.node_pool.proofs.FreeListLemmas.{takes_given_back, takes_fresh}
+use Rattle.node_pool.proofs.PoolCallLemmas.{takes_given_back, takes_fresh}
 use Rattle.node_pool.proofs.pools.Pool.take.Goals as goal
 
 pub invariant_of-self : goal.invariant_of-self

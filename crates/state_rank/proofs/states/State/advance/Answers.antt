@@ -5,7 +5,7 @@ use Rattle.state_rank.specs.Bijection.{IsBijection}
 use Rattle.state_rank.specs.States.{rank, unrank}
 use Rattle.state_rank.specs.Inner.Steps.{FallsFrom}
 use Rattle.state_rank.proofs.RankLemmas.{rank-below, unrank-rank}
-use Rattle.state_rank.proofs.StepLemmas.{IsChosen, rewritten, stored, next_rank, now, rank-last}
+use Rattle.state_rank.proofs.BetweenLemmas.{IsChosen, rewritten, stored, next_rank, now, rank-last}
 use Rattle.state_rank.proofs.StoredLemmas.{length-stored, by_place, stored_from}
 use Rattle.state_rank.proofs.states.State.advance.Goals as goal
 
