@@ -8,8 +8,9 @@
 use Rattle.std.specs.Prelude.{List, [], ◌∷◌, map}
 use Rattle.f2_algebra.specs.Chain.{Chain, of_codes}
 use Rattle.state_rank.specs.States.{rank}
-pub use Rattle.legendrian_class.specs.Followed.{Followed as InForce, at_start}
-use Rattle.legendrian_class.specs.Followed.{after_commutation, after_turn}
+pub use Rattle.legendrian_class.specs.FollowedCodes.{FollowedCodes as InForce}
+pub use Rattle.legendrian_class.specs.Inner.CodeFollowed.{at_start}
+use Rattle.legendrian_class.specs.Inner.CodeFollowed.{after_commutation, after_turn}
 use Rattle.grid_text.specs.Commands.{grid_after}
 use Rattle.grid_text.specs.declared.commands.Command.{Command}
 use Rattle.grid_text.specs.declared.commands.Command.TheVariants as command

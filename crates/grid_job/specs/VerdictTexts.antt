@@ -14,7 +14,7 @@ use Rattle.torus_geom.specs.Front.{plus_state, minus_state}
 use Rattle.torus_geom.specs.Marks.{Marks, size}
 use Rattle.grid_text.specs.declared.commands.Sign.{Sign}
 use Rattle.grid_text.specs.declared.commands.Sign.TheVariants.{Plus, Minus}
-use Rattle.legendrian_class.specs.Verdicts.{IsVerdict}
+use Rattle.legendrian_class.specs.Inner.CodeVerdicts.{IsVerdict}
 use Rattle.legendrian_class.specs.declared.verdicts.ClassVerdict.{ClassVerdict}
 use Rattle.legendrian_class.specs.declared.verdicts.ClassVerdict.TheVariants.{NotCycle, Null, Alive}
 use Rattle.report_text.specs.Lines.{class_line}

@@ -1,13 +1,12 @@
 //! Cyclic turns of a grid.
 ghost use Rattle.std.specs.Prelude.{◌≡◌, ℕ, List, ◌<◌, length, slice_index};
-ghost use Rattle.f2_algebra.specs.Chain.{Chain};
 ghost use Rattle.state_rank.specs.States.{IsState};
-ghost use Rattle.torus_geom.specs.Inner.CodeBorder.{border};
+ghost use Rattle.torus_geom.specs.Border.{border};
+ghost use Rattle.torus_geom.specs.Chains.{Chain, IsChain};
 ghost use Rattle.torus_geom.specs.Components.{components};
 ghost use Rattle.torus_geom.specs.Degrees.{maslov_o, alexander};
 ghost use Rattle.torus_geom.specs.Marks.{Marks, IsGrid, size};
-ghost use Rattle.grid_moves.specs.Carried.{turned_state as turned_state_of};
-ghost use Rattle.grid_moves.specs.Inner.CodeCarried.{turned_chain};
+ghost use Rattle.grid_moves.specs.Carried.{turned_state as turned_state_of, turned_chain};
 ghost use Rattle.grid_moves.specs.Moves.{source_column as source_column_of, moved_row as moved_row_of, turned};
 
 use state_rank::{ROOM, State};
@@ -64,7 +63,8 @@ pub fn turn(g: &Grid, side: Side) -> Grid
         → alexander (turned side g.now) (turned_state_of side x) ≡ alexander g.now x }
 
     // It carries the border of any chain to the border of the turned chain.
-    ensures carries_border { (z : Chain) → border (turned side g.now) (turned_chain side (size g.now) z)
+    ensures carries_border { (z : Chain) → IsChain (size g.now) z
+        → border (turned side g.now) (turned_chain side (size g.now) z)
         ≡ turned_chain side (size g.now) (border g.now z) }
 {
     let n = g.size();

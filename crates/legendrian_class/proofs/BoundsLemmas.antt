@@ -16,24 +16,24 @@ use Rattle.pentagon_map.proofs.Targets.LoopLemmas.{image-below}
 use Rattle.pentagon_map.specs.Inner.CodeImages.{image}
 use Rattle.pentagon_map.specs.declared.Corner.{Corner}
 use Rattle.pentagon_map.specs.declared.Corner.TheVariants.{Over, Under}
-use Rattle.legendrian_class.specs.Bounds.{Bounds, minus_chain, plus_chain}
-use Rattle.legendrian_class.specs.States.{HasStates}
+use Rattle.legendrian_class.specs.Inner.CodeVerdicts.{Bounds, minus_chain, plus_chain}
+use Rattle.torus_geom.specs.Codes.{HasRanks}
 
 -- the image of a chain of states has states of the exchanged grid
-HasStates-image : (axis : Axis) (g : Marks) → IsGrid g → (c : ℕ) (corner : Corner) (z : Chain)
-    → HasStates (swapped axis g c) (image axis g c corner z)
-HasStates-image axis g s c corner z =
+HasRanks-image : (axis : Axis) (g : Marks) → IsGrid g → (c : ℕ) (corner : Corner) (z : Chain)
+    → HasRanks (size (swapped axis g c)) (image axis g c corner z)
+HasRanks-image axis g s c corner z =
     All-codes (λ k. k < factorial (size (swapped axis g c))) (image axis g c corner z) (λ k held.
     let same = ap factorial (size-swapped axis g c) in
     let below = image-below axis g s c corner z k held in
     omega arith)
 
 -- the same of a grid and a chain that are the exchanged grid and the image
-pub HasStates-exchanged : (axis : Axis) (g h : Marks) (c : ℕ) (corner : Corner) (z y : Chain) → IsGrid g
-    → h ≡ swapped axis g c → y ≡ image axis g c corner z → HasStates h y
-HasStates-exchanged axis g h c corner z y s of_h of_y =
-    subst (λ k. HasStates k y) (sym of_h)
-    (subst (HasStates (swapped axis g c)) (sym of_y) (HasStates-image axis g s c corner z))
+pub HasRanks-exchanged : (axis : Axis) (g h : Marks) (c : ℕ) (corner : Corner) (z y : Chain) → IsGrid g
+    → h ≡ swapped axis g c → y ≡ image axis g c corner z → HasRanks (size h) y
+HasRanks-exchanged axis g h c corner z y s of_h of_y =
+    subst (λ k. HasRanks (size k) y) (sym of_h)
+    (subst (HasRanks (size (swapped axis g c))) (sym of_y) (HasRanks-image axis g s c corner z))
 
 module _ (axis : Axis) (c : ℕ) (corner : Corner) (class : Marks → Chain)
     (carried : (g : Marks) → IsGrid g → c < size g → are_commuting axis g c ≡ true
@@ -44,7 +44,7 @@ module _ (axis : Axis) (c : ℕ) (corner : Corner) (class : Marks → Chain)
   there g s l h (b, is) = (
     image axis g c corner b,
     record {
-      states = HasStates-image axis g s c corner b;
+      states = HasRanks-image axis g s c corner b;
       is_border =
           sym (image-border axis g s c l h corner b) ∙ ap (image axis g c corner) is.is_border ∙ carried g s l h;
     },

@@ -14,7 +14,7 @@ use Rattle.grid_moves.specs.Inner.CodeCarried.{carried, moved, turned_chain}
 use Rattle.grid_moves.specs.Carried.{turned_state}
 use Rattle.grid_moves.specs.Moves.{turned}
 use Rattle.grid_moves.specs.declared.turns.Side.{Side}
-use Rattle.legendrian_class.specs.States.{HasStates}
+use Rattle.torus_geom.specs.Codes.{HasRanks}
 use Rattle.legendrian_class.proofs.ChainLemmas.{each_code}
 
 -- the sum of the turned states, by their ranks
@@ -53,9 +53,9 @@ all_turned side n cs z e =
     (moved-undone n (turned_state side) (turned_state (opposite side)) there) z)
 
 -- the turned chain has states of the turned grid
-pub HasStates-turned : (side : Side) (g : Marks) (z : Chain) → HasStates g z
-    → HasStates (turned side g) (turned_chain side (size g) z)
-HasStates-turned side g z states =
+pub HasRanks-turned : (side : Side) (g : Marks) (z : Chain) → HasRanks (size g) z
+    → HasRanks (size (turned side g)) (turned_chain side (size g) z)
+HasRanks-turned side g z states =
     All-codes (λ c. c < factorial (size (turned side g))) (turned_chain side (size g) z) (λ q held.
     let same = ap factorial (length-turned_rows side (size g) g.o) in
     let below : q < factorial (size g) = elim (cases_lt q (factorial (size g))) [
@@ -68,9 +68,9 @@ HasStates-turned side g z states =
     omega arith)
 
 -- the same of a grid and a chain that are the turned ones
-pub HasStates-after_turn : (side : Side) (g h : Marks) (n : ℕ) (z y : Chain) → HasStates g z → n ≡ size g
-    → h ≡ turned side g → y ≡ turned_chain side n z → HasStates h y
-HasStates-after_turn side g h n z y states of_n of_h of_y =
-    subst (λ k. HasStates k y) (sym of_h)
-    (subst (HasStates (turned side g)) (sym (of_y ∙ ap (λ m. turned_chain side m z) of_n))
-    (HasStates-turned side g z states))
+pub HasRanks-after_turn : (side : Side) (g h : Marks) (n : ℕ) (z y : Chain) → HasRanks (size g) z → n ≡ size g
+    → h ≡ turned side g → y ≡ turned_chain side n z → HasRanks (size h) y
+HasRanks-after_turn side g h n z y states of_n of_h of_y =
+    subst (λ k. HasRanks (size k) y) (sym of_h)
+    (subst (HasRanks (size (turned side g))) (sym (of_y ∙ ap (λ m. turned_chain side m z) of_n))
+    (HasRanks-turned side g z states))

@@ -1,5 +1,5 @@
-pub mod States
 pub mod Verdicts
-pub mod Bounds
+pub mod VerdictCodes
 pub mod Followed
+pub mod FollowedCodes
 pub mod Inner

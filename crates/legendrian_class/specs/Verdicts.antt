@@ -1,76 +1,73 @@
--- The verdict of a chain of states of a grid: what it is in the homology of the fully blocked grid complex
--- over the field of two elements, with evidence that can be checked by hand. For x+ and x- alone it says
--- whether the Legendrian classes of the link vanish there (Ozsváth, Szabó and Thurston, "Legendrian knots,
--- transverse knots and combinatorial knot Floer homology"; Ng, Ozsváth and Thurston, "Transverse knots
--- distinguished by knot Floer homology"; Ozsváth, Stipsicz and Szabó, "Grid Homology for Knots and Links",
--- chapter 12). A state stands in a chain by its rank; a cochain is a set of states too, and pairs oddly
--- with a chain where they share an odd number of states.
---     HasStates g z          the codes of z are ranks of states of g
---     maslov_at g s          the Maslov degree of the state of rank s
---     alexander_at g s       its Alexander degree
---     IsOneAbove g s t       the state s is one Maslov degree above the state t, in one Alexander degree
---     HaveOneDegree g s t    the states s and t have one Maslov degree, and one Alexander degree
+-- The verdict of a chain of states of a grid: what it is in the homology of the fully blocked grid complex over the field
+-- of two elements, with evidence that can be checked by hand. For x+ and x- alone it says whether the Legendrian classes
+-- of the link vanish there (Ozsváth, Szabó and Thurston, "Legendrian knots, transverse knots and combinatorial knot
+-- Floer homology"; Ng, Ozsváth and Thurston, "Transverse knots distinguished by knot Floer homology"; Ozsváth, Stipsicz
+-- and Szabó, "Grid Homology for Knots and Links", chapter 12). A cochain is a chain of states too.
+--     IsOneAbove g x y       x is one Maslov degree above y, in one Alexander degree
+--     HaveOneDegree g x y    x and y have one Maslov degree, and one Alexander degree
 --     IsBorderOf g b z       z is the border of the chain b of states
---     IsNotCycle g z s       z is no cycle: s is the least state of its border
---     IsNull g z b           z is null: it is the border of b, and each state of b is one Maslov degree
---                            above, and in the Alexander degree of, some state of z
---     IsAlive g z f          z is alive: it is a cycle, and f pairs evenly with the border of each state
---                            and oddly with z; all states of f have one degree, that of a state of z
---     IsVerdict g z v        v is a verdict of z, with its evidence
+--     Bounds g z             z is the border of some chain
+--     IsNotCycle g z x       z is no cycle: x is the least state of its border, in lexicographic order
+--     IsNull g z b           z is null: it is the border of b, and each state of b is one Maslov degree above, and in
+--                            the Alexander degree of, some state of z
+--     IsAlive g z f          z is alive: it is a cycle, and f pairs evenly with the border of each state and oddly
+--                            with z; all states of f have one degree, that of a state of z
+--     Verdict                one of the three, with its evidence
+--     IsVerdict g z v        v is a verdict of z
 --     HasVerdict g z         z has a verdict, with some evidence
 --     HasOneVerdict g z      z has no two of the three; if it bounds anything, it is neither alive nor no cycle
-use Rattle.std.specs.Prelude.{◌≡◌, ℕ, ◌≤◌, ◌<◌, ℤ, pos, ◌+ℤ◌, true, false}
-use Rattle.f2_algebra.specs.Chain.{Chain, holds, nothing, pairs_oddly}
-use Rattle.state_rank.specs.States.{factorial, unrank}
+use Rattle.std.specs.Prelude.{◌≡◌, ℕ, pos, ◌+ℤ◌, true, false, List}
+use Rattle.state_rank.specs.Bijection.{IsBijection}
+use Rattle.state_rank.specs.States.{is_before}
 use Rattle.torus_geom.specs.Marks.{Marks, size}
 use Rattle.torus_geom.specs.Degrees.{maslov_o, alexander}
-use Rattle.torus_geom.specs.Inner.CodeBorder.{border_of_state, border}
-pub use Rattle.legendrian_class.specs.States.{HasStates}
-use Rattle.legendrian_class.specs.declared.verdicts.ClassVerdict.{ClassVerdict}
-use Rattle.legendrian_class.specs.declared.verdicts.ClassVerdict.TheVariants.{NotCycle, Null, Alive}
+use Rattle.torus_geom.specs.Chains.{Chain, IsChain, nothing, single, pairs_oddly}
+use Rattle.torus_geom.specs.Border.{border}
 
-abbrev pub maslov_at : Marks → ℕ → ℤ
-maslov_at g s = maslov_o g (unrank (size g) s)
+pub record IsOneAbove (g : Marks) (x y : List ℕ) : Type 0 where
+  pub maslov : maslov_o g x ≡ maslov_o g y +ℤ pos 1
+  pub alexander : alexander g x ≡ alexander g y
 
-abbrev pub alexander_at : Marks → ℕ → ℤ
-alexander_at g s = alexander g (unrank (size g) s)
-
-pub record IsOneAbove (g : Marks) (s t : ℕ) : Type 0 where
-  pub maslov : maslov_at g s ≡ maslov_at g t +ℤ pos 1
-  pub alexander : alexander_at g s ≡ alexander_at g t
-
-pub record HaveOneDegree (g : Marks) (s t : ℕ) : Type 0 where
-  pub maslov : maslov_at g s ≡ maslov_at g t
-  pub alexander : alexander_at g s ≡ alexander_at g t
+pub record HaveOneDegree (g : Marks) (x y : List ℕ) : Type 0 where
+  pub maslov : maslov_o g x ≡ maslov_o g y
+  pub alexander : alexander g x ≡ alexander g y
 
 pub record IsBorderOf (g : Marks) (b z : Chain) : Type 0 where
-  pub states : HasStates g b
+  pub states : IsChain (size g) b
   pub is_border : border g b ≡ z
 
-pub record IsNotCycle (g : Marks) (z : Chain) (s : ℕ) : Type 0 where
-  pub held : holds (border g z) s ≡ true
-  pub least : (t : ℕ) → holds (border g z) t ≡ true → s ≤ t
+abbrev pub Bounds : Marks → Chain → Type 0
+Bounds g z = (b : Chain) × IsBorderOf g b z
+
+pub record IsNotCycle (g : Marks) (z : Chain) (x : List ℕ) : Type 0 where
+  pub held : border g z x ≡ true
+  pub least : (y : List ℕ) → border g z y ≡ true → is_before y x ≡ false
 
 pub record IsNull (g : Marks) (z b : Chain) : Type 0 where
   pub bounds : IsBorderOf g b z
-  pub degrees : (s : ℕ) → holds b s ≡ true → (t : ℕ) × (holds z t ≡ true) × IsOneAbove g s t
+  pub degrees : (x : List ℕ) → b x ≡ true → (y : List ℕ) × (z y ≡ true) × IsOneAbove g x y
 
 pub record IsAlive (g : Marks) (z f : Chain) : Type 0 where
-  pub states : HasStates g f
+  pub states : IsChain (size g) f
   pub cycle : border g z ≡ nothing
-  pub even : (s : ℕ) → s < factorial (size g) → pairs_oddly (border_of_state g (unrank (size g) s)) f ≡ false
-  pub odd : pairs_oddly z f ≡ true
-  pub degrees : (t : ℕ) × (holds z t ≡ true) × ((s : ℕ) → holds f s ≡ true → HaveOneDegree g s t)
+  pub even : (x : List ℕ) → IsBijection (size g) x → pairs_oddly (size g) (border g (single x)) f ≡ false
+  pub odd : pairs_oddly (size g) z f ≡ true
+  pub degrees : (y : List ℕ) × (z y ≡ true) × ((x : List ℕ) → f x ≡ true → HaveOneDegree g x y)
 
-abbrev pub IsVerdict : Marks → Chain → ClassVerdict → Type 0
-IsVerdict g z (NotCycle s) = IsNotCycle g z s
+pub data Verdict : Type 0 where
+  NotCycle : List ℕ → Verdict
+  Null : Chain → Verdict
+  Alive : Chain → Verdict
+
+abbrev pub IsVerdict : Marks → Chain → Verdict → Type 0
+IsVerdict g z (NotCycle x) = IsNotCycle g z x
 IsVerdict g z (Null b) = IsNull g z b
 IsVerdict g z (Alive f) = IsAlive g z f
 
 abbrev pub HasVerdict : Marks → Chain → Type 0
-HasVerdict g z = (v : ClassVerdict) × IsVerdict g z v
+HasVerdict g z = (v : Verdict) × IsVerdict g z v
 
 pub record HasOneVerdict (g : Marks) (z : Chain) : Type 0 where
-  pub not_cycle_or_border : (s : ℕ) (b : Chain) → IsNotCycle g z s → IsBorderOf g b z → ⊥
-  pub not_cycle_or_alive : (s : ℕ) (f : Chain) → IsNotCycle g z s → IsAlive g z f → ⊥
+  pub not_cycle_or_border : (x : List ℕ) (b : Chain) → IsNotCycle g z x → IsBorderOf g b z → ⊥
+  pub not_cycle_or_alive : (x : List ℕ) (f : Chain) → IsNotCycle g z x → IsAlive g z f → ⊥
   pub border_or_alive : (b f : Chain) → IsBorderOf g b z → IsAlive g z f → ⊥

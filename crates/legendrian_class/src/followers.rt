@@ -1,14 +1,15 @@
 //! A chain that is followed through moves of its grid.
-ghost use Rattle.std.specs.Prelude.{◌≡◌, ◌↔◌, ◌<◌, All, IfOk, IsTrue, OnErr, OnOk};
-ghost use Rattle.f2_algebra.specs.Chain.{codes as codes_of};
+ghost use Rattle.std.specs.Prelude.{◌≡◌, ◌↔◌, ◌<◌, IfOk, IsTrue, OnErr, OnOk};
 ghost use Rattle.state_rank.specs.Bijection.{IsSize};
-ghost use Rattle.state_rank.specs.States.{factorial};
+ghost use Rattle.torus_geom.specs.Chains.{single};
+ghost use Rattle.torus_geom.specs.Front.{minus_state, plus_state};
 ghost use Rattle.torus_geom.specs.Marks.{size};
 ghost use Rattle.grid_moves.specs.Inner.CodeCarried.{turned_chain};
 ghost use Rattle.grid_moves.specs.Moves.{are_commuting, swapped, turned};
-ghost use Rattle.legendrian_class.specs.Bounds.{Bounds, minus_chain, plus_chain};
 ghost use Rattle.legendrian_class.specs.Followed.{after_commutation, after_turn, at_start};
-ghost use Rattle.legendrian_class.specs.States.{HasStates};
+ghost use Rattle.legendrian_class.specs.FollowedCodes.{followed_of};
+ghost use Rattle.legendrian_class.specs.Verdicts.{Bounds};
+ghost use Rattle.torus_geom.specs.Codes.{HasRanks};
 
 use f2_chain::{Builder, Chain, CodeSet};
 use grid_moves::{Axis, Side, swap, turn_state};
@@ -27,23 +28,23 @@ pub struct Follower {
 }
 
 impl Model for Follower {
-    ghost use Rattle.legendrian_class.specs.Followed.{Followed, followed_code};
+    ghost use Rattle.torus_geom.specs.Codes.{HasRanks};
+    ghost use Rattle.torus_geom.specs.Marks.{size as size_of};
+    ghost use Rattle.legendrian_class.specs.FollowedCodes.{FollowedCodes, followed_code};
 
-    ghost Value = { Followed };
+    ghost Value = { FollowedCodes };
 
     ghost coded = { followed_code };
 
     ghost view = { λ f. record { grid = f.grid; chain = f.chain } };
 
-    ghost use Rattle.legendrian_class.specs.States.{HasStates};
-
-    ghost invariant = { λ f. HasStates f.grid f.chain };
+    ghost invariant = { λ f. HasRanks (size_of f.grid) f.chain };
 }
 
 impl Follower {
     /// The grid `g` and the empty chain. It takes no memory.
     pub fn new(alloc: Global, g: &Grid) -> Follower
-        ensures { result ≡ at_start g.now }
+        ensures { followed_of result ≡ at_start g.now }
     {
         Follower {
             grid: *g,
@@ -53,7 +54,7 @@ impl Follower {
 
     /// Puts the chain `z` in the place of the chain.
     pub fn set(&mut self, z: Chain)
-        requires states { HasStates self.old.grid z }
+        requires ranks { HasRanks (size self.old.grid) z }
         ensures grid { self.new.grid ≡ self.old.grid }
         ensures chain { self.new.chain ≡ z }
     {
@@ -70,7 +71,7 @@ impl Follower {
     /// The chain.
     pub fn chain(&self) -> &Chain
         ensures chain { result.now ≡ self.now.chain }
-        ensures states { HasStates self.now.grid self.now.chain }
+        ensures ranks { HasRanks (size self.now.grid) self.now.chain }
     {
         &self.chain
     }
@@ -80,16 +81,16 @@ impl Follower {
     ///
     /// `NoMemory` if the allocator refuses; grid and chain are as before.
     pub fn turn(&mut self, alloc: Global, side: Side) -> Result<(), NoMemory>
-        ensures after { OnOk result (self.new ≡ after_turn side self.old) }
+        ensures after { OnOk result (followed_of self.new ≡ after_turn side (followed_of self.old)) }
         ensures unchanged { OnErr result (self.new ≡ self.old) }
 
         // Whatever the call answers: x+ bounds in the grid exactly where it bounds in the turned grid.
-        ensures plus_bounds { Bounds self.old.grid (plus_chain self.old.grid)
-            ↔ Bounds (turned side self.old.grid) (plus_chain (turned side self.old.grid)) }
+        ensures plus_bounds { Bounds self.old.grid (single (plus_state self.old.grid))
+            ↔ Bounds (turned side self.old.grid) (single (plus_state (turned side self.old.grid))) }
 
         // And so does x-.
-        ensures minus_bounds { Bounds self.old.grid (minus_chain self.old.grid)
-            ↔ Bounds (turned side self.old.grid) (minus_chain (turned side self.old.grid)) }
+        ensures minus_bounds { Bounds self.old.grid (single (minus_state self.old.grid))
+            ↔ Bounds (turned side self.old.grid) (single (minus_state (turned side self.old.grid))) }
     {
         let n = self.grid.size();
         self.chain = turned_states(alloc, n, side, &self.chain)?;
@@ -112,16 +113,16 @@ impl Follower {
     ) -> Result<(), NoMemory>
         requires below { c < size self.old.grid }
         requires commutes { IsTrue (are_commuting axis self.old.grid c) }
-        ensures after { OnOk result (self.new ≡ after_commutation axis c corner self.old) }
+        ensures after { OnOk result (followed_of self.new ≡ after_commutation axis c corner (followed_of self.old)) }
         ensures unchanged { OnErr result (self.new ≡ self.old) }
 
         // Whatever the call answers: x+ bounds in the grid exactly where it bounds in the exchanged grid.
-        ensures plus_bounds { Bounds self.old.grid (plus_chain self.old.grid)
-            ↔ Bounds (swapped axis self.old.grid c) (plus_chain (swapped axis self.old.grid c)) }
+        ensures plus_bounds { Bounds self.old.grid (single (plus_state self.old.grid))
+            ↔ Bounds (swapped axis self.old.grid c) (single (plus_state (swapped axis self.old.grid c))) }
 
         // And so does x-.
-        ensures minus_bounds { Bounds self.old.grid (minus_chain self.old.grid)
-            ↔ Bounds (swapped axis self.old.grid c) (minus_chain (swapped axis self.old.grid c)) }
+        ensures minus_bounds { Bounds self.old.grid (single (minus_state self.old.grid))
+            ↔ Bounds (swapped axis self.old.grid c) (single (minus_state (swapped axis self.old.grid c))) }
     {
         let _ = self.grid.size();
         self.chain = image(alloc, &self.grid, axis, c, corner, &self.chain)?;
@@ -133,7 +134,7 @@ impl Follower {
 // The chain of the turned states of `z`, of size `n`.
 fn turned_states(alloc: Global, n: u8, side: Side, z: &Chain) -> Result<Chain, NoMemory>
     requires is_size { IsSize n }
-    requires states { All (λ code. code < factorial n) (codes_of z.now) }
+    requires ranks { HasRanks n z.now }
     ensures { IfOk result (λ y. y ≡ turned_chain side n z.now) }
 {
     let mut turned = Builder::new(alloc);

@@ -7,7 +7,7 @@ ghost use Rattle.state_rank.specs.Bijection.{IsSize};
 ghost use Rattle.state_rank.specs.States.{factorial};
 ghost use Rattle.torus_geom.specs.Marks.{size};
 ghost use Rattle.torus_geom.specs.Inner.GridComplex.{grid_complex};
-ghost use Rattle.legendrian_class.specs.States.{HasStates};
+ghost use Rattle.torus_geom.specs.Codes.{HasRanks};
 ghost use Rattle.legendrian_class.specs.Inner.Parts.{IsLeast, has_alexander, IsPartVerdict};
 
 use bumpalo::Bump;
@@ -46,7 +46,7 @@ pub(crate) fn part_at(
 ) -> Result<Chain, NoMemory>
     requires size { n ≡ size tables.now }
     requires is_size { IsSize n }
-    requires states { HasStates tables.now z.now }
+    requires ranks { HasRanks (size tables.now) z.now }
     requires first { has_alexander tables.now a first ≡ true }
     ensures { IfOk result (λ part. part ≡ where_code (has_alexander tables.now a) z.now) }
 {

@@ -1,8 +1,13 @@
 //! Verdicts of chains.
 ghost use Rattle.std.specs.Prelude.{◌≡◌, IfOk};
-ghost use Rattle.f2_algebra.specs.Chain.{Chain as Codes, nothing};
-ghost use Rattle.torus_geom.specs.Inner.CodeBorder.{border as border_of};
-ghost use Rattle.legendrian_class.specs.Verdicts.{HasStates, IsVerdict, HasVerdict, HasOneVerdict};
+ghost use Rattle.f2_algebra.specs.Chain.{nothing};
+ghost use Rattle.torus_geom.specs.Chains.{Chain as States, IsChain};
+ghost use Rattle.torus_geom.specs.Codes.{HasRanks, states_of};
+ghost use Rattle.torus_geom.specs.Inner.CodeBorder.{border as border_codes};
+ghost use Rattle.torus_geom.specs.Marks.{size};
+ghost use Rattle.legendrian_class.specs.Verdicts.{IsVerdict, HasVerdict, HasOneVerdict};
+ghost use Rattle.legendrian_class.specs.VerdictCodes.{HasVerdictRanks, verdict_of as states_verdict};
+ghost use Rattle.legendrian_class.specs.Inner.CodeVerdicts.{IsVerdict as IsCodeVerdict};
 
 use crate::parts::{PartVerdict, first_code, part_at, part_verdict};
 use f2_chain::{Chain, Cochain, CodeSet};
@@ -36,12 +41,13 @@ pub enum ClassVerdict {
 ///
 /// `NoMemory` if the allocator refuses.
 pub fn verdict(alloc: Global, g: &Grid, z: &Chain) -> Result<ClassVerdict, NoMemory>
-    requires states { HasStates g.now z.now }
-    ensures verdict { IfOk result (IsVerdict g.now z.now) }
+    requires ranks { HasRanks (size g.now) z.now }
+    ensures verdict { IfOk result (λ v. IsVerdict g.now (states_of (size g.now) z.now) (states_verdict (size g.now) v)) }
+    ensures evidence { IfOk result (HasVerdictRanks (size g.now)) }
 
     // Whatever the call answers: each chain of states has a verdict with some evidence, and no two.
-    ensures some_verdict { (y : Codes) → HasStates g.now y → HasVerdict g.now y }
-    ensures one_verdict { (y : Codes) → HasOneVerdict g.now y }
+    ensures some_verdict { (y : States) → IsChain (size g.now) y → HasVerdict g.now y }
+    ensures one_verdict { (y : States) → HasOneVerdict g.now y }
 {
     let _size = g.size();
     verdict_of(alloc, g, z)
@@ -49,8 +55,8 @@ pub fn verdict(alloc: Global, g: &Grid, z: &Chain) -> Result<ClassVerdict, NoMem
 
 // The verdict of a chain.
 fn verdict_of(alloc: Global, g: &Grid, z: &Chain) -> Result<ClassVerdict, NoMemory>
-    requires states { HasStates g.now z.now }
-    ensures { IfOk result (IsVerdict g.now z.now) }
+    requires ranks { HasRanks (size g.now) z.now }
+    ensures { IfOk result (IsCodeVerdict g.now z.now) }
 {
     match first_code(&border(alloc, g, z)?) {
         Some(state) => Ok(ClassVerdict::NotCycle { state }),
@@ -61,9 +67,9 @@ fn verdict_of(alloc: Global, g: &Grid, z: &Chain) -> Result<ClassVerdict, NoMemo
 // The verdict of a cycle. Its parts at each Alexander degree are cycles; it is null where each of them is,
 // and alive by the cocycle of any that is alive. `left` is the sum of the parts that are ahead.
 fn cycle_verdict(alloc: Global, g: &Grid, z: &Chain) -> Result<ClassVerdict, NoMemory>
-    requires states { HasStates g.now z.now }
-    requires cycle { border_of g.now z.now ≡ nothing }
-    ensures { IfOk result (IsVerdict g.now z.now) }
+    requires ranks { HasRanks (size g.now) z.now }
+    requires cycle { border_codes g.now z.now ≡ nothing }
+    ensures { IfOk result (IsCodeVerdict g.now z.now) }
 {
     let n = g.size();
     let tables = DegreeTables::of(g);

@@ -2,18 +2,20 @@
 ghost use Rattle.std.specs.Prelude.{◌≡◌, ℕ, List, ◌<◌, length, map, slice_index, IsTrue, IfOk, OnOk};
 ghost use Rattle.std.specs.List.{All};
 ghost use Rattle.std.specs.Int.{bit_at};
-ghost use Rattle.f2_algebra.specs.Chain.{Chain as Codes, codes as codes_of, holds, single, ◌⊕◌};
-ghost use Rattle.state_rank.specs.States.{IsState, rank, factorial};
-ghost use Rattle.torus_geom.specs.Inner.CodeBorder.{border};
+ghost use Rattle.f2_algebra.specs.Chain.{codes as codes_of, ◌⊕◌};
+ghost use Rattle.state_rank.specs.Bijection.{IsBijection};
+ghost use Rattle.state_rank.specs.States.{IsState, rank};
+ghost use Rattle.torus_geom.specs.Border.{border};
+ghost use Rattle.torus_geom.specs.Chains.{Chain as States, IsChain, members, single};
+ghost use Rattle.torus_geom.specs.Codes.{HasRanks, states_of};
 ghost use Rattle.torus_geom.specs.Degrees.{maslov_o, alexander};
 ghost use Rattle.torus_geom.specs.Front.{plus_state, minus_state};
 ghost use Rattle.torus_geom.specs.Marks.{Marks, IsGrid, size};
-ghost use Rattle.grid_moves.specs.Inner.CodeCarried.{turned_chain};
-ghost use Rattle.grid_moves.specs.Carried.{turned_place};
+ghost use Rattle.grid_moves.specs.Carried.{turned_chain, turned_place};
 ghost use Rattle.grid_moves.specs.Moves.{are_commuting, swapped, turned};
 ghost use Rattle.grid_moves.specs.declared.turns.Side.{Side};
-ghost use Rattle.pentagon_map.specs.Pentagon.{crossing_row as crossing_row_of};
-ghost use Rattle.pentagon_map.specs.Inner.CodeImages.{image_of_state, image as image_of};
+ghost use Rattle.pentagon_map.specs.Pentagon.{crossing_row as crossing_row_of, image as image_of};
+ghost use Rattle.pentagon_map.specs.Inner.CodeImages.{image_of_state};
 ghost use Rattle.pentagon_map.specs.Inner.Exchanges.{across as across_of};
 
 use crate::Corner;
@@ -45,7 +47,7 @@ pub fn pentagon_targets(
     requires size { length x.now ≡ size g.now }
     requires below { c < size g.now }
     requires commutes { IsTrue (are_commuting axis g.now c) }
-    ensures image { map rank result.items ≡ codes_of (image_of_state axis g.now c corner x.now) }
+    ensures image { result.items ≡ members (size g.now) (image_of axis g.now c corner (single x.now)) }
     ensures states { All (λ y. IsState y × (length y ≡ size g.now)) result.items }
 
     // Each state of the image has the degrees, in the exchanged grid, that `x` has in `g`.
@@ -79,37 +81,38 @@ pub fn image(
 ) -> Result<Chain, NoMemory>
     requires below { c < size g.now }
     requires commutes { IsTrue (are_commuting axis g.now c) }
-    requires ranks { All (λ code. code < factorial (size g.now)) (codes_of z.now) }
-    ensures image { IfOk result (λ y. y ≡ image_of axis g.now c corner z.now) }
-    ensures ranks_again { IfOk result (λ y. All (λ code. code < factorial (size g.now)) (codes_of y)) }
+    requires ranks { HasRanks (size g.now) z.now }
+    ensures image { IfOk result (λ y. states_of (size g.now) y
+        ≡ image_of axis g.now c corner (states_of (size g.now) z.now)) }
+    ensures ranks_again { IfOk result (HasRanks (size g.now)) }
 
     // The image of the border of any chain is the border, in the exchanged grid, of its image, whatever the
     // call answers.
-    ensures chain_map { (y : Codes) → image_of axis g.now c corner (border g.now y)
+    ensures chain_map { (y : States) → IsChain (size g.now) y → image_of axis g.now c corner (border g.now y)
         ≡ border (swapped axis g.now c) (image_of axis g.now c corner y) }
 
     // A turn carries the image of any chain to the image of the turned chain, at the turned place.
-    ensures turns { (side : Side) (y : Codes)
+    ensures turns { (side : Side) (y : States) → IsChain (size g.now) y
         → image_of axis (turned side g.now) (turned_place axis side (size g.now) c) corner (turned_chain side (size g.now) y)
         ≡ turned_chain side (size g.now) (image_of axis g.now c corner y) }
 
     // Each state of the image of a state has, in the exchanged grid, the Maslov degree of that state.
-    ensures keeps_maslov { (x y : List ℕ) → IsState x → length x ≡ size g.now → IsState y → length y ≡ size g.now
-        → IsTrue (holds (image_of_state axis g.now c corner x) (rank y))
+    ensures keeps_maslov { (x y : List ℕ) → IsBijection (size g.now) x
+        → IsTrue (image_of axis g.now c corner (single x) y)
         → maslov_o (swapped axis g.now c) y ≡ maslov_o g.now x }
 
     // And its Alexander degree.
-    ensures keeps_alexander { (x y : List ℕ) → IsState x → length x ≡ size g.now → IsState y → length y ≡ size g.now
-        → IsTrue (holds (image_of_state axis g.now c corner x) (rank y))
+    ensures keeps_alexander { (x y : List ℕ) → IsBijection (size g.now) x
+        → IsTrue (image_of axis g.now c corner (single x) y)
         → alexander (swapped axis g.now c) y ≡ alexander g.now x }
 
     // `Over` carries the state of the upper right corners of the X to that of the exchanged grid.
-    ensures over { image_of axis g.now c Corner.Over (single (rank (plus_state g.now)))
-        ≡ single (rank (plus_state (swapped axis g.now c))) }
+    ensures over { image_of axis g.now c Corner.Over (single (plus_state g.now))
+        ≡ single (plus_state (swapped axis g.now c)) }
 
     // `Under` carries the state of their lower left corners.
-    ensures under { image_of axis g.now c Corner.Under (single (rank (minus_state g.now)))
-        ≡ single (rank (minus_state (swapped axis g.now c))) }
+    ensures under { image_of axis g.now c Corner.Under (single (minus_state g.now))
+        ≡ single (minus_state (swapped axis g.now c)) }
 {
     let _ = g.size();
     image_sum(alloc, g, axis, c, corner, z)
@@ -125,9 +128,10 @@ fn image_sum(
     z: &Chain,
 ) -> Result<Chain, NoMemory>
     requires below { c < size g.now }
-    requires ranks { All (λ code. code < factorial (size g.now)) (codes_of z.now) }
-    ensures image { IfOk result (λ y. y ≡ image_of axis g.now c corner z.now) }
-    ensures ranks_again { IfOk result (λ y. All (λ code. code < factorial (size g.now)) (codes_of y)) }
+    requires ranks { HasRanks (size g.now) z.now }
+    ensures image { IfOk result (λ y. states_of (size g.now) y
+        ≡ image_of axis g.now c corner (states_of (size g.now) z.now)) }
+    ensures ranks_again { IfOk result (HasRanks (size g.now)) }
 {
     let n = g.size();
     let t = across(g, axis);

@@ -1,11 +1,12 @@
 //! The border of a state, and of a chain.
-ghost use Rattle.std.specs.Prelude.{List, pos, ◌+ℤ◌, ◌≡◌, ◌<◌, ℕ, length, true, IfOk, OnOk};
-ghost use Rattle.std.specs.List.{All};
-ghost use Rattle.f2_algebra.specs.Chain.{Chain as Codes, holds, codes as codes_of, nothing, ◌⊕◌};
-ghost use Rattle.state_rank.specs.States.{IsState, rank, factorial};
+ghost use Rattle.std.specs.Prelude.{List, pos, ◌+ℤ◌, ◌≡◌, ℕ, length, true, IfOk, OnOk};
+ghost use Rattle.f2_algebra.specs.Chain.{◌⊕◌};
 ghost use Rattle.torus_geom.specs.Marks.{size};
 ghost use Rattle.torus_geom.specs.Degrees.{maslov_o, alexander};
-ghost use Rattle.torus_geom.specs.Inner.CodeBorder.{border_of_state as border_of, border as border_of_chain};
+ghost use Rattle.torus_geom.specs.Border.{border as border_of};
+ghost use Rattle.torus_geom.specs.Chains.{Chain as States, nothing, single};
+ghost use Rattle.torus_geom.specs.Codes.{HasRanks, states_of};
+ghost use Rattle.torus_geom.specs.Inner.CodeBorder.{border_of_state as border_codes};
 
 use crate::target_states::targets;
 use f2_chain::{Builder, Chain};
@@ -24,17 +25,15 @@ use torus_geom::Grid;
 /// `NoMemory` if the allocator refuses.
 pub fn border_of_state(alloc: Global, g: &Grid, x: &State) -> Result<Chain, NoMemory>
     requires size { length x.now ≡ size g.now }
-    ensures border { IfOk result (λ z. z ≡ border_of g.now x.now) }
-    ensures ranks { IfOk result (λ z. All (λ code. code < factorial (size g.now)) (codes_of z)) }
+    ensures border { IfOk result (λ z. states_of (size g.now) z ≡ border_of g.now (single x.now)) }
+    ensures ranks { IfOk result (HasRanks (size g.now)) }
 
     // Each state of the border has a Maslov degree one lower than `x`, whatever the call answers.
-    ensures lowers_maslov { (y : List ℕ) → IsState y → length y ≡ size g.now
-        → holds (border_of g.now x.now) (rank y) ≡ true
+    ensures lowers_maslov { (y : List ℕ) → border_of g.now (single x.now) y ≡ true
         → maslov_o g.now x.now ≡ maslov_o g.now y +ℤ pos 1 }
 
     // And the same Alexander degree.
-    ensures keeps_alexander { (y : List ℕ) → IsState y → length y ≡ size g.now
-        → holds (border_of g.now x.now) (rank y) ≡ true
+    ensures keeps_alexander { (y : List ℕ) → border_of g.now (single x.now) y ≡ true
         → alexander g.now x.now ≡ alexander g.now y }
 {
     let _ = g.size();
@@ -55,12 +54,12 @@ pub fn border_of_state(alloc: Global, g: &Grid, x: &State) -> Result<Chain, NoMe
 ///
 /// `NoMemory` if the allocator refuses.
 pub fn border(alloc: Global, g: &Grid, z: &Chain) -> Result<Chain, NoMemory>
-    requires ranks { All (λ code. code < factorial (size g.now)) (codes_of z.now) }
-    ensures border { IfOk result (λ y. y ≡ border_of_chain g.now z.now) }
-    ensures ranks_again { IfOk result (λ y. All (λ code. code < factorial (size g.now)) (codes_of y)) }
+    requires ranks { HasRanks (size g.now) z.now }
+    ensures border { IfOk result (λ y. states_of (size g.now) y ≡ border_of g.now (states_of (size g.now) z.now)) }
+    ensures ranks_again { IfOk result (HasRanks (size g.now)) }
 
     // The border of the border of any chain is empty, whatever the call answers.
-    ensures square { (y : Codes) → border_of_chain g.now (border_of_chain g.now y) ≡ nothing }
+    ensures square { (y : States) → border_of g.now (border_of g.now y) ≡ nothing }
 {
     let n = g.size();
     let mut sum = Builder::new(alloc);
@@ -73,8 +72,9 @@ pub fn border(alloc: Global, g: &Grid, z: &Chain) -> Result<Chain, NoMemory>
 // Toggles each state of the border of `x`.
 fn toggle_targets(alloc: Global, g: &Grid, x: &State, sum: &mut Builder) -> Result<(), NoMemory>
     requires { length x.now ≡ size g.now }
-    ensures { OnOk result (sum.new ≡ sum.old ⊕ border_of g.now x.now) }
+    ensures { OnOk result (sum.new ≡ sum.old ⊕ border_codes g.now x.now) }
 {
+    let _ = x.size();
     let states = targets(alloc, g, x);
     for y in states.as_slice() {
         sum.toggle(y.rank())?;

@@ -4,14 +4,14 @@
 //! circle. The states come out in order, with no sort: first those before `x`, where the exchange
 //! lowers the row of the first circle, and then those after it.
 
-ghost use Rattle.std.specs.Prelude.{◌≡◌, ℕ, pos, ◌+ℤ◌, ◌+◌, ◌%◌, ◌<◌, ◌≤◌, ◌++◌, length, map, reverse, slice_index, if◌then◌else◌, nat_lt, ◌&&◌, All};
+ghost use Rattle.std.specs.Prelude.{◌≡◌, ℕ, pos, ◌+ℤ◌, ◌+◌, ◌%◌, ◌<◌, ◌≤◌, ◌++◌, length, reverse, slice_index, if◌then◌else◌, nat_lt, ◌&&◌, All};
 ghost use Rattle.std.specs.Int.{bit_at};
 ghost use Rattle.std.specs.List.{flat_map};
 ghost use Rattle.smallvec.specs.SmallVec.{HasRoomFor};
-ghost use Rattle.f2_algebra.specs.Chain.{codes};
 ghost use Rattle.state_rank.specs.Bijection.{ascending, numbers};
-ghost use Rattle.state_rank.specs.States.{IsState, rank, transpose};
-ghost use Rattle.torus_geom.specs.Inner.CodeBorder.{border_of_state};
+ghost use Rattle.state_rank.specs.States.{IsState, transpose};
+ghost use Rattle.torus_geom.specs.Border.{border};
+ghost use Rattle.torus_geom.specs.Chains.{members, single};
 ghost use Rattle.torus_geom.specs.Marks.{size, IsGrid};
 ghost use Rattle.torus_geom.specs.Degrees.{maslov_o, alexander};
 ghost use Rattle.torus_geom.specs.Range.{offset as offset_of};
@@ -32,7 +32,7 @@ pub type TargetStates = SmallVec<State, 45>;
 /// The states stay inline: `alloc` is asked for nothing.
 pub fn targets(alloc: Global, g: &Grid, x: &State) -> TargetStates
     requires size { length x.now ≡ size g.now }
-    ensures border { map rank result.items ≡ codes (border_of_state g.now x.now) }
+    ensures border { result.items ≡ members (size g.now) (border g.now (single x.now)) }
     ensures states { All (λ y. IsState y × (length y ≡ size g.now)) result.items }
 
     // Each state of the border has a Maslov degree one lower than `x`, and the same Alexander degree.

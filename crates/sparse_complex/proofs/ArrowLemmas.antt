@@ -1,4 +1,9 @@
 -- Arrows.
+use Rattle.state_rank.proofs.RankLemmas.{IsBijection-unrank}
+use Rattle.state_rank.specs.Bijection.{IsBijection}
+use Rattle.torus_geom.specs.Chains.{members, single}
+use Rattle.torus_geom.specs.Border.{border as border_of}
+use Rattle.rectangles.proofs.Homology.BorderLaws.{targets_codes}
 use Rattle.std.proofs.Common.{◌≡◌, ℕ, zero, suc, ℤ, ◌+◌, ◌<◌, Bool, true, false, ◌&&◌, ◌||◌, eqb, ltb, List, [], ◌∷◌, ◌++◌, map, length, take, get_or, is_some, refl, sym, ap, ap₂, subst, ◌∙◌, arith}
 use Rattle.std.proofs.lemmas.List.{take_more, map-append}
 use Rattle.std.proofs.lemmas.Bool.{eq-eqb, eqb-true, ne_eqb, lt-ltb, ltb-true, true≢false, and_parts, and_from}
@@ -172,6 +177,16 @@ not-before (y ∷ ys) (suc i) d l a =
     (not-before ys i d (omega arith) a.1)
 
 -- ---- the arrows of a cell of a grid
+-- the states that are listed have the codes of the border of the state of the cell
+pub listed-border : (g : Marks) (a : ℤ) (cells : List Cell)
+    → AreCells (at_alexander a (grid_complex g)) (factorial (size g)) cells → (key : ℕ) → key < length cells
+    → (x : List ℕ) → x ≡ unrank (size g) (code_at cells key) → (items : List (List ℕ))
+    → items ≡ members (size g) (border_of g (single x)) → map rank items ≡ codes (border_of_state g x)
+listed-border g a cells s key l x x_is items e =
+    let below = code-below (at_alexander a (grid_complex g)) (factorial (size g)) cells s key l in
+    let sx = IsBijection-unrank (size g) (code_at cells key) below in
+    targets_codes g x (subst (IsBijection (size g)) (sym x_is) sx) items e
+
 module _ (g : Marks) (a : ℤ) (grid : IsGrid g) (cells : List Cell)
     (s : AreCells (at_alexander a (grid_complex g)) (factorial (size g)) cells) (keys : List ℕ) (k : AreKeys keys cells)
     (key : ℕ) (l : key < length cells)

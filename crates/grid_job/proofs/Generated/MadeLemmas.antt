@@ -8,7 +8,7 @@ use Rattle.torus_geom.specs.Inner.CodeHomology.{IsHomologyTable}
 use Rattle.torus_geom.specs.Marks.{Marks, IsGrid}
 use Rattle.hat_division.specs.declared.tables.TableRow.{TableRow}
 use Rattle.homology_cert.specs.Tables.{homology_row}
-use Rattle.legendrian_class.specs.Verdicts.{IsVerdict}
+use Rattle.legendrian_class.specs.Inner.CodeVerdicts.{IsVerdict}
 use Rattle.legendrian_class.specs.declared.verdicts.ClassVerdict.{ClassVerdict}
 use Rattle.legendrian_class.specs.declared.verdicts.ClassVerdict.TheVariants.{NotCycle, Null, Alive}
 use Rattle.legendrian_class.proofs.VerdictLemmas.{some_verdict}

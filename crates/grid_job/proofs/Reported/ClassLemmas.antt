@@ -14,7 +14,7 @@ use Rattle.torus_geom.specs.Marks.{Marks, size, IsGrid}
 use Rattle.front_data.proofs.FrontLemmas.{plus_state-state, border_of_state-plus_state, border_of_state-minus_state}
 use Rattle.grid_text.specs.declared.commands.Sign.{Sign}
 use Rattle.grid_text.specs.declared.commands.Sign.TheVariants.{Plus, Minus}
-use Rattle.legendrian_class.specs.Verdicts.{IsNotCycle, IsVerdict}
+use Rattle.legendrian_class.specs.Inner.CodeVerdicts.{IsNotCycle, IsVerdict}
 use Rattle.legendrian_class.specs.declared.verdicts.ClassVerdict.{ClassVerdict}
 use Rattle.legendrian_class.specs.declared.verdicts.ClassVerdict.TheVariants.{NotCycle, Null, Alive}
 use Rattle.legendrian_class.proofs.VerdictLemmas.{some_verdict}

@@ -11,7 +11,7 @@ use Rattle.f2_algebra.specs.Complex.{Complex}
 use Rattle.f2_algebra.specs.Verdict.{IsNullBy, IsAliveBy}
 use Rattle.torus_geom.specs.Marks.{Marks}
 use Rattle.torus_geom.specs.Inner.GridComplex.{grid_complex}
-use Rattle.legendrian_class.specs.Verdicts.{alexander_at}
+use Rattle.legendrian_class.specs.Inner.CodeVerdicts.{alexander_at}
 use Rattle.legendrian_class.specs.declared.parts.PartVerdict.{PartVerdict}
 use Rattle.legendrian_class.specs.declared.parts.PartVerdict.TheVariants.{Null, Alive}
 

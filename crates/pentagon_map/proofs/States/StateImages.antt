@@ -1,9 +1,11 @@
 -- The image of a set of ranks across a commutation stands for the image of its chain of states, for columns and for
 -- rows. The laws of images of chains of states follow from those of sets of ranks.
 -- Route: for columns, what a set of codes reaches stands for what its chain reaches; for rows, the grid is transposed.
-use Rattle.std.proofs.Common.{◌≡◌, ℕ, ◌<◌, true, ◌&&◌, List, sym, ap, subst, ◌∙◌}
+use Rattle.torus_geom.proofs.Chains.OrderedMembers.{listed_members}
+use Rattle.std.specs.List.{Contains}
+use Rattle.std.proofs.Common.{◌≡◌, ℕ, ◌<◌, true, ◌&&◌, List, sym, ap, subst, ◌∙◌, map}
 use Rattle.std.proofs.lemmas.Bool.{and_parts}
-use Rattle.f2_algebra.specs.Chain.{Chain as Codes, single as one_code}
+use Rattle.f2_algebra.specs.Chain.{Chain as Codes, single as one_code, codes, holds}
 use Rattle.f2_algebra.proofs.Chains.Sums.{sum_over-single}
 use Rattle.state_rank.specs.Bijection.{IsBijection}
 use Rattle.state_rank.specs.States.{rank, unrank, transpose}
@@ -16,22 +18,29 @@ use Rattle.grid_moves.proofs.Exchanged.TransposedGrids.{size-transposed}
 use Rattle.grid_moves.proofs.Turned.TurnedStates.{IsBijection-turned_state}
 use Rattle.pentagon_map.proofs.ChainMap.ImageOfBorder.{image_by_columns}
 use Rattle.pentagon_map.proofs.Rows.ImageByRows.{image-by_rows}
-use Rattle.torus_geom.specs.Chains.{Chain, IsChain, single}
+use Rattle.torus_geom.specs.Chains.{Chain, IsChain, single, members}
 use Rattle.torus_geom.specs.Codes.{states_of}
 use Rattle.torus_geom.proofs.Chains.ChainLemmas.{LeadsToStates, leads_to_state}
-use Rattle.torus_geom.proofs.Chains.CodesLemmas.{AreRanks, AreRanks-single, states_of-single}
+use Rattle.torus_geom.proofs.Chains.CodesLemmas.{AreRanks, AreRanks-single, states_of-single, in_states_of}
 use Rattle.grid_moves.specs.Carried.{turned_chain, transposed_chain, turned_place, turned_state}
 use Rattle.grid_moves.specs.Inner.CodeCarried as code_carried
 use Rattle.grid_moves.specs.Moves.{are_commuting, swapped, turned}
 use Rattle.grid_moves.specs.declared.commutations.Axis.{Axis}
 use Rattle.grid_moves.specs.declared.commutations.Axis.TheVariants.{Cols, Rows}
 use Rattle.grid_moves.specs.declared.turns.Side.{Side}
-use Rattle.grid_moves.proofs.Exchanged.SwappedTwice.{size-swapped}
+use Rattle.grid_moves.proofs.Exchanged.SwappedTwice.{size-swapped, IsGrid-swapped}
 use Rattle.grid_moves.proofs.Turned.CarriedStates.{AreRanks-carried, states_of-transposed, states_of-turned}
 use Rattle.grid_moves.proofs.Turned.TurnLemmas.{IsGrid-turned, length-turned_rows}
 use Rattle.pentagon_map.specs.Inner.CodeImages as over_codes
 use Rattle.pentagon_map.specs.Pentagon.{column_image, crossing_row, image, is_pentagon, is_pentagonal}
 use Rattle.pentagon_map.specs.declared.Corner.{Corner}
+use Rattle.pentagon_map.specs.declared.Corner.TheVariants.{Over, Under}
+use Rattle.pentagon_map.proofs.Degrees.KeptDegrees.{alexander-image, image_KeepsDegrees}
+use Rattle.pentagon_map.proofs.FrontStates.ByAxis as code_states
+use Rattle.pentagon_map.proofs.FrontStates.ByAxis.{image-single}
+use Rattle.pentagon_map.proofs.FrontStates.PlusState.{IsBijection-plus_state}
+use Rattle.torus_geom.specs.Degrees.{maslov_o, alexander}
+use Rattle.torus_geom.specs.Front.{minus_state, plus_state}
 use Rattle.pentagon_map.proofs.Rows.ImageByRows as code_laws
 use Rattle.pentagon_map.proofs.Turns.TurnedByAxis as turned_images
 use Rattle.torus_geom.specs.Border.{border}
@@ -160,3 +169,63 @@ pub image_codes : (axis : Axis) (g : Marks) → IsGrid g → (c : ℕ) (corner :
 image_codes axis g s c corner y z sy sz e =
     states_of_one_to_one (size g) y (over_codes.image axis g c corner z) sy (AreRanks-image axis g s c corner z sz)
     (e ∙ sym (states_of-image axis g s c corner z sz))
+
+-- ---- the image of one state
+module _ (axis : Axis) (g : Marks) (s : IsGrid g) (c : ℕ) (corner : Corner) (x : List ℕ) (sx : IsBijection (size g) x) where
+  pub AreRanks-image_of_state : AreRanks (size g) (over_codes.image_of_state axis g c corner x)
+  AreRanks-image_of_state =
+      subst (AreRanks (size g)) (image-single axis g c corner x sx)
+      (AreRanks-image axis g s c corner (one_code (rank x)) (AreRanks-single (size g) x sx))
+
+  -- a state of the image, and its rank
+  pub in_image_of_state : (y : List ℕ) → image axis g c corner (single x) y ≡ true
+      → IsBijection (size g) y × (holds (over_codes.image_of_state axis g c corner x) (rank y) ≡ true)
+  in_image_of_state y h =
+      in_states_of (size g) (over_codes.image_of_state axis g c corner x) y
+      (ap (λ z. z y) (states_of-image_of_state axis g s c corner x sx) ∙ h)
+
+  -- a list of states with these codes lists the states of the image, in order
+  pub image_in_order : (items : List (List ℕ)) → ((y : List ℕ) → Contains items y → IsBijection (size g) y)
+      → map rank items ≡ codes (over_codes.image_of_state axis g c corner x)
+      → items ≡ members (size g) (image axis g c corner (single x))
+  image_in_order items all e =
+      listed_members (size g) (over_codes.image_of_state axis g c corner x) AreRanks-image_of_state items all e
+      ∙ ap (members (size g)) (states_of-image_of_state axis g s c corner x sx)
+
+-- ---- x+ and x-
+states_of-single_at : (g : Marks) (n : ℕ) → size g ≡ n → (x : List ℕ) → IsBijection (size g) x
+    → states_of n (one_code (rank x)) ≡ single x
+states_of-single_at g n e x sx = states_of-single n x (subst (λ m. IsBijection m x) e sx)
+
+-- `Over` carries x+ to x+.
+pub image-plus_state : (axis : Axis) (g : Marks) → IsGrid g → (c : ℕ) → c < size g → are_commuting axis g c ≡ true
+    → image axis g c Over (single (plus_state g)) ≡ single (plus_state (swapped axis g c))
+image-plus_state axis g s c l h =
+    let sx = IsBijection-plus_state g s in
+    let there = swapped axis g c in
+    sym (states_of-image_of_state axis g s c Over (plus_state g) sx)
+    ∙ ap (states_of (size g)) (sym (image-single axis g c Over (plus_state g) sx) ∙ code_states.image-plus_state axis g s c l h)
+    ∙ states_of-single_at there (size g) (size-swapped axis g c) (plus_state there)
+    (IsBijection-plus_state there (IsGrid-swapped axis g s c l))
+
+-- `Under` carries x- to x-.
+pub image-minus_state : (axis : Axis) (g : Marks) → IsGrid g → (c : ℕ) → c < size g → are_commuting axis g c ≡ true
+    → image axis g c Under (single (minus_state g)) ≡ single (minus_state (swapped axis g c))
+image-minus_state axis g s c l h =
+    let there = swapped axis g c in
+    sym (states_of-image_of_state axis g s c Under (minus_state g) s.x)
+    ∙ ap (states_of (size g)) (sym (image-single axis g c Under (minus_state g) s.x) ∙ code_states.image-minus_state axis g s c l h)
+    ∙ states_of-single_at there (size g) (size-swapped axis g c) (minus_state there) (IsGrid-swapped axis g s c l).x
+
+-- ---- degrees
+module _ (axis : Axis) (g : Marks) (s : IsGrid g) (c : ℕ) (l : c < size g) (h : are_commuting axis g c ≡ true)
+    (corner : Corner) (x y : List ℕ) (sx : IsBijection (size g) x) (held : image axis g c corner (single x) y ≡ true) where
+  -- a state of the image of x has its Maslov degree
+  pub maslov_o-in_image : maslov_o (swapped axis g c) y ≡ maslov_o g x
+  maslov_o-in_image = let (sy, e) = in_image_of_state axis g s c corner x sx y held in
+      (image_KeepsDegrees axis g s c l h corner x y sx sy e).by_o
+
+  -- and its Alexander degree
+  pub alexander-in_image : alexander (swapped axis g c) y ≡ alexander g x
+  alexander-in_image = let (sy, e) = in_image_of_state axis g s c corner x sx y held in
+      alexander-image axis g s c l h corner x y sx sy e

@@ -63,6 +63,14 @@ reached-parity n L z y =
     odd-flat_map (λ x. filter (L x y) (rectangles n)) (members n z)
     ∙ parity-filter (λ x. is_reached n L x y) z (states n)
 
+-- what is reached depends on the states of the chain alone
+pub reached-same : (n : ℕ) (L : List ℕ → List ℕ → Rect → Bool) (z w : Chain)
+    → ((x : List ℕ) → IsBijection n x → z x ≡ w x) → reached n L z ≡ reached n L w
+reached-same n L z w h = same_states (reached n L z) (reached n L w) (λ y.
+    reached-parity n L z y
+    ∙ parity-states n (λ x. z x && is_reached n L x y) (λ x. w x && is_reached n L x y)
+    (λ x sx. ap (λ b. b && is_reached n L x y) (h x sx)) ∙ sym (reached-parity n L w y))
+
 -- ---- the sum of what is reached
 pub reached-add : (n : ℕ) (L : List ℕ → List ℕ → Rect → Bool) (z w : Chain)
     → reached n L (z ⊕ w) ≡ reached n L z ⊕ reached n L w

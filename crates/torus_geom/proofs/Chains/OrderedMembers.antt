@@ -58,3 +58,9 @@ pub listed_members : (n : ℕ) (z : Codes) → AreRanks n z → (xs : List (List
     → ((x : List ℕ) → Contains xs x → IsBijection n x) → map rank xs ≡ codes z → xs ≡ members n (states_of n z)
 listed_members n z below xs all e =
     sym (unranked-ranked n xs all) ∙ ap (map (unrank n)) e ∙ sym (members-states_of n z below)
+
+-- And the ranks of its states, in order, are its codes.
+pub members_codes : (n : ℕ) (z : Codes) → AreRanks n z → (xs : List (List ℕ)) → xs ≡ members n (states_of n z)
+    → map rank xs ≡ codes z
+members_codes n z below xs e =
+    ap (map rank) e ∙ sym (codes-codes_of n (states_of n z)) ∙ ap codes (codes_of-states_of n z below)

@@ -20,7 +20,7 @@ use Rattle.torus_geom.specs.Border.{is_step, border}
 use Rattle.torus_geom.specs.Codes.{is_state, states_of}
 use Rattle.torus_geom.proofs.Chains.StateTests.{is_state-is, is_state-true, parity-states, weight-states}
 use Rattle.torus_geom.proofs.Chains.ChainLemmas.{is_reached, reached-parity, reached-add, LeadsToStates, leads_to_state, reached-outside}
-use Rattle.torus_geom.proofs.Chains.CodesLemmas.{AreRanks, AreRanks-single, states_of-single, states_of-at, is_states_of, states_of_one_to_one}
+use Rattle.torus_geom.proofs.Chains.CodesLemmas.{AreRanks, in_states_of, AreRanks-single, states_of-single, states_of-at, is_states_of, states_of_one_to_one}
 
 -- ---- what a set of codes reaches
 -- the sum, over the codes of z, of the chains of the states that their states reach
@@ -108,3 +108,14 @@ pub states_of-border_at : (g : Marks) (n : ℕ) → size g ≡ n → (z : Codes)
 states_of-border_at g n e z =
     let P : ℕ → Type 0 = λ m. AreRanks m z → states_of m (over_codes.border g z) ≡ border g (states_of m z) in
     subst P e (states_of-border g z)
+
+-- a state of the border of a state, and its rank
+pub in_border_of_state : (g : Marks) (x y : List ℕ) → IsBijection (size g) x → border g (single x) y ≡ true
+    → IsBijection (size g) y × (holds (border_of_state g x) (rank y) ≡ true)
+in_border_of_state g x y sx h =
+    in_states_of (size g) (border_of_state g x) y (ap (λ z. z y) (states_of-border_of_state g x sx) ∙ h)
+
+-- the set of the ranks of the border of a state has ranks of states
+pub AreRanks-border_of_state : (g : Marks) (x : List ℕ) → AreRanks (size g) (border_of_state g x)
+unfolding border_of_state
+AreRanks-border_of_state g x = states_where-below (size g) (is_reached (size g) (is_step g) x)

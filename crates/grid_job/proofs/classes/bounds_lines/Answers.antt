@@ -2,7 +2,7 @@
 use Rattle.std.proofs.Common.{◌<◌, All, sym, subst}
 use Rattle.f2_algebra.specs.Chain.{codes}
 use Rattle.state_rank.specs.States.{factorial}
-use Rattle.legendrian_class.specs.Verdicts.{IsVerdict}
+use Rattle.legendrian_class.specs.Inner.CodeVerdicts.{IsVerdict}
 use Rattle.legendrian_class.proofs.VerdictLemmas.{IsNotCycle-state}
 use Rattle.legendrian_class.specs.States.{HasStates}
 use Rattle.grid_job.proofs.Reported.ClassLemmas.{HasStates-single}

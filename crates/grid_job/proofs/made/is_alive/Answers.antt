@@ -2,7 +2,7 @@
 use Rattle.std.proofs.Common.{true, false, refl, sym, ap, subst, ◌∙◌}
 use Rattle.f2_algebra.specs.Chain.{single}
 use Rattle.state_rank.specs.States.{rank}
-use Rattle.legendrian_class.specs.Verdicts.{IsNotCycle, IsVerdict}
+use Rattle.legendrian_class.specs.Inner.CodeVerdicts.{IsNotCycle, IsVerdict}
 use Rattle.legendrian_class.specs.States.{HasStates}
 use Rattle.legendrian_class.specs.declared.verdicts.ClassVerdict.TheVariants.{Null, Alive}
 use Rattle.grid_job.proofs.Reported.ClassLemmas.{class_is_cycle, HasStates-class_chain}

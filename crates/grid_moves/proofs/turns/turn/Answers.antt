@@ -4,7 +4,7 @@ use Rattle.torus_geom.specs.Marks.{Marks, IsGrid}
 use Rattle.grid_moves.specs.Moves.{turned, moved_row}
 use Rattle.grid_moves.proofs.Turned.TurnLemmas.{HasTurned-more, take-turned_marks, IsGrid-turned}
 use Rattle.grid_moves.proofs.Turned.TurnedDegrees.{components-turned, maslov_o-turned, alexander-turned}
-use Rattle.grid_moves.proofs.Turned.TurnedBorders.{border-turned}
+use Rattle.grid_moves.proofs.Turned.CarriedStates.{border-turned}
 use Rattle.grid_moves.proofs.turns.turn.Goals as goal
 
 pub loop-c-preserved : goal.loop-c-preserved

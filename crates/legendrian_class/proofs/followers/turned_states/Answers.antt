@@ -12,7 +12,7 @@ loop-code-preserved c =
     let codes = c.codes-code-items.result.now in
     let below =
     subst (λ (xs : List ℕ). All (λ code. code < factorial c.args.n) xs)
-    (sym c.codes-code-items.ensures) c.requires.states in
+    (sym c.codes-code-items.ensures) c.requires.ranks in
     turned_added c.args.side c.args.n codes c.loop-code.code-index
     (get_or codes c.loop-code.code-index 0) _ _ _ _ _ c.loop-code-test.true refl
     (below c.loop-code.code-index 0 c.loop-code-test.true) c.unrank.ensures.state c.turn_state.ensures.state

@@ -1,8 +1,5 @@
 -- The laws hold of any chain and any state.
-use Rattle.pentagon_map.proofs.Degrees.KeptDegrees.{maslov_o-image_of_state, alexander-image_of_state}
-use Rattle.pentagon_map.proofs.FrontStates.ByAxis.{image-plus_state, image-minus_state}
-use Rattle.pentagon_map.proofs.Rows.ImageByRows.{image-border}
-use Rattle.pentagon_map.proofs.Turns.TurnedByAxis.{image-turned}
+use Rattle.pentagon_map.proofs.States.StateImages.{alexander-in_image, image-border, image-minus_state, image-plus_state, image-turned, maslov_o-in_image}
 use Rattle.pentagon_map.proofs.images.image.Goals as goal
 
 pub returns-clause-chain_map : goal.returns-clause-chain_map
@@ -20,12 +17,12 @@ returns-clause-under c =
 
 pub returns-clause-keeps_maslov : goal.returns-clause-keeps_maslov
 returns-clause-keeps_maslov c =
-    maslov_o-image_of_state c.args.axis c.args.g.now c.size.ensures.grid c.args.c c.requires.below c.requires.commutes
+    maslov_o-in_image c.args.axis c.args.g.now c.size.ensures.grid c.args.c c.requires.below c.requires.commutes
     c.args.corner
 
 pub returns-clause-keeps_alexander : goal.returns-clause-keeps_alexander
 returns-clause-keeps_alexander c =
-    alexander-image_of_state c.args.axis c.args.g.now c.size.ensures.grid c.args.c c.requires.below c.requires.commutes
+    alexander-in_image c.args.axis c.args.g.now c.size.ensures.grid c.args.c c.requires.below c.requires.commutes
     c.args.corner
 
 pub returns-clause-turns : goal.returns-clause-turns

@@ -1,15 +1,13 @@
 -- The images of the members add up to the image.
-use Rattle.std.proofs.Common.{◌<◌, sym, ap, subst, ◌∙◌}
-use Rattle.std.specs.List.{All}
+use Rattle.std.proofs.Common.{sym, ap, subst, ◌∙◌}
 use Rattle.std.proofs.lemmas.List.{take_all}
 use Rattle.std.proofs.lemmas.Result.{IfOk-weaker}
-use Rattle.f2_algebra.specs.Chain.{Chain}
-use Rattle.f2_algebra.specs.Chain.{codes as codes_of}
-use Rattle.f2_algebra.proofs.Chains.Lists.{All-codes}
-use Rattle.state_rank.specs.States.{factorial}
 use Rattle.torus_geom.specs.Marks.{size}
-use Rattle.pentagon_map.specs.Inner.CodeImages.{image as image_of}
-use Rattle.pentagon_map.proofs.Targets.LoopLemmas.{sum_of_images, image_added, all_images_added, image-below}
+use Rattle.pentagon_map.specs.Inner.CodeImages.{image as image_codes}
+use Rattle.torus_geom.specs.Codes.{HasRanks, states_of}
+use Rattle.torus_geom.proofs.Chains.CodesLemmas.{All_from_ranks, ranks_from_All}
+use Rattle.pentagon_map.proofs.States.StateImages.{AreRanks-image, states_of-image}
+use Rattle.pentagon_map.proofs.Targets.LoopLemmas.{sum_of_images, image_added, all_images_added}
 use Rattle.pentagon_map.proofs.images.image_sum.Goals as goal
 
 pub loop-code-preserved : goal.loop-code-preserved
@@ -21,24 +19,27 @@ loop-code-preserved c =
 
 pub returns-clause-image : goal.returns-clause-image
 returns-clause-image c =
+    let g = c.args.g.now in
     let codes = c.codes-code-items.result.now in
     let sum = c.loop-code.invariant
-    ∙ ap (sum_of_images c.args.axis c.args.g.now c.args.c c.args.corner)
+    ∙ ap (sum_of_images c.args.axis g c.args.c c.args.corner)
     (take_all c.loop-code.code-index codes c.loop-code-test.false)
-    ∙ all_images_added c.args.axis c.args.g.now c.args.c c.args.corner _ _ c.codes-code-items.ensures in
-    IfOk-weaker c.finish.result _ _ (λ z e. e ∙ sum) c.finish.ensures
+    ∙ all_images_added c.args.axis g c.args.c c.args.corner _ _ c.codes-code-items.ensures in
+    IfOk-weaker c.finish.result _ _
+    (λ z e. ap (states_of (size g)) (e ∙ sum)
+    ∙ states_of-image c.args.axis g c.size-n.ensures.grid c.args.c c.args.corner c.args.z.now
+    (ranks_from_All (size g) c.args.z.now c.requires.ranks)) c.finish.ensures
 
 pub returns-clause-ranks_again : goal.returns-clause-ranks_again
 returns-clause-ranks_again c =
+    let g = c.args.g.now in
     let codes = c.codes-code-items.result.now in
     let sum = c.loop-code.invariant
-    ∙ ap (sum_of_images c.args.axis c.args.g.now c.args.c c.args.corner)
+    ∙ ap (sum_of_images c.args.axis g c.args.c c.args.corner)
     (take_all c.loop-code.code-index codes c.loop-code-test.false)
-    ∙ all_images_added c.args.axis c.args.g.now c.args.c c.args.corner _ _ c.codes-code-items.ensures in
-    let below =
-    All-codes (λ code. code < factorial (size c.args.g.now))
-    (image_of c.args.axis c.args.g.now c.args.c c.args.corner c.args.z.now)
-    (image-below c.args.axis c.args.g.now c.size-n.ensures.grid c.args.c c.args.corner c.args.z.now) in
-    IfOk-weaker c.finish.result _ _
-    (λ z e. subst (λ (y : Chain). All (λ code. code < factorial (size c.args.g.now)) (codes_of y))
-    (sym (e ∙ sum)) below) c.finish.ensures
+    ∙ all_images_added c.args.axis g c.args.c c.args.corner _ _ c.codes-code-items.ensures in
+    let image = image_codes c.args.axis g c.args.c c.args.corner c.args.z.now in
+    let below = All_from_ranks (size g) image
+    (AreRanks-image c.args.axis g c.size-n.ensures.grid c.args.c c.args.corner c.args.z.now
+    (ranks_from_All (size g) c.args.z.now c.requires.ranks)) in
+    IfOk-weaker c.finish.result _ _ (λ z e. subst (HasRanks (size g)) (sym (e ∙ sum)) below) c.finish.ensures

@@ -1,15 +1,13 @@
 -- The borders of the members add up to the border.
-use Rattle.std.proofs.Common.{◌<◌, sym, ap, subst, ◌∙◌}
-use Rattle.std.specs.List.{All}
-use Rattle.f2_algebra.specs.Chain.{Chain}
-use Rattle.f2_algebra.specs.Chain.{codes as codes_of}
-use Rattle.f2_algebra.proofs.Chains.Lists.{All-codes}
-use Rattle.state_rank.specs.States.{factorial}
-use Rattle.torus_geom.specs.Marks.{size}
-use Rattle.torus_geom.specs.Inner.CodeBorder.{border as border_of}
-use Rattle.std.proofs.lemmas.Result.{IfOk-weaker}
+use Rattle.std.proofs.Common.{sym, ap, subst, ◌∙◌}
 use Rattle.std.proofs.lemmas.List.{take_all}
-use Rattle.rectangles.proofs.Square.BorderLemmas.{border-border, border-below}
+use Rattle.std.proofs.lemmas.Result.{IfOk-weaker}
+use Rattle.torus_geom.specs.Codes.{HasRanks, states_of}
+use Rattle.torus_geom.specs.Inner.CodeBorder.{border as border_codes}
+use Rattle.torus_geom.specs.Marks.{size}
+use Rattle.torus_geom.proofs.Chains.CodesLemmas.{All_from_ranks, ranks_from_All}
+use Rattle.torus_geom.proofs.Chains.ReachedLemmas.{AreRanks-border, states_of-border}
+use Rattle.rectangles.proofs.Homology.BorderLaws.{border-border}
 use Rattle.rectangles.proofs.Sweep.LoopLemmas.{sum_of_borders, added, all_added}
 use Rattle.rectangles.proofs.borders.border.Goals as goal
 
@@ -23,24 +21,22 @@ loop-code-preserved c =
 
 pub returns-clause-border : goal.returns-clause-border
 returns-clause-border c =
-    let codes = c.codes-code-items.result.now in
+    let g = c.args.g.now in
     let sum = c.loop-code.invariant
-    ∙ ap (sum_of_borders c.args.g.now) (take_all c.loop-code.code-index codes c.loop-code-test.false)
-    ∙ all_added c.args.g.now _ _ c.codes-code-items.ensures in
-    IfOk-weaker c.finish.result _ _ (λ z e. e ∙ sum) c.finish.ensures
+    ∙ ap (sum_of_borders g) (take_all c.loop-code.code-index c.codes-code-items.result.now c.loop-code-test.false)
+    ∙ all_added g _ _ c.codes-code-items.ensures in
+    IfOk-weaker c.finish.result _ _
+    (λ z e. ap (states_of (size g)) (e ∙ sum)
+    ∙ states_of-border g c.args.z.now (ranks_from_All (size g) c.args.z.now c.requires.ranks)) c.finish.ensures
 
 pub returns-clause-ranks_again : goal.returns-clause-ranks_again
 returns-clause-ranks_again c =
-    let codes = c.codes-code-items.result.now in
+    let g = c.args.g.now in
     let sum = c.loop-code.invariant
-    ∙ ap (sum_of_borders c.args.g.now) (take_all c.loop-code.code-index codes c.loop-code-test.false)
-    ∙ all_added c.args.g.now _ _ c.codes-code-items.ensures in
-    let below =
-    All-codes (λ code. code < factorial (size c.args.g.now)) (border_of c.args.g.now c.args.z.now)
-    (border-below c.args.g.now c.args.z.now) in
-    IfOk-weaker c.finish.result _ _
-    (λ z e. subst (λ (y : Chain). All (λ code. code < factorial (size c.args.g.now)) (codes_of y))
-    (sym (e ∙ sum)) below) c.finish.ensures
+    ∙ ap (sum_of_borders g) (take_all c.loop-code.code-index c.codes-code-items.result.now c.loop-code-test.false)
+    ∙ all_added g _ _ c.codes-code-items.ensures in
+    let below = All_from_ranks (size g) (border_codes g c.args.z.now) (AreRanks-border g c.args.z.now) in
+    IfOk-weaker c.finish.result _ _ (λ z e. subst (HasRanks (size g)) (sym (e ∙ sum)) below) c.finish.ensures
 
 pub returns-clause-square : goal.returns-clause-square
 returns-clause-square c = border-border c.args.g.now c.size-n.ensures.grid

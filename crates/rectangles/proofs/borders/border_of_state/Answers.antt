@@ -1,45 +1,39 @@
 -- From nothing, the targets add up to the border.
-use Rattle.std.proofs.Common.{◌<◌, sym, ap, subst, ◌∙◌}
-use Rattle.std.specs.List.{All}
+use Rattle.std.proofs.Common.{sym, ap, subst, ◌∙◌}
 use Rattle.std.proofs.lemmas.Result.{IfOk-weaker}
-use Rattle.f2_algebra.specs.Chain.{Chain, codes, ◌⊕◌}
+use Rattle.f2_algebra.specs.Chain.{◌⊕◌}
 use Rattle.f2_algebra.proofs.Chains.Sums.{nothing-add}
-use Rattle.f2_algebra.proofs.Chains.Lists.{All-codes}
-use Rattle.state_rank.specs.States.{factorial}
-use Rattle.torus_geom.specs.Marks.{size}
+use Rattle.state_rank.specs.Bijection.{IsBijection}
+use Rattle.torus_geom.specs.Codes.{HasRanks, states_of}
 use Rattle.torus_geom.specs.Inner.CodeBorder.{border_of_state}
-use Rattle.rectangles.proofs.Square.BorderLemmas.{border_of_state-below}
-use Rattle.rectangles.proofs.Law.GridComplexLemmas.{maslov_o-border_of_state, alexander-border_of_state}
+use Rattle.torus_geom.specs.Marks.{size}
+use Rattle.torus_geom.proofs.Chains.CodesLemmas.{All_from_ranks}
+use Rattle.torus_geom.proofs.Chains.ReachedLemmas.{AreRanks-border_of_state, states_of-border_of_state}
+use Rattle.rectangles.proofs.Homology.BorderLaws.{alexander-in_border, maslov_o-in_border}
 use Rattle.rectangles.proofs.borders.border_of_state.Goals as goal
 
 pub returns-in_err-toggle_targets-clause-lowers_maslov : goal.returns-in_err-toggle_targets-clause-lowers_maslov
-returns-in_err-toggle_targets-clause-lowers_maslov c y sy ey h =
-    maslov_o-border_of_state c.args.g.now c.size.ensures.grid c.args.x.now y c.size-2.ensures.state sy c.requires.size
-    ey h
+returns-in_err-toggle_targets-clause-lowers_maslov c y h =
+    maslov_o-in_border c.args.g.now c.size.ensures.grid c.args.x.now y
+    (subst (λ n. IsBijection n c.args.x.now) c.requires.size c.size-2.ensures.state.bijection) h
 
 pub returns-in_err-toggle_targets-clause-keeps_alexander : goal.returns-in_err-toggle_targets-clause-keeps_alexander
-returns-in_err-toggle_targets-clause-keeps_alexander c y sy ey h =
-    alexander-border_of_state c.args.g.now c.size.ensures.grid c.args.x.now y c.size-2.ensures.state sy c.requires.size
-    ey h
+returns-in_err-toggle_targets-clause-keeps_alexander c y h =
+    alexander-in_border c.args.g.now c.size.ensures.grid c.args.x.now y
+    (subst (λ n. IsBijection n c.args.x.now) c.requires.size c.size-2.ensures.state.bijection) h
 
 pub returns : goal.returns
 returns c =
-    let sum = c.in_ok-toggle_targets.ensures ∙ ap (λ z. z ⊕ border_of_state c.args.g.now c.args.x.now) c.new-sum.ensures
-    ∙ nothing-add _ in
-    let below =
-    All-codes (λ code. code < factorial (size c.args.g.now)) (border_of_state c.args.g.now c.args.x.now)
-    (border_of_state-below c.args.g.now c.args.x.now) in
+    let g = c.args.g.now in
+    let x = c.args.x.now in
+    let sx = subst (λ n. IsBijection n x) c.requires.size c.size-2.ensures.state.bijection in
+    let sum = c.in_ok-toggle_targets.ensures ∙ ap (λ z. z ⊕ border_of_state g x) c.new-sum.ensures ∙ nothing-add _ in
+    let below = All_from_ranks (size g) (border_of_state g x) (AreRanks-border_of_state g x) in
     record {
-      border = IfOk-weaker c.finish.result _ _ (λ z e. e ∙ sum) c.finish.ensures;
-      lowers_maslov =
-          λ y sy ey h. maslov_o-border_of_state c.args.g.now c.size.ensures.grid c.args.x.now y c.size-2.ensures.state
-          sy
-          c.requires.size ey h;
-      keeps_alexander =
-          λ y sy ey h. alexander-border_of_state c.args.g.now c.size.ensures.grid c.args.x.now y c.size-2.ensures.state
-          sy
-          c.requires.size ey h;
-      ranks = IfOk-weaker c.finish.result _ _
-          (λ z e. subst (λ (y : Chain). All (λ code. code < factorial (size c.args.g.now)) (codes y))
-          (sym (e ∙ sum)) below) c.finish.ensures;
+      border = IfOk-weaker c.finish.result _ _
+          (λ z e. ap (states_of (size g)) (e ∙ sum) ∙ states_of-border_of_state g x sx) c.finish.ensures;
+      lowers_maslov = λ y h. maslov_o-in_border g c.size.ensures.grid x y sx h;
+      keeps_alexander = λ y h. alexander-in_border g c.size.ensures.grid x y sx h;
+      ranks =
+          IfOk-weaker c.finish.result _ _ (λ z e. subst (HasRanks (size g)) (sym (e ∙ sum)) below) c.finish.ensures;
     }

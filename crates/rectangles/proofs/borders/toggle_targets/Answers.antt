@@ -1,8 +1,10 @@
 -- Each target is toggled once, so the border is added.
-use Rattle.std.proofs.Common.{sym, ap, ◌∙◌}
+use Rattle.std.proofs.Common.{sym, ap, subst, ◌∙◌}
 use Rattle.std.proofs.lemmas.List.{take_all}
 use Rattle.f2_algebra.specs.Chain.{◌⊕◌}
 use Rattle.f2_algebra.proofs.Chains.Sums.{add-nothing}
+use Rattle.state_rank.specs.Bijection.{IsBijection}
+use Rattle.rectangles.proofs.Homology.BorderLaws.{targets_codes}
 use Rattle.rectangles.proofs.Sweep.LoopLemmas.{sum_of_ranks, toggled, all_toggled}
 use Rattle.rectangles.proofs.borders.toggle_targets.Goals as goal
 
@@ -16,8 +18,12 @@ loop-y-preserved c =
 
 pub returns : goal.returns
 returns c =
+    let g = c.args.g.now in
+    let x = c.args.x.now in
     let states = c.as_slice-y-items.result.now in
     c.loop-y.invariant
     ∙ ap (λ ys. c.args.sum.now ⊕ sum_of_ranks ys)
     (take_all c.loop-y.y-index states c.loop-y-test.false ∙ c.as_slice-y-items.ensures)
-    ∙ ap (λ z. c.args.sum.now ⊕ z) (all_toggled _ _ c.targets-states.ensures.border)
+    ∙ ap (λ z. c.args.sum.now ⊕ z) (all_toggled _ _
+    (targets_codes g x (subst (λ n. IsBijection n x) c.requires c.size.ensures.state.bijection) _
+    c.targets-states.ensures.border))

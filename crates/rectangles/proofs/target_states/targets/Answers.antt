@@ -7,7 +7,11 @@ use Rattle.f2_algebra.specs.Chain.{codes}
 use Rattle.state_rank.specs.Bijection.{IsBijection, ascending}
 use Rattle.state_rank.specs.States.{IsState, rank, transpose}
 use Rattle.torus_geom.specs.Marks.{Marks, size, IsGrid}
+use Rattle.torus_geom.specs.Border.{border as border_of}
+use Rattle.torus_geom.specs.Chains.{members, single}
 use Rattle.torus_geom.specs.Inner.CodeBorder.{border_of_state}
+use Rattle.std.proofs.lemmas.List.Elements.{All-contains}
+use Rattle.rectangles.proofs.Homology.BorderLaws.{targets_states as targets_in_order}
 use Rattle.torus_geom.specs.Degrees.{bidegree}
 use Rattle.f2_algebra.specs.Bigraded.{up_m}
 use Rattle.rectangles.proofs.Law.GridComplexLemmas.{bidegree-listed}
@@ -97,6 +101,16 @@ module _ (g : Marks) (s : IsGrid g) (x : List ℕ) (sx : IsState x) (same : leng
   few_listed items is =
       let h = few in let e = ap length is ∙ length-append lowered raised in omega arith
 
+  in_order : (items : List (List ℕ))
+      → items ≡ flat_map (exchanges_below x columns odds) (ascending (length x))
+      ++ flat_map (exchanges_above x columns odds) (reverse (ascending (length x)))
+      → items ≡ members (size g) (border_of g (single x))
+  in_order items is =
+      targets_in_order g x state items
+      (λ y m. let (sy, ey) = All-contains (λ y. IsState y × (length y ≡ size g)) items y (each_listed items is) m in
+      subst (λ n. IsBijection n y) ey sy.bijection)
+      (listed items is)
+
   degrees_listed : (items : List (List ℕ))
       → items ≡ flat_map (exchanges_below x columns odds) (ascending (length x))
       ++ flat_map (exchanges_above x columns odds) (reverse (ascending (length x)))
@@ -127,7 +141,7 @@ push_above-requires-clause-room c =
 
 pub returns-clause-border : goal.returns-clause-border
 returns-clause-border c =
-    listed c.args.g.now c.open_rectangles-opens.ensures.grid c.args.x.now c.odd_pairs-odds.ensures.state c.requires.size
+    in_order c.args.g.now c.open_rectangles-opens.ensures.grid c.args.x.now c.odd_pairs-odds.ensures.state c.requires.size
     c.open_rectangles-opens.result c.odd_pairs-odds.result c.transpose-columns.result c.transpose-columns.ensures.state
     c.open_rectangles-opens.ensures.rectangles c.odd_pairs-odds.ensures.odd
     c.push_above.new.states.items

@@ -16,7 +16,7 @@ use Rattle.sparse_complex.specs.Inner.Stored.{is_live, most_keys}
 use Rattle.sparse_complex.proofs.CountLemmas.{nodes_fit}
 use Rattle.sparse_complex.proofs.StoredLemmas.{key_read_zero}
 use Rattle.sparse_complex.proofs.TakenKeyLemmas.{live-below}
-use Rattle.sparse_complex.proofs.ArrowLemmas.{ArrowsPlace, arrows-start, arrows-step, arrows-end, source-in, target-in, not-yet, all-targets, target-live, target-fresh, read-more}
+use Rattle.sparse_complex.proofs.ArrowLemmas.{ArrowsPlace, arrows-start, arrows-step, arrows-end, source-in, target-in, not-yet, all-targets, target-live, target-fresh, read-more, listed-border}
 use Rattle.sparse_complex.proofs.builds.push_arrows.Goals as goal
 
 pub reserve-requires : goal.reserve-requires
@@ -46,7 +46,8 @@ bounds-keys-rank c =
     let x_is : c.unrank-x.result ≡ unrank (size c.args.g.now) (code_at c.args.cells.now c.args.key) =
     c.unrank-x.ensures.state ∙ ap (λ n. unrank n (code_at c.args.cells.now c.args.key)) c.size.ensures.size in
     let border : map rank c.as_slice-y-items.result.now ≡ codes (border_of_state c.args.g.now c.unrank-x.result) =
-    ap (map rank) c.as_slice-y-items.ensures ∙ c.targets-states.ensures.border in
+    listed-border c.args.g.now c.args.a c.args.cells.now c.requires.cells c.args.key c.requires.key c.unrank-x.result x_is
+    c.as_slice-y-items.result.now (c.as_slice-y-items.ensures ∙ c.targets-states.ensures.border) in
     let r_is : c.rank.result ≡ rank (get_or c.as_slice-y-items.result.now c.loop-y.y-index c.y-item.result) =
     c.rank.ensures.rank ∙ ap rank c.y-item.is in
     let live : is_live c.args.keys.now c.rank.result ≡ true = ap (is_live c.args.keys.now) r_is
@@ -66,7 +67,8 @@ link-requires-clause-ends c =
     let x_is : c.unrank-x.result ≡ unrank (size c.args.g.now) (code_at c.args.cells.now c.args.key) =
     c.unrank-x.ensures.state ∙ ap (λ n. unrank n (code_at c.args.cells.now c.args.key)) c.size.ensures.size in
     let border : map rank c.as_slice-y-items.result.now ≡ codes (border_of_state c.args.g.now c.unrank-x.result) =
-    ap (map rank) c.as_slice-y-items.ensures ∙ c.targets-states.ensures.border in
+    listed-border c.args.g.now c.args.a c.args.cells.now c.requires.cells c.args.key c.requires.key c.unrank-x.result x_is
+    c.as_slice-y-items.result.now (c.as_slice-y-items.ensures ∙ c.targets-states.ensures.border) in
     let fits : SFits w32 c.args.a = search rules in
     let place =
     subst (λ (a : ℤ). ArrowsPlace (at_alexander a (grid_complex c.args.g.now)) c.args.cells.now c.args.key
@@ -102,7 +104,8 @@ link-requires-clause-absent c =
     let x_is : c.unrank-x.result ≡ unrank (size c.args.g.now) (code_at c.args.cells.now c.args.key) =
     c.unrank-x.ensures.state ∙ ap (λ n. unrank n (code_at c.args.cells.now c.args.key)) c.size.ensures.size in
     let border : map rank c.as_slice-y-items.result.now ≡ codes (border_of_state c.args.g.now c.unrank-x.result) =
-    ap (map rank) c.as_slice-y-items.ensures ∙ c.targets-states.ensures.border in
+    listed-border c.args.g.now c.args.a c.args.cells.now c.requires.cells c.args.key c.requires.key c.unrank-x.result x_is
+    c.as_slice-y-items.result.now (c.as_slice-y-items.ensures ∙ c.targets-states.ensures.border) in
     let fits : SFits w32 c.args.a = search rules in
     let place =
     subst (λ (a : ℤ). ArrowsPlace (at_alexander a (grid_complex c.args.g.now)) c.args.cells.now c.args.key
@@ -131,7 +134,8 @@ loop-y-preserved c =
     let x_is : c.unrank-x.result ≡ unrank (size c.args.g.now) (code_at c.args.cells.now c.args.key) =
     c.unrank-x.ensures.state ∙ ap (λ n. unrank n (code_at c.args.cells.now c.args.key)) c.size.ensures.size in
     let border : map rank c.as_slice-y-items.result.now ≡ codes (border_of_state c.args.g.now c.unrank-x.result) =
-    ap (map rank) c.as_slice-y-items.ensures ∙ c.targets-states.ensures.border in
+    listed-border c.args.g.now c.args.a c.args.cells.now c.requires.cells c.args.key c.requires.key c.unrank-x.result x_is
+    c.as_slice-y-items.result.now (c.as_slice-y-items.ensures ∙ c.targets-states.ensures.border) in
     let fits : SFits w32 c.args.a = search rules in
     let place =
     subst (λ (a : ℤ). ArrowsPlace (at_alexander a (grid_complex c.args.g.now)) c.args.cells.now c.args.key
@@ -177,7 +181,8 @@ returns c =
     let x_is : c.unrank-x.result ≡ unrank (size c.args.g.now) (code_at c.args.cells.now c.args.key) =
     c.unrank-x.ensures.state ∙ ap (λ n. unrank n (code_at c.args.cells.now c.args.key)) c.size.ensures.size in
     let border : map rank c.as_slice-y-items.result.now ≡ codes (border_of_state c.args.g.now c.unrank-x.result) =
-    ap (map rank) c.as_slice-y-items.ensures ∙ c.targets-states.ensures.border in
+    listed-border c.args.g.now c.args.a c.args.cells.now c.requires.cells c.args.key c.requires.key c.unrank-x.result x_is
+    c.as_slice-y-items.result.now (c.as_slice-y-items.ensures ∙ c.targets-states.ensures.border) in
     let fits : SFits w32 c.args.a = search rules in
     let place =
     subst (λ (a : ℤ). ArrowsPlace (at_alexander a (grid_complex c.args.g.now)) c.args.cells.now c.args.key
