@@ -1,4 +1,7 @@
 -- The laws of the front of a grid, and of the states x+ and x-.
+use Rattle.torus_geom.proofs.Chains.ReachedLemmas.{states_of-border_of_state}
+use Rattle.torus_geom.proofs.Chains.CodesLemmas.{states_of-nothing}
+use Rattle.torus_geom.specs.Codes.{states_of}
 use Rattle.std.proofs.Common.{◌≡◌, ℕ, ◌<◌, ◌≤◌, true, ◌&&◌, List, length, take, slice_index, subst, ap, ◌∙◌, sym, eqb, arith}
 use Rattle.std.proofs.Math.IntN.{ℤ, pos, ◌+ℤ◌, ◌-ℤ◌, ◌*ℤ◌}
 use Rattle.std.proofs.lemmas.Int.{ints}
@@ -9,11 +12,12 @@ use Rattle.f2_algebra.specs.Chain.{nothing}
 use Rattle.state_rank.specs.Bijection.{IsSize, IsBijection}
 use Rattle.state_rank.specs.States.{IsState}
 use Rattle.state_rank.proofs.BijectionLemmas.{IsOneToOne, one_to_one, same_list}
+use Rattle.torus_geom.specs.Chains as chains
 use Rattle.torus_geom.specs.Counts.{one_if, sum_below}
 use Rattle.torus_geom.specs.Marks.{Marks, size, IsGrid}
 use Rattle.torus_geom.specs.Range.{in_range}
 use Rattle.torus_geom.specs.Rectangle.{leads, is_same, is_empty, is_unmarked}
-use Rattle.torus_geom.specs.Border.{is_step}
+use Rattle.torus_geom.specs.Border.{is_step, border as border_of}
 use Rattle.torus_geom.specs.Inner.CodeBorder.{border_of_state}
 use Rattle.torus_geom.specs.Degrees.{maslov_o}
 use Rattle.torus_geom.specs.Front.{is_north_east_x, is_north_east_o, is_south_west_x, is_south_west_o, north_east, south_west, thurston_bennequin, writhe, doubled_rotation, rotation, plus_state, minus_state}
@@ -202,3 +206,17 @@ take-plus_state g rows room at =
     same_list (size g) (take (size g) rows) (plus_state g) (length-take-le (size g) rows room)
     (length-tabulate (size g) row)
     (λ c l. get_or-take (size g) rows c 0 l ∙ at c l ∙ sym (slice_index-tabulate (size g) row c l))
+
+-- ---- over states
+module _ (g : Marks) (s : IsGrid g) where
+  -- x+ is a cycle
+  pub border-plus_state : border_of g (chains.single (plus_state g)) ≡ chains.nothing
+  border-plus_state =
+      sym (states_of-border_of_state g (plus_state g) (plus_state-state g s))
+      ∙ ap (states_of (size g)) (border_of_state-plus_state g s) ∙ states_of-nothing (size g)
+
+  -- and so is x-
+  pub border-minus_state : border_of g (chains.single (minus_state g)) ≡ chains.nothing
+  border-minus_state =
+      sym (states_of-border_of_state g (minus_state g) s.x) ∙ ap (states_of (size g)) (border_of_state-minus_state g s)
+      ∙ states_of-nothing (size g)

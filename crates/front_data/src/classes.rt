@@ -1,7 +1,7 @@
 //! The Legendrian grid states x+ and x-.
 ghost use Rattle.std.specs.Prelude.{◌≡◌, ◌<◌, pos, ◌+ℤ◌, ◌-ℤ◌};
-ghost use Rattle.f2_algebra.specs.Chain.{nothing};
-ghost use Rattle.torus_geom.specs.Inner.CodeBorder.{border_of_state};
+ghost use Rattle.torus_geom.specs.Border.{border};
+ghost use Rattle.torus_geom.specs.Chains.{nothing, single};
 ghost use Rattle.torus_geom.specs.Degrees.{maslov_o};
 ghost use Rattle.torus_geom.specs.Front.{thurston_bennequin, rotation, plus_state as plus_state_of, minus_state as minus_state_of};
 
@@ -16,7 +16,7 @@ pub fn plus_state(g: &Grid) -> State
     ensures state { result ≡ plus_state_of g.now }
 
     // It is a cycle: each rectangle that leaves it holds an X.
-    ensures cycle { border_of_state g.now (plus_state_of g.now) ≡ nothing }
+    ensures cycle { border g.now (single (plus_state_of g.now)) ≡ nothing }
 
     // Its Maslov degree is tb - rot + 1.
     ensures degree { maslov_o g.now (plus_state_of g.now)
@@ -37,7 +37,7 @@ pub fn minus_state(g: &Grid) -> State
     ensures state { result ≡ minus_state_of g.now }
 
     // It is a cycle: each rectangle that leaves it holds an X.
-    ensures cycle { border_of_state g.now (minus_state_of g.now) ≡ nothing }
+    ensures cycle { border g.now (single (minus_state_of g.now)) ≡ nothing }
 
     // Its Maslov degree is tb + rot + 1.
     ensures degree { maslov_o g.now (minus_state_of g.now)

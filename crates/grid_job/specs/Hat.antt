@@ -10,7 +10,7 @@ use Rattle.hat_division.specs.declared.tables.TableRow.{TableRow}
 use Rattle.homology_cert.specs.Tables.{homology_row}
 use Rattle.report_text.specs.Lines.{hat_lines}
 use Rattle.torus_geom.specs.Components.{components}
-use Rattle.torus_geom.specs.Inner.CodeHomology.{IsHomologyTable}
+use Rattle.torus_geom.specs.Homology.{IsHomologyTable}
 use Rattle.torus_geom.specs.Marks.{Marks, size}
 
 abbrev pub hat_exponent : Marks → ℕ

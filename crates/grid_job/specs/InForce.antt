@@ -1,23 +1,21 @@
--- What is in force where a command stands: a grid, and a chain of states of its size, which is followed. The answer
+-- What is in force where a command stands: a grid, and a chain of its states, which is followed. The answer
 -- to a command depends on these two alone.
 --     InForce                a grid and a chain
 --     at_start g             before the first command: the grid of the document, and the empty chain
 --     chain_after p c        the chain after the command c, where p was in force before it
 --     after_command p c      the grid and the chain after it
 --     after_commands p cs    after these commands, in order
-use Rattle.std.specs.Prelude.{List, [], ◌∷◌, map}
-use Rattle.f2_algebra.specs.Chain.{Chain, of_codes}
-use Rattle.state_rank.specs.States.{rank}
-pub use Rattle.legendrian_class.specs.FollowedCodes.{FollowedCodes as InForce}
-pub use Rattle.legendrian_class.specs.Inner.CodeFollowed.{at_start}
-use Rattle.legendrian_class.specs.Inner.CodeFollowed.{after_commutation, after_turn}
+use Rattle.std.specs.Prelude.{List, [], ◌∷◌}
+use Rattle.torus_geom.specs.Chains.{Chain}
+pub use Rattle.legendrian_class.specs.Followed.{Followed as InForce, at_start}
+use Rattle.legendrian_class.specs.Followed.{after_commutation, after_turn, listed}
 use Rattle.grid_text.specs.Commands.{grid_after}
 use Rattle.grid_text.specs.declared.commands.Command.{Command}
 use Rattle.grid_text.specs.declared.commands.Command.TheVariants as command
 
 -- `chain` puts its states in the place of the chain, a turn turns them, and a commutation takes the image
 abbrev pub chain_after : InForce → Command → Chain
-chain_after p (command.Chain xs) = of_codes (map rank xs)
+chain_after p (command.Chain xs) = listed xs
 chain_after p (command.Turn side) = (after_turn side p).chain
 chain_after p (command.Commute axis c corner) = (after_commutation axis c corner p).chain
 chain_after p other = p.chain

@@ -10,13 +10,12 @@ use Rattle.std.specs.Prelude.{◌≡◌, ℕ, ℤ, Bool, true, false, List, map,
 use Rattle.std.specs.List.{sum_by}
 use Rattle.std.specs.Fmt.{decimal, signed_decimal}
 use Rattle.torus_geom.specs.Front.{thurston_bennequin, rotation}
-use Rattle.torus_geom.specs.Inner.CodeHomology.{IsHomologyTable}
+use Rattle.torus_geom.specs.Homology.{IsHomologyTable}
 use Rattle.torus_geom.specs.Marks.{Marks}
 use Rattle.hat_division.specs.declared.tables.TableRow.{TableRow}
 use Rattle.homology_cert.specs.Tables.{homology_row}
-use Rattle.legendrian_class.specs.Inner.CodeVerdicts.{IsVerdict}
-use Rattle.legendrian_class.specs.declared.verdicts.ClassVerdict.{ClassVerdict}
-use Rattle.legendrian_class.specs.declared.verdicts.ClassVerdict.TheVariants.{NotCycle, Null, Alive}
+use Rattle.legendrian_class.specs.Verdicts.{Verdict, IsVerdict}
+use Rattle.legendrian_class.specs.Verdicts.Verdict.{NotCycle, Null, Alive}
 use Rattle.text_lines.specs.Lines.{line}
 use Rattle.report_text.specs.Lines.{verdict_word}
 use Rattle.grid_text.specs.declared.commands.Sign.{Sign}
@@ -26,13 +25,13 @@ use Rattle.grid_text.specs.Script.{GridScript}
 use Rattle.grid_job.specs.Generator.{IsMadeScript}
 use Rattle.grid_job.specs.VerdictTexts.{class_chain}
 
-abbrev pub TellsAlive : ClassVerdict → Bool → Type 0
+abbrev pub TellsAlive : Verdict → Bool → Type 0
 TellsAlive (NotCycle s) alive = ⊥
 TellsAlive (Null b) alive = alive ≡ false
 TellsAlive (Alive f) alive = alive ≡ true
 
 pub record HasClassVerdict (g : Marks) (sign : Sign) (alive : Bool) : Type 0 where
-  pub verdict : ClassVerdict
+  pub verdict : Verdict
   pub is_verdict : IsVerdict g (class_chain g sign) verdict
   pub told : TellsAlive verdict alive
 

@@ -8,11 +8,12 @@ use Rattle.std.specs.Prelude.{◌≡◌, List, ℕ, [], ◌∷◌, ◌++◌, map
 use Rattle.hat_division.specs.declared.tables.TableRow.{TableRow}
 use Rattle.homology_cert.specs.Tables.{homology_row}
 use Rattle.report_text.specs.Lines.{front_line, table_lines}
-use Rattle.text_lines.specs.Lines.{line, set_line}
-use Rattle.torus_geom.specs.Inner.CodeBorder.{border_of_state}
+use Rattle.text_lines.specs.Lines.{line, chain_line}
+use Rattle.torus_geom.specs.Border.{border}
+use Rattle.torus_geom.specs.Chains.{single}
 use Rattle.torus_geom.specs.Components.{components}
 use Rattle.torus_geom.specs.Front.{thurston_bennequin, rotation}
-use Rattle.torus_geom.specs.Inner.CodeHomology.{IsHomologyTable}
+use Rattle.torus_geom.specs.Homology.{IsHomologyTable}
 use Rattle.torus_geom.specs.Marks.{Marks, size}
 use Rattle.grid_text.specs.Script.{GridScript}
 use Rattle.grid_text.specs.declared.commands.Command.{Command}
@@ -35,9 +36,9 @@ IsAnswer p command.Front text = text ≡ front_line (thurston_bennequin p.grid) 
 IsAnswer p command.Ranks text = IsTableText p.grid text
 IsAnswer p command.Hat text = IsHatText p.grid text
 IsAnswer p (command.Class sign) text = IsClassText p.grid sign text
-IsAnswer p (command.Border x) text = text ≡ line (set_line (codes "border") (size p.grid) (border_of_state p.grid x))
+IsAnswer p (command.Border x) text = text ≡ line (chain_line (codes "border") (size p.grid) (border p.grid (single x)))
 IsAnswer p (command.Chain z) text = text ≡ []
-IsAnswer p command.Show text = text ≡ line (set_line (codes "chain") (size p.grid) p.chain)
+IsAnswer p command.Show text = text ≡ line (chain_line (codes "chain") (size p.grid) p.chain)
 IsAnswer p command.Bounds text = IsBoundsText p.grid p.chain text
 IsAnswer p (command.Turn side) text = text ≡ []
 IsAnswer p (command.Commute axis c corner) text = text ≡ []

@@ -1,12 +1,10 @@
 //! The lines of verdicts, each with its evidence.
-ghost use Rattle.std.specs.Prelude.{◌≡◌, ◌++◌, ◌<◌, length, IfOk, All, codes};
-ghost use Rattle.f2_algebra.specs.Chain.{codes as codes_of};
+ghost use Rattle.std.specs.Prelude.{◌≡◌, ◌++◌, length, IfOk, codes};
 ghost use Rattle.state_rank.specs.Bijection.{IsSize};
-ghost use Rattle.state_rank.specs.States.{factorial};
+ghost use Rattle.torus_geom.specs.Codes.{HasRanks, states_of};
 ghost use Rattle.torus_geom.specs.Marks.{size};
-ghost use Rattle.text_lines.specs.Lines.{line as line_of, set_line as set_line_of};
+ghost use Rattle.text_lines.specs.Lines.{line as line_of, chain_line};
 ghost use Rattle.grid_job.specs.VerdictTexts.{class_state as class_state_of, verdict_line as verdict_line_of, IsClassText, IsBoundsText};
-ghost use Rattle.legendrian_class.specs.States.{HasStates};
 
 use f2_chain::{Chain, CodeSet};
 use front_data::{minus_state, plus_state};
@@ -42,8 +40,8 @@ pub(crate) fn class_lines(alloc: Global, g: &Grid, sign: Sign) -> Result<Vec<u8>
 
 /// The lines of the verdict of the chain `z`, with its evidence.
 pub(crate) fn bounds_lines(alloc: Global, g: &Grid, z: &Chain) -> Result<Vec<u8>, NoMemory>
-    requires { HasStates g.now z.now }
-    ensures { IfOk result (λ text. IsBoundsText g.now z.now text.items) }
+    requires { HasRanks (size g.now) z.now }
+    ensures { IfOk result (λ text. IsBoundsText g.now (states_of (size g.now) z.now) text.items) }
 {
     let n = g.size();
     match verdict(alloc, g, z)? {
@@ -96,8 +94,9 @@ fn with_set(
     z: &Chain,
 ) -> Result<Vec<u8>, NoMemory>
     requires size { IsSize n }
-    requires ranks { All (λ code. code < factorial n) (codes_of z.now) }
-    ensures { IfOk result (λ lines. lines.items ≡ text.items ++ line_of (set_line_of word.now n z.now)) }
+    requires ranks { HasRanks n z.now }
+    ensures { IfOk result (λ lines.
+        lines.items ≡ text.items ++ line_of (chain_line word.now n (states_of n z.now))) }
 {
     let set = set_line(alloc, word, n, z)?;
     text.extend_from_slice(&set)?;

@@ -3,6 +3,7 @@ ghost use Rattle.std.specs.Prelude.{◌≡◌, IfOk, OnOk, OnErr, map};
 ghost use Rattle.f2_algebra.specs.Chain.{of_codes};
 ghost use Rattle.state_rank.specs.States.{rank};
 ghost use Rattle.grid_text.specs.Commands.{IsAllowed};
+ghost use Rattle.legendrian_class.specs.FollowedCodes.{followed_of};
 ghost use Rattle.grid_job.specs.InForce.{after_command};
 
 use f2_chain::{Builder, Chain};
@@ -14,7 +15,7 @@ use std::alloc::Global;
 /// Goes past a command. Where memory runs out, grid and chain are as before.
 pub(crate) fn follow(alloc: Global, p: &mut Follower, command: &Command) -> Result<(), NoMemory>
     requires { IsAllowed p.old.grid command.now }
-    ensures after { OnOk result (p.new ≡ after_command p.old command.now) }
+    ensures after { OnOk result (followed_of p.new ≡ after_command (followed_of p.old) command.now) }
     ensures unchanged { OnErr result (p.new ≡ p.old) }
 {
     match command {

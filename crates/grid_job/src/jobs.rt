@@ -5,7 +5,7 @@ ghost use Rattle.grid_ports.specs.Bytes.{TakesAtMost, AppendsPrefix};
 ghost use Rattle.grid_text.specs.Document.{IsDocument};
 ghost use Rattle.grid_text.specs.Faults.{IsFirstFault};
 ghost use Rattle.grid_text.specs.Script.{GridScript};
-ghost use Rattle.torus_geom.specs.Inner.CodeHomology.{IsHomologyTable};
+ghost use Rattle.torus_geom.specs.Homology.{IsHomologyTable};
 ghost use Rattle.homology_cert.specs.Certificates.{Certificate, IsCertificate};
 ghost use Rattle.homology_cert.specs.CertificateTests.{certified_rows};
 ghost use Rattle.homology_cert.specs.CertificateText.{certificate_text};

@@ -3,8 +3,10 @@ ghost use Rattle.std.specs.Prelude.{◌≡◌, ◌↔◌, ℕ, List, length, IfO
 ghost use Rattle.std.specs.Io.KnownBytes.{Appends};
 ghost use Rattle.grid_ports.specs.Bytes.{AppendsPrefix};
 ghost use Rattle.grid_ports.specs.Faults.{count_up};
-ghost use Rattle.text_lines.specs.Lines.{line, set_line as set_line_of};
-ghost use Rattle.torus_geom.specs.Inner.CodeBorder.{border_of_state as border_of};
+ghost use Rattle.text_lines.specs.Lines.{line, chain_line};
+ghost use Rattle.torus_geom.specs.Border.{border as border_of};
+ghost use Rattle.torus_geom.specs.Chains.{single};
+ghost use Rattle.legendrian_class.specs.FollowedCodes.{followed_of};
 ghost use Rattle.torus_geom.specs.Marks.{size};
 ghost use Rattle.grid_text.specs.Commands.{IsAllowed};
 ghost use Rattle.grid_text.specs.Script.{AreAllowed};
@@ -95,7 +97,7 @@ fn answer_to(
 ) -> Result<Vec<u8>, NoMemory>
     requires allowed { IsAllowed p.now.grid command.now }
     requires table { IfSome table.old (IsTableOf p.now.grid) }
-    ensures answer { IfOk result (λ text. IsAnswer p.now command.now text.items) }
+    ensures answer { IfOk result (λ text. IsAnswer (followed_of p.now) command.now text.items) }
     ensures table { IfSome table.new (IsTableOf p.now.grid) }
 {
     let g = p.grid();
@@ -141,7 +143,7 @@ fn hat_of(alloc: Global, g: &Grid, table: &mut Option<Table>) -> Result<Vec<u8>,
 fn border_line(alloc: Global, g: &Grid, x: &State) -> Result<Vec<u8>, NoMemory>
     requires { length x.now ≡ size g.now }
     ensures { IfOk result (λ text.
-        text.items ≡ line (set_line_of (codes "border") (size g.now) (border_of g.now x.now))) }
+        text.items ≡ line (chain_line (codes "border") (size g.now) (border_of g.now (single x.now)))) }
 {
     let border = border_of_state(alloc, g, x)?;
     set_line(alloc, "border", g.size(), &border)

@@ -6,3 +6,4 @@ pub mod RowLemmas
 pub mod TableLemmas
 pub mod LawLemmas
 pub mod ExistenceLemmas
+pub mod StateTables

@@ -9,7 +9,7 @@ ghost use Rattle.state_rank.specs.States.{factorial, unrank};
 ghost use Rattle.torus_geom.specs.Marks.{size};
 ghost use Rattle.torus_geom.specs.Degrees.{bidegree};
 ghost use Rattle.torus_geom.specs.Inner.CodeBorder.{border_of_state as border_of, border as border_of_chain};
-ghost use Rattle.torus_geom.specs.Inner.CodeHomology.{IsHomologyTable};
+ghost use Rattle.torus_geom.specs.Homology.{IsHomologyTable};
 ghost use Rattle.homology_cert.specs.Certificates.{Cell, Certificate, IsCertificate, AreStates, AreSmallDegrees, HasCycleStates, HasStepStates, HasPairStates, entry_count};
 ghost use Rattle.homology_cert.specs.Inner.Checks.{AreBorders, step_borders};
 ghost use Rattle.homology_cert.specs.Inner.Questions.{at_entry};

@@ -1,7 +1,7 @@
 //! Tables of ranks.
 ghost use Rattle.std.specs.Prelude.{◌≡◌, ◌<◌, ◌^◌, ℕ, ℤ, List, map, All, IfOk};
-ghost use Rattle.torus_geom.specs.Homology.{Row};
-ghost use Rattle.torus_geom.specs.Inner.CodeHomology.{IsHomologyRank, IsHomologyTable};
+ghost use Rattle.torus_geom.specs.Homology.{Row, IsHomologyRank, IsHomologyTable};
+ghost use Rattle.torus_geom.specs.Inner.CodeHomology.{IsHomologyTable as IsCodeTable};
 ghost use Rattle.homology_cert.specs.Tables.{homology_row, HasSmallDegrees, HasSmallRank};
 
 use crate::degrees::alexander_degrees;
@@ -41,7 +41,7 @@ pub fn rank_table(alloc: Global, g: &Grid) -> Result<Table, NoMemory>
 
 // The table of the grid.
 fn table_of(alloc: Global, g: &Grid) -> Result<Table, NoMemory>
-    ensures table { IfOk result (λ t. IsHomologyTable g.now (map homology_row t)) }
+    ensures table { IfOk result (λ t. IsCodeTable g.now (map homology_row t)) }
     ensures degrees { IfOk result (λ t. All HasSmallDegrees t) }
     ensures ranks { IfOk result (λ t. All HasSmallRank t) }
 {

@@ -1,4 +1,5 @@
 -- A grid and a set of ranks that are followed stand for the grid and the chain of states that are followed.
+use Rattle.torus_geom.specs.Chains.{IsChain}
 use Rattle.grid_moves.specs.Inner.CodeCarried.{turned_chain as turned_codes}
 use Rattle.pentagon_map.specs.Pentagon.{image}
 use Rattle.std.proofs.Common.{◌≡◌, ℕ, List, map, sym, ap, subst, ◌∙◌}
@@ -84,3 +85,10 @@ pub followed_of-turned : (side : Side) (n : ℕ) (p q : FollowedCodes) → n ≡
 followed_of-turned side n p q same below of_grid of_chain =
     (λ i. followed_of (record { grid = of_grid i; chain = (of_chain ∙ ap (λ m. turned_codes side m p.chain) same) i }))
     ∙ followed_of-turn side p below
+
+-- listed states are a chain of states
+pub IsChain-listed : (n : ℕ) (xs : List (List ℕ)) → ((x : List ℕ) → Contains xs x → IsBijection n x)
+    → IsChain n (listed xs)
+IsChain-listed n xs all y h =
+    let (x, m, is) = member_of_any (λ x. is_same x y) xs h in
+    subst (IsBijection n) (is_same-true x y is) (all x m)

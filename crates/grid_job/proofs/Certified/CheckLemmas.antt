@@ -1,6 +1,7 @@
 -- The verdict of a certificate, and the outcomes of `check`.
+use Rattle.rectangles.proofs.Homology.HomologyLemmas.{homology_table-states}
 use Rattle.std.proofs.Common.{◌≡◌, ℕ, ◌≤◌, List, length, codes, Option, refl, sym, subst, inr}
-use Rattle.torus_geom.specs.Inner.CodeHomology.{IsHomologyTable}
+use Rattle.torus_geom.specs.Homology.{IsHomologyTable}
 use Rattle.homology_cert.specs.Certificates.{Certificate, IsCertificate}
 use Rattle.homology_cert.specs.CertificateTests.{verdict_of, certified_rows}
 use Rattle.homology_cert.specs.CertificateText.{certificate_text, IsFirstBadLine}
@@ -77,4 +78,9 @@ pub yes_tells_the_table : (text answer : List ℕ) → IsOutcome Check text Done
     → (c : Certificate) × IsCertificate c × (text ≡ certificate_text c)
     × IsHomologyTable c.grid (certified_rows c.cells)
 yes_tells_the_table text answer h =
-    (h.certificate, h.is_certificate, h.lines, table_of_certificate h.certificate h.is_certificate h.passes)
+    (
+      h.certificate,
+      h.is_certificate,
+      h.lines,
+      (homology_table-states h.certificate.grid _).0 (table_of_certificate h.certificate h.is_certificate h.passes),
+    )

@@ -1,17 +1,16 @@
 -- What `make` writes.
 use Rattle.std.proofs.Common.{◌≡◌, ℕ, ℤ, Bool, true, false, List, ◌++◌, map, refl, ap, subst, ◌∙◌}
 use Rattle.std.specs.List.{sum_by}
-use Rattle.f2_algebra.specs.Chain.{Chain}
 use Rattle.state_rank.specs.Bijection.{IsSize}
 use Rattle.torus_geom.specs.Front.{thurston_bennequin, rotation}
-use Rattle.torus_geom.specs.Inner.CodeHomology.{IsHomologyTable}
+use Rattle.torus_geom.specs.Homology.{IsHomologyTable}
 use Rattle.torus_geom.specs.Marks.{Marks, IsGrid}
 use Rattle.hat_division.specs.declared.tables.TableRow.{TableRow}
 use Rattle.homology_cert.specs.Tables.{homology_row}
-use Rattle.legendrian_class.specs.Inner.CodeVerdicts.{IsVerdict}
-use Rattle.legendrian_class.specs.declared.verdicts.ClassVerdict.{ClassVerdict}
-use Rattle.legendrian_class.specs.declared.verdicts.ClassVerdict.TheVariants.{NotCycle, Null, Alive}
-use Rattle.legendrian_class.proofs.VerdictLemmas.{some_verdict}
+use Rattle.torus_geom.specs.Chains.{Chain}
+use Rattle.legendrian_class.specs.Verdicts.{Verdict, IsVerdict}
+use Rattle.legendrian_class.specs.Verdicts.Verdict.{NotCycle, Null, Alive}
+use Rattle.legendrian_class.proofs.StateVerdicts.{HasVerdict-states}
 use Rattle.grid_text.specs.Script.{GridScript}
 use Rattle.grid_text.specs.PlainForm.{plain_form}
 use Rattle.grid_text.specs.declared.commands.Sign.{Sign}
@@ -19,12 +18,12 @@ use Rattle.grid_text.specs.declared.commands.Sign.TheVariants.{Plus, Minus}
 use Rattle.grid_job.specs.Generator.{IsMadeScript}
 use Rattle.grid_job.specs.Made.{TellsAlive, HasClassVerdict, summary_line, IsSummary, IsMade}
 use Rattle.grid_job.specs.VerdictTexts.{class_chain}
-use Rattle.grid_job.proofs.Reported.ClassLemmas.{class_is_cycle, HasStates-class_chain}
+use Rattle.grid_job.proofs.Reported.ClassLemmas.{class_is_cycle, IsChain-class_chain}
 use Rattle.grid_job.proofs.Reported.HatLemmas.{exists_rows}
 use Rattle.grid_job.proofs.Generated.GeneratorLemmas.{exists_script}
 
 -- a verdict of a class, told otherwise
-pub HasClassVerdict-of : (g : Marks) (sign : Sign) (z : Chain) (v w : ClassVerdict) (alive : Bool)
+pub HasClassVerdict-of : (g : Marks) (sign : Sign) (z : Chain) (v w : Verdict) (alive : Bool)
     → z ≡ class_chain g sign → v ≡ w → IsVerdict g z v → TellsAlive w alive → HasClassVerdict g sign alive
 HasClassVerdict-of g sign z v w alive is_class is stands told =
     record {
@@ -34,7 +33,7 @@ HasClassVerdict-of g sign z v w alive is_class is stands told =
     }
 
 -- each class has one
-exists_alive : (g : Marks) → IsGrid g → (sign : Sign) (v : ClassVerdict) → IsVerdict g (class_chain g sign) v
+exists_alive : (g : Marks) → IsGrid g → (sign : Sign) (v : Verdict) → IsVerdict g (class_chain g sign) v
     → (alive : Bool) × HasClassVerdict g sign alive
 exists_alive g grid sign (NotCycle s) stands = absurd (class_is_cycle g grid sign s stands)
 exists_alive g grid sign (Null b) stands = (false, record { verdict = Null b; is_verdict = stands; told = refl })
@@ -42,7 +41,7 @@ exists_alive g grid sign (Alive f) stands = (true, record { verdict = Alive f; i
 
 exists_class_verdict : (g : Marks) → IsGrid g → (sign : Sign) → (alive : Bool) × HasClassVerdict g sign alive
 exists_class_verdict g grid sign =
-    let found = some_verdict g grid (class_chain g sign) (HasStates-class_chain g grid sign) in
+    let found = HasVerdict-states g grid (class_chain g sign) (IsChain-class_chain g grid sign) in
     exists_alive g grid sign found.0 found.1
 
 -- ---- summaries

@@ -28,7 +28,7 @@ use Rattle.grid_job.specs.declared.statuses.Status.TheVariants.{Done, Refused, N
 use Rattle.homology_cert.proofs.Texts.DecisionLemmas.{some_answer}
 use Rattle.homology_cert.proofs.Made.MakingLaws.{exists_certificate}
 use Rattle.homology_cert.proofs.Texts.ReadLemmas.{one_certificate}
-use Rattle.grid_job.proofs.Reported.ChainLemmas.{HasStates-nothing}
+use Rattle.torus_geom.proofs.Chains.CodesLemmas.{IsChain-nothing}
 use Rattle.grid_job.proofs.Outcomes.HeadLemmas.{some_head}
 use Rattle.grid_job.proofs.Generated.MadeLemmas.{exists_made}
 use Rattle.grid_job.proofs.Outcomes.ModeLemmas.{told_apart}
@@ -192,7 +192,7 @@ some_report text = some_refusal Run text (λ answer refusal. refusal) reported
     reported : length text ≤ max_text → (s : GridScript) → IsDocument text s → SomeOutcome Run text
     reported within s document =
         let script = is_script text s document in
-        let report = exists_answers (at_start s.grid) s.commands script.grid (HasStates-nothing s.grid) script.allowed
+        let report = exists_answers (at_start s.grid) s.commands script.grid (IsChain-nothing (size s.grid)) script.allowed
         in
         (Done, report.0, record { within = within; script = s; document = document; report = report.1 })
 

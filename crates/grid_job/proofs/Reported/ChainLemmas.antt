@@ -17,9 +17,17 @@ use Rattle.grid_text.specs.Commands.{IsAllowed, IsStateOf}
 use Rattle.grid_text.specs.States.{AreStates}
 use Rattle.grid_text.specs.declared.commands.Command.{Command}
 use Rattle.grid_text.specs.declared.commands.Command.TheVariants as command
-use Rattle.legendrian_class.specs.States.{HasStates}
-use Rattle.legendrian_class.proofs.BoundsLemmas.{HasStates-exchanged}
-use Rattle.legendrian_class.proofs.FollowedLemmas.{HasStates-after_turn}
+use Rattle.torus_geom.specs.Chains.{IsChain}
+use Rattle.torus_geom.specs.Codes.{HasRanks, states_of}
+use Rattle.grid_moves.specs.Carried.{turned_chain}
+use Rattle.grid_moves.proofs.Exchanged.SwappedTwice.{size-swapped}
+use Rattle.grid_moves.proofs.Turned.CarriedStates.{IsChain-turned}
+use Rattle.grid_moves.proofs.Turned.TurnLemmas.{length-turned_rows}
+use Rattle.pentagon_map.specs.Pentagon.{image}
+use Rattle.pentagon_map.proofs.States.StateImages.{IsChain-image}
+use Rattle.legendrian_class.specs.Followed.{listed}
+use Rattle.legendrian_class.specs.FollowedCodes.{FollowedCodes, followed_of}
+use Rattle.legendrian_class.proofs.FollowedStates.{IsChain-listed, states_of-listed}
 use Rattle.grid_job.specs.InForce.{InForce, after_command}
 
 -- ---- codes that rise
@@ -84,7 +92,14 @@ pub states-all : (xs : List (List ℕ)) (k : ℕ) → length xs < k + 1
     → of_codes (take k (map rank xs)) ≡ of_codes (map rank xs)
 states-all xs k past = ap of_codes (take_all k (map rank xs) (omega (arith, length-map xs rank, past)))
 
--- ---- their ranks are those of states of the grid
+-- ---- states of the grid
+state_of : (g : Marks) (x : List ℕ) → IsStateOf g x → IsBijection (size g) x
+state_of g x state = subst (λ n. IsBijection n x) state.same_size state.state.bijection
+
+pub states_of_grid : (g : Marks) (xs : List (List ℕ)) → All (IsStateOf g) xs → (x : List ℕ) → Contains xs x
+    → IsBijection (size g) x
+states_of_grid g xs states x inside = state_of g x (All-contains (IsStateOf g) xs x states inside)
+
 any-below : (n : ℕ) (cs : List ℕ) (q : ℕ) → All (λ c. c < n) cs → any q cs ≡ true → q < n
 any-below n [] q below held = absurd (true≢false (sym held))
 any-below n (c ∷ cs) q below held = elim (cases_Bool (eqb q c)) [
@@ -92,26 +107,32 @@ any-below n (c ∷ cs) q below held = elim (cases_Bool (eqb q c)) [
   | inr is_not ↦ any-below n cs q (All-tail (λ d. d < n) c cs below) (sym (ap (λ b. b || any q cs) is_not) ∙ held)
 ]
 
-rank-below_state : (g : Marks) (x : List ℕ) → IsStateOf g x → rank x < factorial (size g)
-rank-below_state g x state = rank-below (size g) x (subst (λ n. IsBijection n x) state.same_size state.state.bijection)
-
-pub ranks-below : (g : Marks) (xs : List (List ℕ)) → All (IsStateOf g) xs → HasStates g (of_codes (map rank xs))
+-- the set of their ranks has ranks
+pub ranks-below : (g : Marks) (xs : List (List ℕ)) → All (IsStateOf g) xs → HasRanks (size g) (of_codes (map rank xs))
 ranks-below g xs states =
     let n = factorial (size g) in
-    let ranks = All-map (λ c. c < n) rank xs (λ i d l. rank-below_state g (get_or xs i d) (states i d l)) in
+    let ranks = All-map (λ c. c < n) rank xs
+    (λ i d l. rank-below (size g) (get_or xs i d) (state_of g (get_or xs i d) (states i d l))) in
     All-codes (λ c. c < n) (of_codes (map rank xs))
     (λ q held. any-below n (map rank xs) q ranks (sym (holds-of_codes (map rank xs) q) ∙ held))
 
-pub HasStates-nothing : (g : Marks) → HasStates g nothing
-HasStates-nothing g =
-    All-codes (λ c. c < factorial (size g)) nothing (λ q held. absurd (true≢false (sym held ∙ holds-nothing q)))
+-- ---- what is in force
+-- the grid and the chain that stand for this grid and the set of these ranks
+pub followed_of-listed : (g : Marks) (xs : List (List ℕ)) → All (IsStateOf g) xs → (p : FollowedCodes) → p.grid ≡ g
+    → p.chain ≡ of_codes (map rank xs) → followed_of p ≡ record { grid = g; chain = listed xs }
+followed_of-listed g xs states p of_grid of_chain =
+    (λ i. record { grid = of_grid i; chain = states_of (size (of_grid i)) (of_chain i) })
+    ∙ ap (λ z. record { grid = g; chain = z }) (states_of-listed (size g) xs (states_of_grid g xs states))
 
 -- what is in force stays a grid with a chain of its states
-pub HasStates-after_command : (p : InForce) (c : Command) → IsGrid p.grid → HasStates p.grid p.chain → IsAllowed p.grid c
-    → HasStates (after_command p c).grid (after_command p c).chain
-HasStates-after_command p (command.Chain xs) grid states allowed = ranks-below p.grid xs allowed.0
-HasStates-after_command p (command.Turn side) grid states allowed =
-    HasStates-after_turn side p.grid _ (size p.grid) p.chain _ states refl refl refl
-HasStates-after_command p (command.Commute axis c corner) grid states allowed =
-    HasStates-exchanged axis p.grid _ c corner p.chain _ grid refl refl
-HasStates-after_command p other grid states allowed = states
+pub IsChain-after_command : (p : InForce) (c : Command) → IsChain (size p.grid) p.chain → IsAllowed p.grid c
+    → IsChain (size (after_command p c).grid) (after_command p c).chain
+IsChain-after_command p (command.Chain xs) states allowed =
+    IsChain-listed (size p.grid) xs (states_of_grid p.grid xs allowed.0)
+IsChain-after_command p (command.Turn side) states allowed =
+    subst (λ n. IsChain n (turned_chain side (size p.grid) p.chain)) (sym (length-turned_rows side (size p.grid) p.grid.o))
+    (IsChain-turned side (size p.grid) p.chain)
+IsChain-after_command p (command.Commute axis c corner) states allowed =
+    subst (λ n. IsChain n (image axis p.grid c corner p.chain)) (sym (size-swapped axis p.grid c))
+    (IsChain-image axis p.grid c corner p.chain)
+IsChain-after_command p other states allowed = states

@@ -14,11 +14,10 @@ use Rattle.hat_division.specs.Inner.Products.{ArePositive}
 use Rattle.hat_division.specs.declared.tables.TableRow.{TableRow}
 use Rattle.hat_division.proofs.QuotientLemmas.{has_quotient}
 use Rattle.homology_cert.specs.Tables.{homology_row}
-use Rattle.homology_cert.proofs.Homology.ExistenceLemmas.{exists_homology_table}
-use Rattle.homology_cert.proofs.Homology.LawLemmas.{one_homology_table}
+use Rattle.homology_cert.proofs.Homology.StateTables.{exists_homology_table, one_homology_table}
 use Rattle.report_text.specs.Lines.{table_lines, hat_lines}
 use Rattle.torus_geom.specs.Components.{is_first, components}
-use Rattle.torus_geom.specs.Inner.CodeHomology.{IsHomologyTable}
+use Rattle.torus_geom.specs.Homology.{IsHomologyTable}
 use Rattle.torus_geom.specs.Homology.{Row, StandsBefore}
 use Rattle.torus_geom.specs.Marks.{Marks, size, IsGrid}
 use Rattle.grid_job.specs.Hat.{hat_exponent, IsHat, IsHatText}

@@ -14,13 +14,13 @@ use Rattle.grid_ports.specs.Bytes.{AppendsPrefix}
 use Rattle.grid_ports.proofs.BytesLemmas.{Appends-none, Appends-append}
 use Rattle.grid_job.specs.InForce.{InForce, after_command, after_commands}
 use Rattle.grid_job.specs.Report.{IsAnswer, AreAnswers}
-use Rattle.legendrian_class.specs.States.{HasStates}
-use Rattle.grid_job.proofs.Reported.ChainLemmas.{HasStates-after_command}
+use Rattle.torus_geom.specs.Chains.{IsChain}
+use Rattle.grid_job.proofs.Reported.ChainLemmas.{IsChain-after_command}
 use Rattle.grid_job.proofs.Reported.ClassLemmas.{exists_class_text, exists_bounds_text}
 use Rattle.grid_job.proofs.Reported.HatLemmas.{exists_table, exists_hat_text}
 
 -- ---- each command has an answer
-exists_answer : (p : InForce) (c : Command) → IsGrid p.grid → HasStates p.grid p.chain
+exists_answer : (p : InForce) (c : Command) → IsGrid p.grid → IsChain (size p.grid) p.chain
     → (text : List ℕ) × IsAnswer p c text
 exists_answer p command.Front grid states = (_, refl)
 exists_answer p command.Ranks grid states = exists_table p.grid grid
@@ -36,13 +36,13 @@ exists_answer p (command.Commute axis c corner) grid states = ([], refl)
 grid-after : (g : Marks) (c : Command) → IsGrid g → IsAllowed g c → IsGrid (grid_after g c)
 grid-after g c grid allowed = (IsGridOf-grid_after (size g) g c (record { grid = grid; same_size = refl }) allowed).grid
 
-pub exists_answers : (p : InForce) (cs : List Command) → IsGrid p.grid → HasStates p.grid p.chain → AreAllowed p.grid cs
+pub exists_answers : (p : InForce) (cs : List Command) → IsGrid p.grid → IsChain (size p.grid) p.chain → AreAllowed p.grid cs
     → (text : List ℕ) × AreAnswers p cs text
 exists_answers p [] grid states allowed = ([], refl)
 exists_answers p (c ∷ cs) grid states allowed =
     let first = exists_answer p c grid states in
     let later = exists_answers (after_command p c) cs (grid-after p.grid c grid allowed.0)
-    (HasStates-after_command p c grid states allowed.0) allowed.1 in
+    (IsChain-after_command p c states allowed.0) allowed.1 in
     (first.0 ++ later.0, (first.0, later.0, first.1, later.1, refl))
 
 -- ---- answers in order
@@ -75,7 +75,7 @@ after_commands-append p (c ∷ cs) ds = after_commands-append (after_command p c
 -- what is in force after the first k commands is a grid with a chain of its states, and what stands there is allowed
 record StandsAt (p : InForce) (cs : List Command) : Type 0 where
   pub grid : IsGrid p.grid
-  pub states : HasStates p.grid p.chain
+  pub states : IsChain (size p.grid) p.chain
   pub allowed : AreAllowed p.grid cs
 
 StandsAt-drop : (k : ℕ) (p : InForce) (cs : List Command) → StandsAt p cs
@@ -86,7 +86,7 @@ StandsAt-drop (suc k) p (c ∷ cs) h =
     StandsAt-drop k (after_command p c) cs
     (record {
       grid = grid-after p.grid c h.grid h.allowed.0;
-      states = HasStates-after_command p c h.grid h.states h.allowed.0;
+      states = IsChain-after_command p c h.states h.allowed.0;
       allowed = h.allowed.1;
     })
 
@@ -104,7 +104,7 @@ IsPast-none p now cs a e = record { in_force = e; whole = []; answers = refl; ap
 
 module _ (p : InForce) (cs : List Command) (k : ℕ) where
   -- the command that stands next may stand there
-  pub IsAllowed-next : (now : InForce) (d : Command) (a b : Option (List ℕ)) → IsGrid p.grid → HasStates p.grid p.chain
+  pub IsAllowed-next : (now : InForce) (d : Command) (a b : Option (List ℕ)) → IsGrid p.grid → IsChain (size p.grid) p.chain
       → AreAllowed p.grid cs → k < length cs
       → IsPast p cs k now a b → IsAllowed now.grid (get_or cs k d)
   IsAllowed-next now d a b grid states allowed within past =
@@ -134,7 +134,7 @@ module _ (p : InForce) (cs : List Command) (k : ℕ) where
       (past.whole, subst (λ ds. AreAnswers p ds past.whole) (take_all k cs past_all) past.answers, past.appended)
 
   -- anywhere, it is a prefix of a report
-  pub IsPast-prefix : (now : InForce) (a b : Option (List ℕ)) → IsGrid p.grid → HasStates p.grid p.chain
+  pub IsPast-prefix : (now : InForce) (a b : Option (List ℕ)) → IsGrid p.grid → IsChain (size p.grid) p.chain
       → AreAllowed p.grid cs → IsPast p cs k now a b
       → (text : List ℕ) × AreAnswers p cs text × AppendsPrefix a b text
   IsPast-prefix now a b grid states allowed past =
@@ -148,7 +148,7 @@ module _ (p : InForce) (cs : List Command) (k : ℕ) where
 
   -- so it is where a prefix of an answer to the next command was written too
   pub IsPast-prefix_of_next : (now : InForce) (d : Command) (text : List ℕ) (a b c : Option (List ℕ)) → IsGrid p.grid
-      → HasStates p.grid p.chain → AreAllowed p.grid cs → k < length cs
+      → IsChain (size p.grid) p.chain → AreAllowed p.grid cs → k < length cs
       → IsAnswer now (get_or cs k d) text → IsPast p cs k now a b → AppendsPrefix b c text
       → (report : List ℕ) × AreAnswers p cs report × AppendsPrefix a c report
   IsPast-prefix_of_next now d text a b c grid states allowed within answer past part =

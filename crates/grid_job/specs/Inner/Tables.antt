@@ -5,7 +5,7 @@ use Rattle.std.specs.List.{All}
 use Rattle.hat_division.specs.Product.{IsSmall}
 use Rattle.hat_division.specs.declared.tables.TableRow.{TableRow}
 use Rattle.homology_cert.specs.Tables.{homology_row}
-use Rattle.torus_geom.specs.Inner.CodeHomology.{IsHomologyTable}
+use Rattle.torus_geom.specs.Homology.{IsHomologyTable}
 use Rattle.torus_geom.specs.Marks.{Marks}
 
 pub record IsTableOf (g : Marks) (rows : List TableRow) : Type 0 where

@@ -83,6 +83,13 @@ module _ (n : ℕ) (f : List ℕ → List ℕ) (keeps : (x : List ℕ) → IsBij
       subst (λ k. k < factorial n) (sym (moved-below n f s l) ∙ is)
       (rank-below n (f (unrank n s)) (keeps (unrank n s) (IsBijection-unrank n s l)))
 
+  pub IsChain-carried : (z : Chain) → IsChain n (carried n f z)
+  unfolding carried
+  IsChain-carried z y h =
+      let (x, in_members, is) = member_of_any (λ x. is_same (f x) y) (members n z) h in
+      let (sx, passes) = member_of_members n z x in_members in
+      subst (IsBijection n) (is_same-true (f x) y is) (keeps x sx)
+
 -- Transposed chains.
 pub states_of-transposed : (n : ℕ) (z : Codes) → AreRanks n z
     → states_of n (over_codes.transposed_chain n z) ≡ transposed_chain n (states_of n z)
@@ -93,6 +100,9 @@ pub states_of-turned : (side : Side) (n : ℕ) (z : Codes) → AreRanks n z
     → states_of n (over_codes.turned_chain side n z) ≡ turned_chain side n (states_of n z)
 states_of-turned side n z below =
     states_of-carried n (turned_state side) (IsBijection-turned_state side n) z below
+
+pub IsChain-turned : (side : Side) (n : ℕ) (z : Chain) → IsChain n (turned_chain side n z)
+IsChain-turned side n z = IsChain-carried n (turned_state side) (IsBijection-turned_state side n) z
 
 -- A turn carries the border of a chain to the border of the turned chain.
 pub border-turned : (side : Side) (g : Marks) → IsGrid g → (z : Chain) → IsChain (size g) z

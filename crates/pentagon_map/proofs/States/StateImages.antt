@@ -29,7 +29,7 @@ use Rattle.grid_moves.specs.declared.commutations.Axis.{Axis}
 use Rattle.grid_moves.specs.declared.commutations.Axis.TheVariants.{Cols, Rows}
 use Rattle.grid_moves.specs.declared.turns.Side.{Side}
 use Rattle.grid_moves.proofs.Exchanged.SwappedTwice.{size-swapped, IsGrid-swapped}
-use Rattle.grid_moves.proofs.Turned.CarriedStates.{AreRanks-carried, states_of-transposed, states_of-turned}
+use Rattle.grid_moves.proofs.Turned.CarriedStates.{AreRanks-carried, states_of-transposed, states_of-turned, IsChain-carried}
 use Rattle.grid_moves.proofs.Turned.TurnLemmas.{IsGrid-turned, length-turned_rows}
 use Rattle.pentagon_map.specs.Inner.CodeImages as over_codes
 use Rattle.pentagon_map.specs.Pentagon.{column_image, crossing_row, image, is_pentagon, is_pentagonal}
@@ -49,7 +49,7 @@ use Rattle.torus_geom.specs.Codes.{states_of}
 use Rattle.torus_geom.specs.Inner.CodeBorder as code_border
 use Rattle.torus_geom.proofs.Chains.ChainLemmas.{LeadsToStates, leads_to_state}
 use Rattle.torus_geom.proofs.Chains.CodesLemmas.{AreRanks, AreRanks-single, by_ranks, states_of-single, states_of_one_to_one}
-use Rattle.torus_geom.proofs.Chains.ReachedLemmas.{AreRanks-border, AreRanks-reached, states_of-border, states_of-border_at, states_of-reached}
+use Rattle.torus_geom.proofs.Chains.ReachedLemmas.{AreRanks-border, AreRanks-reached, states_of-border, states_of-border_at, states_of-reached, IsChain-reached}
 
 -- ---- images
 pentagons_LeadToStates : (g : Marks) (c w : ℕ) → LeadsToStates (size g) (is_pentagon g c w)
@@ -229,3 +229,12 @@ module _ (axis : Axis) (g : Marks) (s : IsGrid g) (c : ℕ) (l : c < size g) (h 
   pub alexander-in_image : alexander (swapped axis g c) y ≡ alexander g x
   alexander-in_image = let (sy, e) = in_image_of_state axis g s c corner x sx y held in
       alexander-image axis g s c l h corner x y sx sy e
+
+-- ---- states alone
+-- the image of anything has states alone
+pub IsChain-image : (axis : Axis) (g : Marks) (c : ℕ) (corner : Corner) (z : Chain)
+    → IsChain (size g) (image axis g c corner z)
+IsChain-image Cols g c corner z =
+    IsChain-reached (size g) (is_pentagon g c (crossing_row g c corner))
+    (pentagons_LeadToStates g c (crossing_row g c corner)) z
+IsChain-image Rows g c corner z = IsChain-carried (size g) transpose (IsBijection-transposed (size g)) _

@@ -131,3 +131,11 @@ ranks_from_All n z all s h = All-contains (λ code. code < factorial n) (codes z
 
 pub All_from_ranks : (n : ℕ) (z : Codes) → AreRanks n z → HasRanks n z
 All_from_ranks n z below = All-codes (λ code. code < factorial n) z below
+
+-- the chain of a state alone is a chain of states
+pub IsChain-single : (n : ℕ) (x : List ℕ) → IsBijection n x → IsChain n (single x)
+IsChain-single n x sx y h = subst (IsBijection n) (is_same-true x y h) sx
+
+-- so is the empty chain
+pub IsChain-nothing : (n : ℕ) → IsChain n nothing
+IsChain-nothing n x h = absurd (false≢true h)

@@ -74,17 +74,18 @@ states_of-border_of_state g x sx =
     ∙ states_of-border g (one_code (rank x)) (AreRanks-single n x sx)
     ∙ ap (border g) (states_of-single n x sx)
 
--- the border of anything has states alone
-pub border-outside : (g : Marks) (z : Chain) (y : List ℕ) → (IsBijection (size g) y → ⊥) → border g z y ≡ false
-border-outside g z y other = reached-outside (size g) (is_step g) (steps_LeadToStates g) z y other
+-- what is reached has states alone
+pub IsChain-reached : (n : ℕ) (L : List ℕ → List ℕ → Rect → Bool) → LeadsToStates n L → (z : Chain)
+    → IsChain n (reached n L z)
+IsChain-reached n L keeps z y h = by (is_state n y) refl
+  where
+    by : (b : Bool) → is_state n y ≡ b → IsBijection n y
+    by true e = is_state-true n y e
+    by false e =
+        absurd (false≢true (sym (reached-outside n L keeps z y (λ sy. false≢true (sym e ∙ is_state-is n y sy))) ∙ h))
 
 pub IsChain-border : (g : Marks) (z : Chain) → IsChain (size g) (border g z)
-IsChain-border g z y h = by (is_state (size g) y) refl
-  where
-    by : (b : Bool) → is_state (size g) y ≡ b → IsBijection (size g) y
-    by true e = is_state-true (size g) y e
-    by false e =
-        absurd (false≢true (sym (border-outside g z y (λ sy. false≢true (sym e ∙ is_state-is (size g) y sy))) ∙ h))
+IsChain-border g z = IsChain-reached (size g) (is_step g) (steps_LeadToStates g) z
 
 -- the set of the ranks of the border has ranks of states
 pub AreRanks-border : (g : Marks) (z : Codes) → AreRanks (size g) (over_codes.border g z)

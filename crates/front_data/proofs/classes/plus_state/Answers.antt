@@ -5,7 +5,7 @@ use Rattle.torus_geom.specs.Marks.{Marks, size}
 use Rattle.torus_geom.specs.Front.{plus_state}
 use Rattle.torus_geom.specs.Range.{one_up, one_down}
 use Rattle.front_data.proofs.FilledRows.{IsFilled, IsFilled-more}
-use Rattle.front_data.proofs.FrontLemmas.{take-plus_state, plus_state_IsState, border_of_state-plus_state, maslov-plus_state}
+use Rattle.front_data.proofs.FrontLemmas.{take-plus_state, plus_state_IsState, border-plus_state, maslov-plus_state}
 use Rattle.front_data.proofs.classes.plus_state.Goals as goal
 
 -- the first rows are those of x+
@@ -45,7 +45,7 @@ returns-clause-state c =
     rows ∙ e
 
 pub returns-clause-cycle : goal.returns-clause-cycle
-returns-clause-cycle c = border_of_state-plus_state c.args.g.now c.size-n.ensures.grid
+returns-clause-cycle c = border-plus_state c.args.g.now c.size-n.ensures.grid
 
 pub returns-clause-degree : goal.returns-clause-degree
 returns-clause-degree c = maslov-plus_state c.args.g.now c.size-n.ensures.grid

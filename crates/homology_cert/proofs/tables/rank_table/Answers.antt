@@ -1,7 +1,15 @@
--- The laws of ranks and tables.
-use Rattle.homology_cert.proofs.Homology.SliceRanks.{one_homology_rank}
-use Rattle.homology_cert.proofs.Homology.LawLemmas.{some_homology_rank, one_homology_table}
+-- The table over codes is that over states; the laws of ranks and tables.
+use Rattle.std.proofs.Common.{map}
+use Rattle.std.proofs.lemmas.Result.{IfOk-weaker}
+use Rattle.rectangles.proofs.Homology.HomologyLemmas.{homology_table-states}
+use Rattle.homology_cert.specs.Tables.{homology_row}
+use Rattle.homology_cert.proofs.Homology.StateTables.{one_homology_rank, one_homology_table, some_homology_rank}
 use Rattle.homology_cert.proofs.tables.rank_table.Goals as goal
+
+pub returns-clause-table : goal.returns-clause-table
+returns-clause-table c =
+    IfOk-weaker c.table_of.result _ _ (λ t e. (homology_table-states c.args.g.now (map homology_row t)).0 e)
+    c.table_of.ensures.table
 
 pub returns-clause-some_rank : goal.returns-clause-some_rank
 returns-clause-some_rank c = some_homology_rank c.args.g.now c.size-size.ensures.grid
