@@ -2,12 +2,11 @@
 ghost use Rattle.std.specs.Prelude.{◌≡◌, ◌+◌, ◌<◌, ◌∷◌, [], ◌++◌, length, codes, All, IfOk, OnOk, Some, if◌then◌else◌};
 ghost use Rattle.std.specs.List.{flat_map};
 ghost use Rattle.std.specs.Option.{option_copied};
-ghost use Rattle.f2_algebra.specs.Chain.{codes as codes_of};
 ghost use Rattle.state_rank.specs.Bijection.{IsSize};
-ghost use Rattle.state_rank.specs.States.{factorial};
 ghost use Rattle.grid_text.specs.Commands.{sign_word};
 ghost use Rattle.report_text.specs.Lines.{front_line as front_line_of, class_line as class_line_of, verdict_word as verdict_word_of, row_line, table_lines as table_lines_of, hat_lines as hat_lines_of, refused_line as refused_line_of};
-ghost use Rattle.text_lines.specs.Lines.{line, set_line as set_line_of};
+ghost use Rattle.text_lines.specs.Lines.{line, chain_line};
+ghost use Rattle.torus_geom.specs.Codes.{HasRanks, states_of};
 
 use f2_chain::Chain;
 use front_data::FrontNumbers;
@@ -114,8 +113,8 @@ pub fn hat_lines(alloc: Global, exponent: u8, q: Option<&Table>) -> Result<Vec<u
 /// `NoMemory` if the allocator refuses.
 pub fn set_line(alloc: Global, word: &str, n: u8, z: &Chain) -> Result<Vec<u8>, NoMemory>
     requires size { IsSize n }
-    requires ranks { All (λ code. code < factorial n) (codes_of z.now) }
-    ensures { IfOk result (λ text. text.items ≡ line (set_line_of word.now n z.now)) }
+    requires ranks { HasRanks n z.now }
+    ensures { IfOk result (λ text. text.items ≡ line (chain_line word.now n (states_of n z.now))) }
 {
     let mut text = Vec::new(alloc);
     push_set_line(&mut text, word.as_bytes(), n, z)?;

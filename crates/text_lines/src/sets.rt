@@ -1,9 +1,8 @@
 //! Sets of states.
-ghost use Rattle.std.specs.Prelude.{◌≡◌, ◌++◌, ◌<◌, All, OnOk};
-ghost use Rattle.f2_algebra.specs.Chain.{codes as codes_of};
+ghost use Rattle.std.specs.Prelude.{◌≡◌, ◌++◌, OnOk};
 ghost use Rattle.state_rank.specs.Bijection.{IsSize};
-ghost use Rattle.state_rank.specs.States.{factorial};
-ghost use Rattle.text_lines.specs.Lines.{line, set_line};
+ghost use Rattle.torus_geom.specs.Codes.{HasRanks, states_of};
+ghost use Rattle.text_lines.specs.Lines.{line, chain_line};
 
 use f2_chain::Chain;
 use grid_ports::NoMemory;
@@ -17,8 +16,9 @@ use state_rank::State;
 /// `NoMemory` if the allocator refuses.
 pub fn push_set_line(text: &mut Vec<u8>, word: &[u8], n: u8, z: &Chain) -> Result<(), NoMemory>
     requires size { IsSize n }
-    requires ranks { All (λ code. code < factorial n) (codes_of z.now) }
-    ensures { OnOk result (text.new.items ≡ text.old.items ++ line (set_line word.now n z.now)) }
+    requires ranks { HasRanks n z.now }
+    ensures { OnOk result (text.new.items
+        ≡ text.old.items ++ line (chain_line word.now n (states_of n z.now))) }
 {
     text.extend_from_slice(word)?;
     for code in z.codes() {
