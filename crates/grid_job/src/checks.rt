@@ -2,6 +2,7 @@
 ghost use Rattle.std.specs.Prelude.{◌≡◌, ◌≢◌, ◌+◌, ◌≤◌, Some, length, drop, IfOk, IfSome};
 ghost use Rattle.grid_ports.specs.Bytes.{TakesAtMost};
 ghost use Rattle.grid_ports.specs.Faults.{count_up};
+ghost use Rattle.homology_cert.specs.CertificateCodes.{certificate_of};
 ghost use Rattle.homology_cert.specs.CertificateTests.{verdict_of};
 ghost use Rattle.homology_cert.specs.CertificateLimits.{max_certificate};
 ghost use Rattle.grid_job.specs.Checked.{test_word as test_word_of, no_line as no_line_of};
@@ -57,7 +58,7 @@ fn answer_certificate<K: Sink>(alloc: Global, text: &[u8], out: &mut K) -> Statu
 
 // Writes the verdict of a certificate.
 fn tell_verdict<K: Sink>(alloc: Global, certificate: &Cert, out: &mut K) -> Status
-    ensures written { HasWritten (TellsVerdict (verdict_of certificate.now)) result
+    ensures written { HasWritten (TellsVerdict (verdict_of (certificate_of certificate.now))) result
         (K.faults out.old) (K.faults out.new) (K.written out.old) (K.written out.new) }
     ensures memory { result ≡ Status.NoMemory → out.new ≡ out.old }
 {

@@ -2,3 +2,4 @@ pub mod Texts
 pub mod Made
 pub mod Certified
 pub mod Homology
+pub mod States

@@ -3,13 +3,14 @@
 -- is cancelled: the tests ask for degrees, borders, pairings and numbers.
 --     same_degree d e            the bidegrees are equal
 --     one_below d                the bidegree with a Maslov degree one lower
---     has_bidegree g d s         the state of rank s has the bidegree d
+--     has_bidegree g d x         the state x has the bidegree d
 --     all_have g d z             so has each state of z
 --     state_count_at g d         the number of states of this bidegree
+--     steps_at cells d           the step pairs of the cell of this bidegree, if there is one
 --     count_passes c cell        there are states of the bidegree of the cell, as many as its cycle pairs, its step pairs
 --                                and the step pairs of the cell one Maslov degree above together
 --     is_cocycle g f             f pairs evenly with the border of every state
---     is_empty_chain z           z has no state
+--     is_empty_chain g z         z has no state of g
 --     none_missing c             each state has a cell of its bidegree
 --
 -- Tests, each with whether it is passed; an entry is the list of its tests:
@@ -32,17 +33,14 @@ use Rattle.std.specs.Option.{option_map_or}
 use Rattle.std.specs.Ordering.{int_eq}
 use Rattle.std.specs.declared.option.Option.{Option}
 use Rattle.std.specs.declared.option.Option.TheVariants.{None, Some}
-use Rattle.f2_algebra.specs.Chain.{Chain, codes, pairs_oddly}
 use Rattle.f2_algebra.specs.Bigraded.{up_m}
-use Rattle.f2_algebra.specs.Certificate.{CyclePair, StepPair, steps_at}
-use Rattle.state_rank.specs.Bijection.{ascending}
-use Rattle.state_rank.specs.States.{factorial, unrank}
-use Rattle.torus_geom.specs.Counts.{all_below}
-use Rattle.torus_geom.specs.Marks.{Marks, size}
+use Rattle.state_rank.specs.States.{states}
+use Rattle.torus_geom.specs.Border.{border}
+use Rattle.torus_geom.specs.Chains.{Chain, members, pairs_oddly, single}
 use Rattle.torus_geom.specs.Degrees.{bidegree}
-use Rattle.torus_geom.specs.Inner.CodeBorder.{border_of_state, border}
 use Rattle.torus_geom.specs.Homology.{Row}
-use Rattle.homology_cert.specs.Certificates.{Cell, Certificate}
+use Rattle.torus_geom.specs.Marks.{Marks, size}
+use Rattle.homology_cert.specs.Certificates.{Cell, Certificate, CyclePair, StepPair}
 use Rattle.homology_cert.specs.declared.verdicts.CertTest.{CertTest}
 use Rattle.homology_cert.specs.declared.verdicts.CertTest.TheVariants.{Count, Degree, Cycle, Cocycle, Pairing, Probe, Missing}
 use Rattle.homology_cert.specs.declared.verdicts.CertVerdict.{CertVerdict}
@@ -54,34 +52,38 @@ same_degree d e = int_eq d.0 e.0 && int_eq d.1 e.1
 abbrev pub one_below : ℤ × ℤ → ℤ × ℤ
 one_below d = (d.0 -ℤ pos 1, d.1)
 
-abbrev pub has_bidegree : Marks → ℤ × ℤ → ℕ → Bool
-has_bidegree g d s = same_degree (bidegree g (unrank (size g) s)) d
+abbrev pub has_bidegree : Marks → ℤ × ℤ → List ℕ → Bool
+has_bidegree g d x = same_degree (bidegree g x) d
 
 abbrev pub all_have : Marks → ℤ × ℤ → Chain → Bool
-all_have g d z = list_all (has_bidegree g d) (codes z)
+all_have g d z = list_all (has_bidegree g d) (members (size g) z)
 
 abbrev pub state_count_at : Marks → ℤ × ℤ → ℕ
-state_count_at g d = length (filter (has_bidegree g d) (ascending (factorial (size g))))
+state_count_at g d = length (filter (has_bidegree g d) (states (size g)))
+
+abbrev pub steps_at : List Cell → ℤ × ℤ → List StepPair
+steps_at [] d = []
+steps_at (c ∷ cells) d = if same_degree c.at d then c.steps else steps_at cells d
 
 abbrev pub count_passes : Certificate → Cell → Bool
 count_passes c cell =
     not (state_count_at c.grid cell.at == 0)
     && (state_count_at c.grid cell.at == length cell.cycles + length cell.steps
-    + length (steps_at same_degree c.cells (up_m cell.at)))
+    + length (steps_at c.cells (up_m cell.at)))
 
 abbrev pub is_cocycle : Marks → Chain → Bool
-is_cocycle g f = all_below (factorial (size g)) (λ s. not (pairs_oddly (border_of_state g (unrank (size g) s)) f))
+is_cocycle g f = list_all (λ x. not (pairs_oddly (size g) (border g (single x)) f)) (states (size g))
 
-abbrev pub is_empty_chain : Chain → Bool
-is_empty_chain z = length (codes z) == 0
+abbrev pub is_empty_chain : Marks → Chain → Bool
+is_empty_chain g z = length (members (size g) z) == 0
 
 -- a cocycle pairs oddly with its own cycle, and evenly with the cycle of every other pair of the cell
 abbrev pub cycle_pair_tests : Marks → ℤ × ℤ → CyclePair → List CyclePair → List (CertTest × Bool)
 cycle_pair_tests g d p others =
     (Degree, all_have g d p.cycle && all_have g d p.cocycle)
-    ∷ (Cycle, is_empty_chain (border g p.cycle))
+    ∷ (Cycle, is_empty_chain g (border g p.cycle))
     ∷ (Cocycle, is_cocycle g p.cocycle)
-    ∷ (Pairing, pairs_oddly p.cycle p.cocycle && list_all (λ (q : CyclePair). not (pairs_oddly q.cycle p.cocycle)) others)
+    ∷ (Pairing, pairs_oddly (size g) p.cycle p.cocycle && list_all (λ (q : CyclePair). not (pairs_oddly (size g) q.cycle p.cocycle)) others)
     ∷ []
 
 abbrev pub cycle_entries : Marks → ℤ × ℤ → List CyclePair → List CyclePair → List (List (CertTest × Bool))
@@ -96,8 +98,8 @@ step_pair_tests g d p later =
     (Degree, all_have g d p.step && all_have g (one_below d) p.probe)
     ∷ (
       Probe,
-      pairs_oddly (border g p.step) p.probe
-          && list_all (λ (q : StepPair). not (pairs_oddly (border g q.step) p.probe)) later,
+      pairs_oddly (size g) (border g p.step) p.probe
+          && list_all (λ (q : StepPair). not (pairs_oddly (size g) (border g q.step) p.probe)) later,
     )
     ∷ []
 
@@ -113,7 +115,7 @@ cell_entries c cell =
 -- each degree of a state has a cell
 abbrev pub none_missing : Certificate → Bool
 none_missing c =
-    all_below (factorial (size c.grid)) (λ s. list_any (λ (cell : Cell). has_bidegree c.grid cell.at s) c.cells)
+    list_all (λ x. list_any (λ (cell : Cell). has_bidegree c.grid cell.at x) c.cells) (states (size c.grid))
 
 unfoldable pub entries : Certificate → List (List (CertTest × Bool))
 entries c = flat_map (cell_entries c) c.cells ++ ((Missing, none_missing c) ∷ []) ∷ []

@@ -15,10 +15,9 @@
 use Rattle.std.specs.Prelude.{◌≡◌, ℕ, ◌+◌, ◌≤◌, ℤ, List, [], ◌∷◌, ◌++◌, length, take, codes}
 use Rattle.std.specs.List.{flat_map}
 use Rattle.std.specs.Fmt.{decimal, signed_decimal}
-use Rattle.f2_algebra.specs.Certificate.{CyclePair, StepPair}
-use Rattle.text_lines.specs.Lines.{line, set_line}
+use Rattle.text_lines.specs.Lines.{line, chain_line}
 use Rattle.torus_geom.specs.Marks.{Marks, size}
-use Rattle.homology_cert.specs.Certificates.{Cell, Certificate, IsCertificate}
+use Rattle.homology_cert.specs.Certificates.{Cell, Certificate, CyclePair, IsCertificate, StepPair}
 
 abbrev pub marks_line : List ℕ → List ℕ → List ℕ
 marks_line word rows = word ++ flat_map (λ r. 32 ∷ decimal r) rows
@@ -27,10 +26,10 @@ abbrev pub degree_line : ℤ × ℤ → List ℕ
 degree_line d = codes "cell " ++ signed_decimal d.0 ++ codes " " ++ signed_decimal d.1
 
 abbrev pub cycle_lines : ℕ → CyclePair → List (List ℕ)
-cycle_lines n p = set_line (codes "cycle") n p.cycle ∷ set_line (codes "cocycle") n p.cocycle ∷ []
+cycle_lines n p = chain_line (codes "cycle") n p.cycle ∷ chain_line (codes "cocycle") n p.cocycle ∷ []
 
 abbrev pub step_lines : ℕ → StepPair → List (List ℕ)
-step_lines n p = set_line (codes "step") n p.step ∷ set_line (codes "probe") n p.probe ∷ []
+step_lines n p = chain_line (codes "step") n p.step ∷ chain_line (codes "probe") n p.probe ∷ []
 
 abbrev pub cell_lines : ℕ → Cell → List (List ℕ)
 cell_lines n cell = degree_line cell.at ∷ flat_map (cycle_lines n) cell.cycles ++ flat_map (step_lines n) cell.steps

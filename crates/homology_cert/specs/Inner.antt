@@ -6,3 +6,6 @@ pub mod Checks
 pub mod Cells
 pub mod Reading
 pub mod Questions
+pub mod CodeCertificates
+pub mod CodeTests
+pub mod CodeText

@@ -1,7 +1,9 @@
 //! Certificates.
 ghost use Rattle.std.specs.Prelude.{◌≡◌, IfOk};
 ghost use Rattle.homology_cert.specs.Inner.Cells.{new_cell, with_cycle, with_step};
-ghost use Rattle.homology_cert.specs.Certificates.{IsCertificate};
+ghost use Rattle.homology_cert.specs.CertificateCodes.{certificate_of};
+ghost use Rattle.homology_cert.specs.Certificates.{IsCertificate as IsStatesCertificate};
+ghost use Rattle.homology_cert.specs.Inner.CodeCertificates.{IsCertificate};
 
 use f2_chain::{Chain, Cochain};
 use gradings::Bidegree;
@@ -19,7 +21,7 @@ pub struct CyclePair {
 
 impl Model for CyclePair {
     ghost use Rattle.f2_algebra.specs.Certificate.{CyclePair as Pair};
-    ghost use Rattle.homology_cert.specs.Certificates.{cycle_pair_code};
+    ghost use Rattle.homology_cert.specs.CertificateCodes.{cycle_pair_code};
 
     ghost Value = { Pair };
 
@@ -37,7 +39,7 @@ pub struct StepPair {
 
 impl Model for StepPair {
     ghost use Rattle.f2_algebra.specs.Certificate.{StepPair as Pair};
-    ghost use Rattle.homology_cert.specs.Certificates.{step_pair_code};
+    ghost use Rattle.homology_cert.specs.CertificateCodes.{step_pair_code};
 
     ghost Value = { Pair };
 
@@ -55,7 +57,7 @@ pub struct CertCell {
 }
 
 impl Model for CertCell {
-    ghost use Rattle.homology_cert.specs.Certificates.{Cell, cell_code};
+    ghost use Rattle.homology_cert.specs.CertificateCodes.{Cell, cell_code};
 
     ghost Value = { Cell };
 
@@ -72,7 +74,7 @@ pub struct Cert {
 }
 
 impl Model for Cert {
-    ghost use Rattle.homology_cert.specs.Certificates.{Certificate, certificate_code};
+    ghost use Rattle.homology_cert.specs.CertificateCodes.{Certificate, certificate_code};
 
     ghost Value = { Certificate };
 
@@ -80,7 +82,7 @@ impl Model for Cert {
 
     ghost view = { λ c. record { grid = c.grid; cells = c.cells.items } };
 
-    ghost use Rattle.homology_cert.specs.Certificates.{IsCertificate};
+    ghost use Rattle.homology_cert.specs.Inner.CodeCertificates.{IsCertificate};
 
     ghost invariant = { λ c. IsCertificate (record { grid = c.grid; cells = c.cells.items }) };
 }
@@ -165,7 +167,7 @@ impl Cert {
     /// The grid.
     pub fn grid(&self) -> &Grid
         ensures grid { result.now ≡ self.now.grid }
-        ensures certificate { IsCertificate self.now }
+        ensures certificate { IsStatesCertificate (certificate_of self.now) }
     {
         &self.grid
     }

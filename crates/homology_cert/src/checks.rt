@@ -10,10 +10,14 @@ ghost use Rattle.torus_geom.specs.Marks.{size};
 ghost use Rattle.torus_geom.specs.Degrees.{bidegree};
 ghost use Rattle.torus_geom.specs.Inner.CodeBorder.{border_of_state as border_of, border as border_of_chain};
 ghost use Rattle.torus_geom.specs.Homology.{IsHomologyTable};
-ghost use Rattle.homology_cert.specs.Certificates.{Cell, Certificate, IsCertificate, AreStates, AreSmallDegrees, HasCycleStates, HasStepStates, HasPairStates, entry_count};
+ghost use Rattle.homology_cert.specs.Certificates.{Certificate, IsCertificate};
+ghost use Rattle.homology_cert.specs.CertificateCodes.{Cell, certificate_of};
+ghost use Rattle.homology_cert.specs.Inner.CodeCertificates.{AreStates, HasCycleStates, HasStepStates, HasPairStates, entry_count};
+ghost use Rattle.homology_cert.specs.Certificates.{AreSmallDegrees};
 ghost use Rattle.homology_cert.specs.Inner.Checks.{AreBorders, step_borders};
 ghost use Rattle.homology_cert.specs.Inner.Questions.{at_entry};
-ghost use Rattle.homology_cert.specs.CertificateTests.{verdict_of, is_empty_chain, is_cocycle as is_cocycle_of, certified_rows, same_degree, count_passes as count_passes_of, none_missing as none_missing_of, one_below as one_below_of, has_bidegree as has_bidegree_of, all_have as all_have_of, state_count_at as count_at};
+ghost use Rattle.homology_cert.specs.Inner.CodeTests.{verdict_of as code_verdict, is_empty_chain, is_cocycle as is_cocycle_of, count_passes as count_passes_of, none_missing as none_missing_of, has_bidegree as has_bidegree_of, all_have as all_have_of, state_count_at as count_at};
+ghost use Rattle.homology_cert.specs.CertificateTests.{same_degree, one_below as one_below_of, verdict_of, certified_rows};
 ghost use Rattle.homology_cert.specs.Inner.Questions.{first_failing, cycle_pair_questions, cycle_questions, step_pair_questions, step_questions, cell_questions};
 
 use crate::certificates::{Cert, CertCell, CyclePair, StepPair};
@@ -36,19 +40,19 @@ use torus_geom::Grid;
 ///
 /// `NoMemory` if the allocator refuses.
 pub fn check_cert(alloc: Global, c: &Cert) -> Result<CertVerdict, NoMemory>
-    ensures verdict { IfOk result (λ v. v ≡ verdict_of c.now) }
+    ensures verdict { IfOk result (λ v. v ≡ verdict_of (certificate_of c.now)) }
 
     // Whatever the call answers: a certificate that passes tells the table of ranks of its grid.
     ensures table { (d : Certificate) → IsCertificate d → verdict_of d ≡ CertVerdict.Yes
         → IsHomologyTable d.grid (certified_rows d.cells) }
 {
-    let _ = c.grid();
+    let _ = c.cells();
     verdict_on(alloc, c)
 }
 
 // What the check of a certificate says.
 fn verdict_on(alloc: Global, c: &Cert) -> Result<CertVerdict, NoMemory>
-    ensures { IfOk result (λ v. v ≡ verdict_of c.now) }
+    ensures { IfOk result (λ v. v ≡ code_verdict c.now) }
 {
     let borders = borders_of_states(alloc, c.grid())?;
     let mut entry = 1;

@@ -8,9 +8,13 @@ ghost use Rattle.state_rank.specs.States.{factorial};
 ghost use Rattle.torus_geom.specs.Inner.GridComplex.{grid_complex};
 ghost use Rattle.torus_geom.specs.Marks.{Marks, size, IsGrid};
 ghost use Rattle.homology_cert.specs.CertificateLimits.{max_certified_size, max_certificate};
+ghost use Rattle.homology_cert.specs.CertificateCodes.{certificate_of as states_certificate};
 ghost use Rattle.homology_cert.specs.Certificates.{Certificate, IsCertificate};
-ghost use Rattle.homology_cert.specs.CertificateTests.{has_bidegree as has_bidegree_of, verdict_of};
+ghost use Rattle.homology_cert.specs.CertificateTests.{verdict_of};
 ghost use Rattle.homology_cert.specs.CertificateText.{certificate_text};
+ghost use Rattle.homology_cert.specs.Inner.CodeCertificates.{IsCertificate as IsCodeCertificate};
+ghost use Rattle.homology_cert.specs.Inner.CodeTests.{has_bidegree as has_bidegree_of, verdict_of as code_verdict};
+ghost use Rattle.homology_cert.specs.Inner.CodeText.{certificate_text as code_text};
 ghost use Rattle.homology_cert.specs.Inner.Making.{HasBidegrees, HasState, AreMade, IsMadeCell, cycle_pair, degree_is, left_codes, steps_after};
 
 use crate::certificates::{Cert, CertCell, CyclePair, StepPair};
@@ -41,8 +45,8 @@ pub const MAX_CERTIFIED_SIZE: u8 = 6;
 pub fn make_cert(alloc: Global, g: &Grid) -> Result<Cert, NoMemory>
     requires { size g.now ≤ max_certified_size }
     ensures grid { IfOk result (λ c. c.grid ≡ g.now) }
-    ensures passes { IfOk result (λ c. verdict_of c ≡ CertVerdict.Yes) }
-    ensures short { IfOk result (λ c. length (certificate_text c) < max_certificate) }
+    ensures passes { IfOk result (λ c. verdict_of (states_certificate c) ≡ CertVerdict.Yes) }
+    ensures short { IfOk result (λ c. length (certificate_text (states_certificate c)) < max_certificate) }
 
     // Whatever the call answers: each grid of this size has a certificate that passes.
     ensures some_certificate { (h : Marks) → IsGrid h → size h ≤ max_certified_size → (c : Certificate) × IsCertificate c
@@ -59,8 +63,9 @@ pub fn make_cert(alloc: Global, g: &Grid) -> Result<Cert, NoMemory>
 fn certificate_of(alloc: Global, g: &Grid) -> Result<Cert, NoMemory>
     requires { size g.now ≤ max_certified_size }
     ensures grid { IfOk result (λ c. c.grid ≡ g.now) }
-    ensures passes { IfOk result (λ c. verdict_of c ≡ CertVerdict.Yes) }
-    ensures short { IfOk result (λ c. length (certificate_text c) < max_certificate) }
+    ensures certificate { IfOk result IsCodeCertificate }
+    ensures passes { IfOk result (λ c. code_verdict c ≡ CertVerdict.Yes) }
+    ensures short { IfOk result (λ c. length (code_text c) < max_certificate) }
 {
     let _size = g.size();
     let cells = cells_of(alloc, g)?;

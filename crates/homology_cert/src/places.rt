@@ -3,7 +3,9 @@ ghost use Rattle.std.specs.Prelude.{◌≡◌, ◌≢◌, ℕ, ℤ, List, [], �
 ghost use Rattle.f2_algebra.specs.Chain.{Chain as Codes};
 ghost use Rattle.state_rank.specs.Bijection.{IsBijection};
 ghost use Rattle.torus_geom.specs.Marks.{Marks, size, IsGrid};
-ghost use Rattle.homology_cert.specs.Certificates.{Cell, AreSmallDegrees, AreStates, comes_first as comes_first_of};
+ghost use Rattle.homology_cert.specs.CertificateCodes.{Cell};
+ghost use Rattle.homology_cert.specs.Certificates.{AreSmallDegrees};
+ghost use Rattle.homology_cert.specs.Inner.CodeCertificates.{AreStates, comes_first as comes_first_of};
 ghost use Rattle.homology_cert.specs.CertificateText.{marks_line, degree_line};
 ghost use Rattle.text_lines.specs.Lines.{set_line};
 ghost use Rattle.homology_cert.specs.Inner.Reading.{size_line, IsSmallSize, LeadsTo, IsAt, new_cell, with_cycle, with_step};

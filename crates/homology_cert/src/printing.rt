@@ -2,8 +2,10 @@
 ghost use Rattle.std.specs.Prelude.{◌≡◌, ◌∷◌, [], ◌++◌, IfOk, OnOk, All};
 ghost use Rattle.std.specs.List.{flat_map};
 ghost use Rattle.torus_geom.specs.Marks.{size};
-ghost use Rattle.homology_cert.specs.Certificates.{AreStates, HasCycleStates, HasStepStates, HasPairStates};
-ghost use Rattle.homology_cert.specs.CertificateText.{text_of_lines, certificate_text, head_lines, cell_lines, degree_line, cycle_lines, step_lines, marks_line};
+ghost use Rattle.homology_cert.specs.CertificateCodes.{certificate_of};
+ghost use Rattle.homology_cert.specs.Inner.CodeCertificates.{AreStates, HasCycleStates, HasStepStates, HasPairStates};
+ghost use Rattle.homology_cert.specs.CertificateText.{certificate_text, text_of_lines, head_lines, degree_line, marks_line};
+ghost use Rattle.homology_cert.specs.Inner.CodeText.{cell_lines, cycle_lines, step_lines};
 ghost use Rattle.text_lines.specs.Lines.{set_line};
 
 use crate::certificates::{Cert, CertCell, CyclePair, StepPair};
@@ -20,7 +22,7 @@ use torus_geom::Grid;
 ///
 /// `NoMemory` if the allocator refuses.
 pub fn print_cert(alloc: Global, c: &Cert) -> Result<Vec<u8>, NoMemory>
-    ensures text { IfOk result (λ text. text.items ≡ certificate_text c.now) }
+    ensures text { IfOk result (λ text. text.items ≡ certificate_text (certificate_of c.now)) }
 {
     let g = c.grid();
     let mut text = Vec::new(alloc);

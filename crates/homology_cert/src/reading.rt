@@ -3,7 +3,10 @@ ghost use Rattle.std.specs.Prelude.{◌≡◌, ◌≢◌, ◌≤◌, ℕ, List, 
 ghost use Rattle.torus_geom.specs.Marks.{Marks};
 ghost use Rattle.homology_cert.specs.CertificateLimits.{max_certificate};
 ghost use Rattle.homology_cert.specs.Certificates.{Certificate, IsCertificate};
+ghost use Rattle.homology_cert.specs.CertificateCodes.{certificate_of};
 ghost use Rattle.homology_cert.specs.CertificateText.{certificate_text, IsFirstBadLine};
+ghost use Rattle.homology_cert.specs.Inner.CodeCertificates.{IsCertificate as IsCodeCertificate};
+ghost use Rattle.homology_cert.specs.Inner.CodeText.{certificate_text as code_text, IsFirstBadLine as IsCodeBadLine};
 ghost use Rattle.homology_cert.specs.Inner.Reading.{IsFree};
 
 use crate::certificates::{Cert, CertCell};
@@ -57,12 +60,12 @@ impl From<AllocError> for CertEnd {
 /// `BadLine` if the text is that of no certificate; `NoMemory` if the allocator refuses.
 pub fn read_cert(alloc: Global, text: &[u8]) -> Result<Cert, CertEnd>
     requires { length text.now ≤ max_certificate }
-    ensures read { IfOk result (λ c. text.now ≡ certificate_text c) }
+    ensures read { IfOk result (λ c. text.now ≡ certificate_text (certificate_of c)) }
     ensures refused { (line : ℕ) → result ≡ Err (CertEnd.BadLine line) → IsFirstBadLine text.now line }
 
     // The text of a certificate is read back as that certificate.
     ensures read_back { (c : Certificate) → IsCertificate c → text.now ≡ certificate_text c
-        → IfOk result (λ d. d ≡ c) }
+        → IfOk result (λ d. certificate_of d ≡ c) }
 
     // Whatever the call answers: a text is that of one certificate at most.
     ensures one_certificate { (c d : Certificate) → IsCertificate c → IsCertificate d
@@ -82,9 +85,9 @@ pub fn read_cert(alloc: Global, text: &[u8]) -> Result<Cert, CertEnd>
 // The certificate with this text.
 fn cert_of(alloc: Global, text: &[u8]) -> Result<Cert, CertEnd>
     requires { length text.now ≤ max_certificate }
-    ensures certificate { IfOk result (λ c. IsCertificate c) }
-    ensures read { IfOk result (λ c. text.now ≡ certificate_text c) }
-    ensures refused { (line : ℕ) → result ≡ Err (CertEnd.BadLine line) → IsFirstBadLine text.now line }
+    ensures certificate { IfOk result (λ c. IsCodeCertificate c) }
+    ensures read { IfOk result (λ c. text.now ≡ code_text c) }
+    ensures refused { (line : ℕ) → result ≡ Err (CertEnd.BadLine line) → IsCodeBadLine text.now line }
 {
     let mut place = Place::Start;
     let mut cells = Vec::new(alloc);
@@ -107,7 +110,7 @@ fn cert_of(alloc: Global, text: &[u8]) -> Result<Cert, CertEnd>
 // The certificate, if this is the place after its last line and nothing follows.
 fn whole(place: Place, cells: Vec<CertCell>, rest: &[u8]) -> Option<Cert>
     requires { (g : Marks) → place ≡ Place.End g → rest.now ≡ []
-        → IsCertificate (record { grid = g; cells = cells.items }) }
+        → IsCodeCertificate (record { grid = g; cells = cells.items }) }
     ensures { MatchOption result ((g : Marks) → place ≡ Place.End g → rest.now ≢ [])
         (λ c. (place ≡ Place.End c.grid) × (c.cells ≡ cells.items) × (rest.now ≡ [])) }
 {

@@ -17,7 +17,7 @@ use Rattle.grid_job.specs.Inner.Written.{HasWritten, IsAnswerOfGrid}
 use Rattle.grid_job.specs.declared.modes.Mode.TheVariants.{Cert, Check}
 use Rattle.grid_job.specs.declared.statuses.Status.{Status}
 use Rattle.grid_job.specs.declared.statuses.Status.TheVariants.{Done, NoMemory}
-use Rattle.homology_cert.proofs.Made.MakingLaws.{exists_certificate}
+use Rattle.homology_cert.proofs.States.StateTexts.{exists_certificate}
 use Rattle.grid_job.proofs.Outcomes.WrittenLemmas.{HasWritten-weaker, HasWritten-nothing}
 
 -- the text of a certificate, whose grid and text are told otherwise

@@ -1,5 +1,4 @@
 -- The verdict of a certificate, and the outcomes of `check`.
-use Rattle.rectangles.proofs.Homology.HomologyLemmas.{homology_table-states}
 use Rattle.std.proofs.Common.{◌≡◌, ℕ, ◌≤◌, List, length, codes, Option, refl, sym, subst, inr}
 use Rattle.torus_geom.specs.Homology.{IsHomologyTable}
 use Rattle.homology_cert.specs.Certificates.{Certificate, IsCertificate}
@@ -7,7 +6,7 @@ use Rattle.homology_cert.specs.CertificateTests.{verdict_of, certified_rows}
 use Rattle.homology_cert.specs.CertificateText.{certificate_text, IsFirstBadLine}
 use Rattle.homology_cert.specs.declared.verdicts.CertVerdict.{CertVerdict}
 use Rattle.homology_cert.specs.declared.verdicts.CertVerdict.TheVariants.{Yes, No as Fails}
-use Rattle.homology_cert.proofs.Certified.CertifiedLemmas.{table_of_certificate}
+use Rattle.homology_cert.proofs.States.StateTexts.{table_of_certificate}
 use Rattle.report_text.specs.Lines.{refused_line}
 use Rattle.homology_cert.specs.CertificateLimits.{max_certificate}
 use Rattle.grid_job.specs.Outcome.{IsOutcome}
@@ -78,9 +77,4 @@ pub yes_tells_the_table : (text answer : List ℕ) → IsOutcome Check text Done
     → (c : Certificate) × IsCertificate c × (text ≡ certificate_text c)
     × IsHomologyTable c.grid (certified_rows c.cells)
 yes_tells_the_table text answer h =
-    (
-      h.certificate,
-      h.is_certificate,
-      h.lines,
-      (homology_table-states h.certificate.grid _).0 (table_of_certificate h.certificate h.is_certificate h.passes),
-    )
+    (h.certificate, h.is_certificate, h.lines, table_of_certificate h.certificate h.is_certificate h.passes)

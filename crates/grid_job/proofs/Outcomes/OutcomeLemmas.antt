@@ -25,9 +25,9 @@ use Rattle.grid_job.specs.declared.modes.Mode.{Mode}
 use Rattle.grid_job.specs.declared.modes.Mode.TheVariants.{Run, Cert, Check, Make}
 use Rattle.grid_job.specs.declared.statuses.Status.{Status}
 use Rattle.grid_job.specs.declared.statuses.Status.TheVariants.{Done, Refused, No}
-use Rattle.homology_cert.proofs.Texts.DecisionLemmas.{some_answer}
-use Rattle.homology_cert.proofs.Made.MakingLaws.{exists_certificate}
-use Rattle.homology_cert.proofs.Texts.ReadLemmas.{one_certificate}
+use Rattle.homology_cert.proofs.States.StateTexts.{some_answer}
+use Rattle.homology_cert.proofs.States.StateTexts.{exists_certificate}
+use Rattle.homology_cert.proofs.States.StateTexts.{one_certificate}
 use Rattle.torus_geom.proofs.Chains.CodesLemmas.{IsChain-nothing}
 use Rattle.grid_job.proofs.Outcomes.HeadLemmas.{some_head}
 use Rattle.grid_job.proofs.Generated.MadeLemmas.{exists_made}

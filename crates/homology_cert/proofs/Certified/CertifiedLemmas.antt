@@ -38,8 +38,10 @@ use Rattle.torus_geom.specs.Inner.CodeHomology.{IsHomologyTable, IsHomologyRank}
 use Rattle.torus_geom.proofs.Sums.AllBelowLemmas.{at_all_below}
 use Rattle.rectangles.proofs.Square.BorderLemmas.{border-grid_complex}
 use Rattle.rectangles.proofs.Law.GridComplexLemmas.{grid_complex_rules}
-use Rattle.homology_cert.specs.Certificates.{Cell, Certificate, comes_first, AreStates, HasCycleStates, HasStepStates, HasPairStates, IsCertificate}
-use Rattle.homology_cert.specs.CertificateTests.{same_degree, one_below, has_bidegree, all_have, state_count_at, is_empty_chain, is_cocycle, verdict_of, certified_rows}
+use Rattle.homology_cert.specs.CertificateCodes.{Cell, Certificate}
+use Rattle.homology_cert.specs.Inner.CodeCertificates.{comes_first, AreStates, HasCycleStates, HasStepStates, HasPairStates, IsCertificate}
+use Rattle.homology_cert.specs.CertificateTests.{same_degree, one_below}
+use Rattle.homology_cert.specs.Inner.CodeTests.{has_bidegree, all_have, state_count_at, is_empty_chain, is_cocycle, verdict_of, certified_rows}
 use Rattle.homology_cert.specs.declared.verdicts.CertVerdict.TheVariants.{Yes}
 use Rattle.cancel.proofs.MapLemmas.{IsApart-pairs}
 use Rattle.homology_cert.proofs.Homology.LawLemmas.{any-ascending}

@@ -12,9 +12,10 @@ use Rattle.state_rank.specs.Bijection.{ascending}
 use Rattle.torus_geom.specs.Counts.{all_below}
 use Rattle.torus_geom.proofs.Sums.TabulateLemmas.{tabulate-suc, length-filter-ascending}
 use Rattle.torus_geom.specs.Marks.{Marks}
-use Rattle.homology_cert.specs.Certificates.{Cell, Certificate, entry_count}
+use Rattle.homology_cert.specs.CertificateCodes.{Cell, Certificate}
+use Rattle.homology_cert.specs.Inner.CodeCertificates.{entry_count}
 use Rattle.torus_geom.specs.Inner.CodeBorder.{border}
-use Rattle.homology_cert.specs.CertificateTests.{none_missing, verdict_of}
+use Rattle.homology_cert.specs.Inner.CodeTests.{none_missing, verdict_of}
 use Rattle.homology_cert.specs.Inner.Questions.{Question, first_failing, cycle_pair_questions, cycle_questions, step_pair_questions, step_questions, cell_questions, all_questions, questions, verdict_of_first}
 use Rattle.homology_cert.specs.Inner.Checks.{step_borders}
 use Rattle.homology_cert.specs.Inner.Questions.{at_entry}

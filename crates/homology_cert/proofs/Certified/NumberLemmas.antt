@@ -7,8 +7,10 @@ use Rattle.std.specs.declared.option.Option.TheVariants.{None, Some}
 use Rattle.std.proofs.lemmas.List.Sums.{sum_by-cons}
 use Rattle.f2_algebra.specs.Certificate.{CyclePair, StepPair}
 use Rattle.torus_geom.specs.Marks.{Marks}
-use Rattle.homology_cert.specs.Certificates.{Cell, Certificate, entry_count}
-use Rattle.homology_cert.specs.CertificateTests.{count_passes, cycle_entries, step_entries, cell_entries, none_missing, entries, first_failed, verdict_from, verdict_of}
+use Rattle.homology_cert.specs.CertificateCodes.{Cell, Certificate}
+use Rattle.homology_cert.specs.Inner.CodeCertificates.{entry_count}
+use Rattle.homology_cert.specs.Inner.CodeTests.{count_passes, cycle_entries, step_entries, cell_entries, none_missing, entries, verdict_of}
+use Rattle.homology_cert.specs.CertificateTests.{first_failed, verdict_from}
 use Rattle.homology_cert.specs.Inner.Questions.{Question, numbered, all_numbered, cell_questions, all_questions, questions, first_failing, verdict_of_first, at_entry}
 use Rattle.homology_cert.specs.declared.verdicts.CertTest.{CertTest}
 use Rattle.homology_cert.specs.declared.verdicts.CertTest.TheVariants.{Count, Missing}

@@ -17,8 +17,9 @@ use Rattle.state_rank.proofs.MemberLemmas.{member_cases, member_head, no_member}
 use Rattle.std.proofs.lemmas.List.Elements.{Contains-append_left, Contains-append_right}
 use Rattle.torus_geom.specs.Marks.{Marks}
 use Rattle.torus_geom.specs.Inner.CodeBorder.{border}
-use Rattle.homology_cert.specs.Certificates.{Cell, Certificate}
-use Rattle.homology_cert.specs.CertificateTests.{all_have, one_below, count_passes, is_cocycle, is_empty_chain, none_missing, verdict_of}
+use Rattle.homology_cert.specs.CertificateCodes.{Cell, Certificate}
+use Rattle.homology_cert.specs.Inner.CodeTests.{all_have, count_passes, is_cocycle, is_empty_chain, none_missing, verdict_of}
+use Rattle.homology_cert.specs.CertificateTests.{one_below}
 use Rattle.homology_cert.specs.Inner.Questions.{Question, cycle_pair_questions, cycle_questions, step_pair_questions, step_questions, cell_questions, all_questions, questions, first_failing, verdict_of_first}
 use Rattle.homology_cert.proofs.Certified.NumberLemmas.{verdict_of-questions}
 use Rattle.homology_cert.specs.declared.verdicts.CertTest.{CertTest}

@@ -37,8 +37,11 @@ use Rattle.torus_geom.specs.Inner.GridComplex.{grid_complex}
 use Rattle.torus_geom.proofs.Sums.AllBelowLemmas.{at_all_below}
 use Rattle.rectangles.proofs.Law.GridComplexLemmas.{grid_complex_rules}
 use Rattle.gradings.proofs.TableLemmas.{maslov_small, alexander_small}
-use Rattle.homology_cert.specs.Certificates.{Cell, Certificate, AreSmallDegrees, HasPairStates}
-use Rattle.homology_cert.specs.CertificateTests.{same_degree, has_bidegree, state_count_at, count_passes, verdict_of}
+use Rattle.homology_cert.specs.CertificateCodes.{Cell, Certificate}
+use Rattle.homology_cert.specs.Certificates.{AreSmallDegrees}
+use Rattle.homology_cert.specs.Inner.CodeCertificates.{HasPairStates}
+use Rattle.homology_cert.specs.CertificateTests.{same_degree}
+use Rattle.homology_cert.specs.Inner.CodeTests.{has_bidegree, state_count_at, count_passes, verdict_of}
 use Rattle.homology_cert.specs.Inner.Making.{degree_is, left_codes, cycle_pair, step_pair, steps_after, IsMadeCell, AreMade}
 use Rattle.homology_cert.specs.declared.verdicts.CertVerdict.TheVariants.{Yes}
 use Rattle.homology_cert.proofs.Homology.SliceRanks.{slice_of, IsReduction, left-below}

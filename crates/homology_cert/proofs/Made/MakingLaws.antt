@@ -25,9 +25,11 @@ use Rattle.torus_geom.specs.Inner.GridComplex.{grid_complex}
 use Rattle.torus_geom.proofs.Sums.AllBelowLemmas.{all_below-true}
 use Rattle.rectangles.proofs.Law.GridComplexLemmas.{grid_complex_rules}
 use Rattle.gradings.proofs.TableLemmas.{maslov_small, alexander_small}
-use Rattle.homology_cert.specs.Certificates.{Cell, Certificate, comes_first, AreSmallDegrees, HasPairStates, IsCertificate, entry_count}
-use Rattle.homology_cert.specs.CertificateTests.{has_bidegree, state_count_at, verdict_of}
-use Rattle.homology_cert.specs.CertificateText.{certificate_text}
+use Rattle.homology_cert.specs.CertificateCodes.{Cell, Certificate}
+use Rattle.homology_cert.specs.Inner.CodeCertificates.{comes_first, HasPairStates, IsCertificate, entry_count}
+use Rattle.homology_cert.specs.Certificates.{AreSmallDegrees}
+use Rattle.homology_cert.specs.Inner.CodeTests.{has_bidegree, state_count_at, verdict_of}
+use Rattle.homology_cert.specs.Inner.CodeText.{certificate_text}
 use Rattle.homology_cert.specs.Inner.Making.{left_codes, cycle_pair, steps_after, IsMadeCell, AreMade}
 use Rattle.homology_cert.specs.declared.verdicts.CertVerdict.TheVariants.{Yes}
 use Rattle.homology_cert.proofs.Homology.SliceRanks.{slice_of, slice-below}

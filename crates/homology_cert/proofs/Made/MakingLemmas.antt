@@ -33,8 +33,9 @@ use Rattle.torus_geom.specs.Inner.GridComplex.{grid_complex}
 use Rattle.torus_geom.proofs.Sums.TabulateLemmas.{tabulate-suc}
 use Rattle.torus_geom.proofs.Sums.AllBelowLemmas.{all_below-true}
 use Rattle.rectangles.proofs.Law.GridComplexLemmas.{grid_complex_rules}
-use Rattle.homology_cert.specs.Certificates.{Cell, comes_first}
-use Rattle.homology_cert.specs.CertificateTests.{has_bidegree}
+use Rattle.homology_cert.specs.CertificateCodes.{Cell}
+use Rattle.homology_cert.specs.Inner.CodeCertificates.{comes_first}
+use Rattle.homology_cert.specs.Inner.CodeTests.{has_bidegree}
 use Rattle.homology_cert.specs.Inner.Ranks.{degree_cmp}
 use Rattle.homology_cert.specs.Inner.Making.{cycle_pair, left_codes, step_pair, steps_after, key_of, HasState, HasBidegrees, IsMadeCell, AreMade}
 use Rattle.homology_cert.proofs.Homology.SliceRanks.{slice_of, slice-below, reduction_of}

@@ -30,9 +30,13 @@ use Rattle.torus_geom.specs.Marks.{Marks, size, IsGrid}
 use Rattle.torus_geom.specs.Degrees.{bidegree}
 use Rattle.gradings.specs.Degrees.{IsSmallDegree}
 use Rattle.rectangles.proofs.Sweep.PushLemmas.{length-ascending}
-use Rattle.homology_cert.specs.Certificates.{Cell, Certificate, comes_first, AreSmallDegrees, AreStates, HasCycleStates, HasStepStates, HasPairStates, entry_count}
-use Rattle.homology_cert.specs.CertificateTests.{same_degree, has_bidegree, state_count_at}
-use Rattle.homology_cert.specs.CertificateText.{marks_line, degree_line, cycle_lines, step_lines, cell_lines, head_lines, text_of_lines, certificate_text}
+use Rattle.homology_cert.specs.CertificateCodes.{Cell, Certificate}
+use Rattle.homology_cert.specs.Inner.CodeCertificates.{comes_first, AreStates, HasCycleStates, HasStepStates, HasPairStates, entry_count}
+use Rattle.homology_cert.specs.Certificates.{AreSmallDegrees}
+use Rattle.homology_cert.specs.CertificateTests.{same_degree}
+use Rattle.homology_cert.specs.Inner.CodeTests.{has_bidegree, state_count_at}
+use Rattle.homology_cert.specs.CertificateText.{marks_line, degree_line, head_lines, text_of_lines}
+use Rattle.homology_cert.specs.Inner.CodeText.{cycle_lines, step_lines, cell_lines, certificate_text}
 use Rattle.text_lines.specs.Lines.{set_line}
 use Rattle.homology_cert.proofs.Texts.TextLemmas.{text_of_lines-append, certificate_text-parts}
 use Rattle.homology_cert.proofs.Certified.CertifiedLemmas.{same_degree-is}

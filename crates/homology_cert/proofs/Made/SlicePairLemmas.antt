@@ -26,8 +26,9 @@ use Rattle.torus_geom.specs.Inner.GridComplex.{grid_complex}
 use Rattle.torus_geom.proofs.Sums.AllBelowLemmas.{all_below-true}
 use Rattle.rectangles.proofs.Square.BorderLemmas.{border-grid_complex}
 use Rattle.rectangles.proofs.Law.GridComplexLemmas.{grid_complex_rules}
-use Rattle.homology_cert.specs.Certificates.{AreStates, HasCycleStates, HasStepStates}
-use Rattle.homology_cert.specs.CertificateTests.{one_below, has_bidegree, all_have, is_empty_chain, is_cocycle}
+use Rattle.homology_cert.specs.Inner.CodeCertificates.{AreStates, HasCycleStates, HasStepStates}
+use Rattle.homology_cert.specs.CertificateTests.{one_below}
+use Rattle.homology_cert.specs.Inner.CodeTests.{has_bidegree, all_have, is_empty_chain, is_cocycle}
 use Rattle.homology_cert.proofs.Homology.SliceRanks.{slice_of, slice-below}
 use Rattle.homology_cert.proofs.Certified.PassingLemmas.{PassesCycle, PassesStep, ArePairedApart}
 use Rattle.homology_cert.proofs.Certified.CertifiedLemmas.{same_degree-is, degree_of_state, state_of_degree, degree_of_test}

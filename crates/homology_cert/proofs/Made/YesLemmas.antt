@@ -9,8 +9,8 @@ use Rattle.f2_algebra.proofs.Certificates.Certificate.{every_append, every_weake
 use Rattle.f2_algebra.proofs.Certificates.LogCertificate.{Pairwise}
 use Rattle.torus_geom.specs.Marks.{Marks}
 use Rattle.torus_geom.specs.Inner.CodeBorder.{border}
-use Rattle.homology_cert.specs.Certificates.{Cell, Certificate}
-use Rattle.homology_cert.specs.CertificateTests.{none_missing, verdict_of}
+use Rattle.homology_cert.specs.CertificateCodes.{Cell, Certificate}
+use Rattle.homology_cert.specs.Inner.CodeTests.{none_missing, verdict_of}
 use Rattle.homology_cert.specs.Inner.Questions.{Question, cycle_pair_questions, cycle_questions, step_pair_questions, step_questions, cell_questions, all_questions, questions, first_failing, verdict_of_first}
 use Rattle.homology_cert.specs.declared.verdicts.CertTest.{CertTest}
 use Rattle.homology_cert.specs.declared.verdicts.CertVerdict.TheVariants.{Yes}

@@ -11,8 +11,11 @@ use Rattle.f2_algebra.specs.Certificate.{CyclePair, StepPair}
 use Rattle.state_rank.specs.Bijection.{IsBijection}
 use Rattle.state_rank.proofs.MemberLemmas.{member_cases, member_head, no_member, pairs_append, pairs_head, pairs_tail, pairs_cons}
 use Rattle.torus_geom.specs.Marks.{Marks, size}
-use Rattle.homology_cert.specs.Certificates.{Cell, comes_first, AreSmallDegrees, AreStates, HasCycleStates, HasStepStates, HasPairStates}
-use Rattle.homology_cert.specs.CertificateText.{marks_line, degree_line, cycle_lines, step_lines, cell_lines, head_lines}
+use Rattle.homology_cert.specs.CertificateCodes.{Cell}
+use Rattle.homology_cert.specs.Inner.CodeCertificates.{comes_first, AreStates, HasCycleStates, HasStepStates, HasPairStates}
+use Rattle.homology_cert.specs.Certificates.{AreSmallDegrees}
+use Rattle.homology_cert.specs.CertificateText.{marks_line, degree_line, head_lines}
+use Rattle.homology_cert.specs.Inner.CodeText.{cycle_lines, step_lines, cell_lines}
 use Rattle.text_lines.specs.Lines.{set_line}
 use Rattle.homology_cert.specs.Inner.Reading.{size_line, new_cell, with_cycle, with_step, IsSmallSize, IsSmallGrid, LeadsTo, lines_in, lines_at, AreClosed, IsAt}
 use Rattle.homology_cert.specs.declared.places.Place.{Place}

@@ -15,8 +15,10 @@ use Rattle.torus_geom.specs.Marks.{Marks, size, IsGrid}
 use Rattle.torus_geom.specs.Range.{one_up}
 use Rattle.torus_geom.proofs.Circles.TurnLemmas.{one_up-below, one_up-last, one_up_below, one_up_one}
 use Rattle.torus_geom.proofs.Sums.TabulateLemmas.{slice_index-tabulate}
-use Rattle.homology_cert.specs.Certificates.{Cell, Certificate, IsCertificate, AreStates, HasPairStates, entry_count}
-use Rattle.homology_cert.specs.CertificateText.{marks_line, degree_line, cycle_lines, step_lines, cell_lines, head_lines, certificate_lines}
+use Rattle.homology_cert.specs.CertificateCodes.{Cell, Certificate}
+use Rattle.homology_cert.specs.Inner.CodeCertificates.{IsCertificate, AreStates, HasPairStates, entry_count}
+use Rattle.homology_cert.specs.CertificateText.{marks_line, degree_line, head_lines}
+use Rattle.homology_cert.specs.Inner.CodeText.{cycle_lines, step_lines, cell_lines, certificate_lines}
 use Rattle.text_lines.specs.Lines.{set_line}
 use Rattle.homology_cert.specs.Inner.Reading.{size_line, with_cycle, with_step, IsSmallSize, IsSmallGrid, lines_in, lines_at, AreClosed, IsAt}
 use Rattle.homology_cert.specs.declared.places.Place.{Place}

@@ -15,8 +15,11 @@ use Rattle.state_rank.specs.States.{factorial, rank, unrank}
 use Rattle.state_rank.proofs.RankLemmas.{IsBijection-unrank, unrank-rank, rank-below}
 use Rattle.gradings.specs.Degrees.{IsSmallDegree}
 use Rattle.torus_geom.specs.Marks.{Marks, size, IsGrid}
-use Rattle.homology_cert.specs.Certificates.{Cell, Certificate, IsCertificate, comes_first, AreSmallDegrees, AreStates}
-use Rattle.homology_cert.specs.CertificateText.{marks_line, degree_line, certificate_text, IsFirstBadLine}
+use Rattle.homology_cert.specs.CertificateCodes.{Cell, Certificate}
+use Rattle.homology_cert.specs.Inner.CodeCertificates.{IsCertificate, comes_first, AreStates}
+use Rattle.homology_cert.specs.Certificates.{AreSmallDegrees}
+use Rattle.homology_cert.specs.CertificateText.{marks_line, degree_line}
+use Rattle.homology_cert.specs.Inner.CodeText.{certificate_text, IsFirstBadLine}
 use Rattle.text_lines.specs.Lines.{set_line}
 use Rattle.homology_cert.specs.Inner.Reading.{size_line, new_cell, with_cycle, with_step, IsSmallSize, LeadsTo, IsAt, IsFree, IsRead}
 use Rattle.homology_cert.specs.declared.places.Place.{Place}

@@ -10,8 +10,11 @@ use Rattle.f2_algebra.specs.Certificate.{CyclePair, StepPair}
 use Rattle.state_rank.specs.Bijection.{IsBijection}
 use Rattle.state_rank.specs.States.{unrank, state_word}
 use Rattle.torus_geom.specs.Marks.{size}
-use Rattle.homology_cert.specs.Certificates.{Cell, Certificate, IsCertificate, AreSmallDegrees}
-use Rattle.homology_cert.specs.CertificateText.{marks_line, degree_line, cycle_lines, step_lines, cell_lines, head_lines, certificate_lines, text_of_lines, certificate_text}
+use Rattle.homology_cert.specs.CertificateCodes.{Cell, Certificate}
+use Rattle.homology_cert.specs.Inner.CodeCertificates.{IsCertificate}
+use Rattle.homology_cert.specs.Certificates.{AreSmallDegrees}
+use Rattle.homology_cert.specs.CertificateText.{marks_line, degree_line, head_lines, text_of_lines}
+use Rattle.homology_cert.specs.Inner.CodeText.{cycle_lines, step_lines, cell_lines, certificate_lines, certificate_text}
 use Rattle.text_lines.specs.Lines.{set_line}
 use Rattle.homology_cert.specs.Inner.Reading.{LinesLead, IsAt, IsFree, AreFree}
 use Rattle.homology_cert.specs.declared.places.Place.{Place}

@@ -7,7 +7,9 @@ use Rattle.std.proofs.lemmas.Bool.{true≢false}
 use Rattle.f2_algebra.specs.Chain.{Chain}
 use Rattle.state_rank.specs.Bijection.{IsBijection}
 use Rattle.torus_geom.specs.Marks.{Marks, size, IsGrid}
-use Rattle.homology_cert.specs.Certificates.{Cell, AreSmallDegrees, AreStates}
+use Rattle.homology_cert.specs.CertificateCodes.{Cell}
+use Rattle.homology_cert.specs.Certificates.{AreSmallDegrees}
+use Rattle.homology_cert.specs.Inner.CodeCertificates.{AreStates}
 use Rattle.homology_cert.specs.CertificateText.{marks_line, degree_line}
 use Rattle.text_lines.specs.Lines.{set_line}
 use Rattle.homology_cert.specs.Inner.Reading.{size_line, with_cycle, with_step, IsSmallSize, LeadsTo, IsAt}

@@ -9,8 +9,11 @@ use Rattle.std.proofs.lemmas.List.{append-nil}
 use Rattle.f2_algebra.specs.Certificate.{CyclePair, StepPair}
 use Rattle.state_rank.proofs.MemberLemmas.{pairs_tail}
 use Rattle.torus_geom.specs.Marks.{Marks, size}
-use Rattle.homology_cert.specs.Certificates.{Cell, Certificate, IsCertificate, comes_first, AreSmallDegrees, HasCycleStates, HasStepStates, HasPairStates}
-use Rattle.homology_cert.specs.CertificateText.{cycle_lines, step_lines, cell_lines, head_lines, certificate_lines}
+use Rattle.homology_cert.specs.CertificateCodes.{Cell, Certificate}
+use Rattle.homology_cert.specs.Inner.CodeCertificates.{IsCertificate, comes_first, HasCycleStates, HasStepStates, HasPairStates}
+use Rattle.homology_cert.specs.Certificates.{AreSmallDegrees}
+use Rattle.homology_cert.specs.Inner.CodeText.{cycle_lines, step_lines, cell_lines, certificate_lines}
+use Rattle.homology_cert.specs.CertificateText.{head_lines}
 use Rattle.homology_cert.specs.Inner.Reading.{new_cell, with_cycle, with_step, LinesLead}
 use Rattle.homology_cert.specs.declared.places.Place.{Place}
 use Rattle.homology_cert.specs.declared.places.Place.TheVariants.{Start, Size, OLine, XLine, NoCell, InCell, InCycle, InStep, End}

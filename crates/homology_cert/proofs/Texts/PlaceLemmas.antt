@@ -3,7 +3,9 @@ use Rattle.std.proofs.Common.{◌≡◌, ℕ, ◌<◌, ◌≤◌, List, length, 
 use Rattle.f2_algebra.specs.Chain.{Chain}
 use Rattle.state_rank.specs.Bijection.{IsBijection}
 use Rattle.torus_geom.specs.Marks.{Marks, size}
-use Rattle.homology_cert.specs.Certificates.{Cell, comes_first, AreSmallDegrees}
+use Rattle.homology_cert.specs.CertificateCodes.{Cell}
+use Rattle.homology_cert.specs.Inner.CodeCertificates.{comes_first}
+use Rattle.homology_cert.specs.Certificates.{AreSmallDegrees}
 use Rattle.homology_cert.specs.CertificateText.{degree_line}
 use Rattle.text_lines.specs.Lines.{set_line}
 use Rattle.homology_cert.specs.Inner.Reading.{new_cell, with_cycle, with_step, LeadsTo, IsAt}

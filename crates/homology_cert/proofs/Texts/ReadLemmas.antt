@@ -8,8 +8,10 @@ use Rattle.std.proofs.lemmas.Bool.{cases_lt}
 use Rattle.std.proofs.lemmas.List.{append-nil, take-append-drop, take-take, length-take}
 use Rattle.std.proofs.Math.Seq.{take-append_seam}
 use Rattle.torus_geom.specs.Marks.{Marks}
-use Rattle.homology_cert.specs.Certificates.{Cell, Certificate, IsCertificate}
-use Rattle.homology_cert.specs.CertificateText.{certificate_lines, text_of_lines, certificate_text, HasFirstLines, IsFirstBadLine}
+use Rattle.homology_cert.specs.CertificateCodes.{Cell, Certificate}
+use Rattle.homology_cert.specs.Inner.CodeCertificates.{IsCertificate}
+use Rattle.homology_cert.specs.Inner.CodeText.{certificate_lines, certificate_text, HasFirstLines, IsFirstBadLine}
+use Rattle.homology_cert.specs.CertificateText.{text_of_lines}
 use Rattle.homology_cert.specs.Inner.Reading.{LeadsTo, LinesLead, lines_at, IsFree, AreFree, IsRead}
 use Rattle.homology_cert.specs.declared.places.Place.{Place}
 use Rattle.homology_cert.specs.declared.places.Place.TheVariants.{Start, End}

@@ -3,8 +3,9 @@ use Rattle.std.proofs.Common.{◌≡◌, ℕ, List, [], ◌∷◌, ◌++◌, cod
 use Rattle.std.specs.List.{flat_map}
 use Rattle.std.proofs.lemmas.List.Concat.{flat_map-append}
 use Rattle.torus_geom.specs.Marks.{size}
-use Rattle.homology_cert.specs.Certificates.{Certificate}
-use Rattle.homology_cert.specs.CertificateText.{text_of_lines, head_lines, cell_lines, certificate_lines, certificate_text}
+use Rattle.homology_cert.specs.CertificateCodes.{Certificate}
+use Rattle.homology_cert.specs.CertificateText.{text_of_lines, head_lines}
+use Rattle.homology_cert.specs.Inner.CodeText.{cell_lines, certificate_lines, certificate_text}
 
 pub text_of_lines-append : (ls ms : List (List ℕ)) → text_of_lines (ls ++ ms) ≡ text_of_lines ls ++ text_of_lines ms
 text_of_lines-append ls ms = flat_map-append (λ line. line ++ 10 ∷ []) ls ms

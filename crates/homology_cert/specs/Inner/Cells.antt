@@ -4,7 +4,7 @@
 --     with_step c z f      the cell with one more step pair
 use Rattle.std.specs.Prelude.{ℤ, [], ◌∷◌, ◌++◌}
 use Rattle.f2_algebra.specs.Chain.{Chain}
-use Rattle.homology_cert.specs.Certificates.{Cell}
+use Rattle.homology_cert.specs.CertificateCodes.{Cell}
 
 abbrev pub new_cell : ℤ × ℤ → Cell
 new_cell d = record { at = d; cycles = []; steps = [] }

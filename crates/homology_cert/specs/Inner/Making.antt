@@ -29,8 +29,9 @@ use Rattle.torus_geom.specs.Counts.{all_below}
 use Rattle.torus_geom.specs.Marks.{Marks, size}
 use Rattle.torus_geom.specs.Degrees.{bidegree}
 use Rattle.torus_geom.specs.Inner.GridComplex.{grid_complex}
-use Rattle.homology_cert.specs.Certificates.{Cell, comes_first}
-use Rattle.homology_cert.specs.CertificateTests.{has_bidegree}
+use Rattle.homology_cert.specs.CertificateCodes.{Cell}
+use Rattle.homology_cert.specs.Inner.CodeCertificates.{comes_first}
+use Rattle.homology_cert.specs.Inner.CodeTests.{has_bidegree}
 use Rattle.homology_cert.specs.Inner.Ranks.{degree_cmp}
 
 abbrev pub degree_is : ℤ → Option ℤ → Bool

@@ -15,8 +15,9 @@ use Rattle.std.specs.declared.option.Option.{Option}
 use Rattle.std.specs.declared.option.Option.TheVariants.{None, Some}
 use Rattle.f2_algebra.specs.Certificate.{CyclePair, StepPair}
 use Rattle.torus_geom.specs.Marks.{Marks}
-use Rattle.homology_cert.specs.Certificates.{Cell, Certificate, entry_count}
-use Rattle.homology_cert.specs.CertificateTests.{cycle_pair_tests, cycle_entries, step_pair_tests, step_entries, count_passes, none_missing}
+use Rattle.homology_cert.specs.CertificateCodes.{Cell, Certificate}
+use Rattle.homology_cert.specs.Inner.CodeCertificates.{entry_count}
+use Rattle.homology_cert.specs.Inner.CodeTests.{cycle_pair_tests, cycle_entries, step_pair_tests, step_entries, count_passes, none_missing}
 use Rattle.homology_cert.specs.declared.verdicts.CertTest.{CertTest}
 use Rattle.homology_cert.specs.declared.verdicts.CertTest.TheVariants.{Count, Missing}
 use Rattle.homology_cert.specs.declared.verdicts.CertVerdict.{CertVerdict}

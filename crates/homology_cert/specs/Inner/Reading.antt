@@ -23,8 +23,11 @@ use Rattle.f2_algebra.specs.Chain.{Chain}
 use Rattle.state_rank.specs.Bijection.{IsSize, IsBijection}
 use Rattle.torus_geom.specs.Marks.{Marks, size, IsGrid}
 use Rattle.homology_cert.specs.CertificateLimits.{max_certified_size}
-use Rattle.homology_cert.specs.Certificates.{Cell, comes_first, AreSmallDegrees, AreStates, HasPairStates}
-use Rattle.homology_cert.specs.CertificateText.{marks_line, degree_line, cell_lines, head_lines, text_of_lines}
+use Rattle.homology_cert.specs.CertificateCodes.{Cell}
+use Rattle.homology_cert.specs.Inner.CodeCertificates.{comes_first, AreStates, HasPairStates}
+use Rattle.homology_cert.specs.Certificates.{AreSmallDegrees}
+use Rattle.homology_cert.specs.CertificateText.{marks_line, degree_line, head_lines, text_of_lines}
+use Rattle.homology_cert.specs.Inner.CodeText.{cell_lines}
 use Rattle.text_lines.specs.Lines.{set_line}
 pub use Rattle.homology_cert.specs.Inner.Cells.{new_cell, with_cycle, with_step}
 use Rattle.homology_cert.specs.declared.places.Place.{Place}

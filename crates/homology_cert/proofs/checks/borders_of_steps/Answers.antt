@@ -5,7 +5,7 @@ use Rattle.f2_algebra.specs.Certificate.{StepPair}
 use Rattle.f2_algebra.specs.Chain.{Chain}
 use Rattle.torus_geom.specs.Inner.CodeBorder.{border}
 use Rattle.rectangles.proofs.Homology.BorderLaws.{border_answer}
-use Rattle.homology_cert.specs.Certificates.{AreStates}
+use Rattle.homology_cert.specs.Inner.CodeCertificates.{AreStates}
 use Rattle.homology_cert.specs.Inner.Checks.{step_borders}
 use Rattle.homology_cert.proofs.checks.borders_of_steps.Goals as goal
 

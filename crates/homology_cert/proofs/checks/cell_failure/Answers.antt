@@ -3,8 +3,8 @@ use Rattle.std.specs.declared.option.Option.{Option}
 use Rattle.homology_cert.specs.declared.verdicts.CertTest.{CertTest}
 use Rattle.homology_cert.specs.declared.verdicts.CertTest.TheVariants.{Count}
 use Rattle.f2_algebra.specs.Certificate.{CyclePair}
-use Rattle.homology_cert.specs.Certificates.{HasCycleStates, HasStepStates}
-use Rattle.homology_cert.specs.CertificateTests.{count_passes}
+use Rattle.homology_cert.specs.Inner.CodeCertificates.{HasCycleStates, HasStepStates}
+use Rattle.homology_cert.specs.Inner.CodeTests.{count_passes}
 use Rattle.homology_cert.specs.Inner.Questions.{cycle_questions, step_questions}
 use Rattle.homology_cert.proofs.Certified.CheckLemmas.{first_failing-cycles, first_failing-steps, cell_fails, cell_goes_on}
 use Rattle.homology_cert.proofs.checks.cell_failure.Goals as goal

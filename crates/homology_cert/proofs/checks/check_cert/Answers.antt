@@ -1,7 +1,14 @@
--- The table of a certificate that passes, over states.
-use Rattle.rectangles.proofs.Homology.HomologyLemmas.{homology_table-states}
-use Rattle.homology_cert.proofs.Certified.CertifiedLemmas.{table_of_certificate}
+-- The verdict of the sets of ranks is that of the states; one that passes tells the table.
+use Rattle.std.proofs.Common.{◌∙◌}
+use Rattle.std.proofs.lemmas.Result.{IfOk-weaker}
+use Rattle.homology_cert.proofs.States.CertificateLemmas.{verdict_of-states}
+use Rattle.homology_cert.proofs.States.StateTexts.{table_of_certificate}
 use Rattle.homology_cert.proofs.checks.check_cert.Goals as goal
 
+pub returns-clause-verdict : goal.returns-clause-verdict
+returns-clause-verdict c =
+    IfOk-weaker c.verdict_on.result _ _ (λ v e. e ∙ verdict_of-states c.args.c.now c.cells.ensures.certificate)
+    c.verdict_on.ensures
+
 pub returns-clause-table : goal.returns-clause-table
-returns-clause-table c d is told = (homology_table-states d.grid _).0 (table_of_certificate d is told)
+returns-clause-table c = table_of_certificate

@@ -1,5 +1,5 @@
 use Rattle.std.proofs.Common.{ℤ, sym, ap, ap₂, subst, ◌∙◌, ◌+◌, take, drop, ◌≡◌, arith}
-use Rattle.homology_cert.specs.Certificates.{HasCycleStates}
+use Rattle.homology_cert.specs.Inner.CodeCertificates.{HasCycleStates}
 use Rattle.homology_cert.specs.Inner.Questions.{first_failing, cycle_pair_questions, cycle_questions}
 use Rattle.homology_cert.proofs.Certified.CheckLemmas.{slices_around, cycle_questions-next, first_failing-here, first_failing-later}
 use Rattle.homology_cert.proofs.checks.cycles_failure.Goals as goal

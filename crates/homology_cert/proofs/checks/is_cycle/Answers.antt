@@ -1,6 +1,6 @@
 -- The border that the call answers is that of the codes.
 use Rattle.std.proofs.Common.{length, ap, ◌==◌, ◌∙◌}
-use Rattle.homology_cert.specs.CertificateTests.{is_empty_chain}
+use Rattle.homology_cert.specs.Inner.CodeTests.{is_empty_chain}
 use Rattle.rectangles.proofs.Homology.BorderLaws.{border_answer}
 use Rattle.homology_cert.proofs.checks.is_cycle.Goals as goal
 

@@ -3,8 +3,8 @@ use Rattle.std.specs.List.{list_any}
 use Rattle.state_rank.specs.States.{factorial}
 use Rattle.torus_geom.specs.Marks.{Marks, size}
 use Rattle.torus_geom.proofs.Sums.AllBelowLemmas.{all_below-false}
-use Rattle.homology_cert.specs.Certificates.{Cell}
-use Rattle.homology_cert.specs.CertificateTests.{has_bidegree}
+use Rattle.homology_cert.specs.CertificateCodes.{Cell}
+use Rattle.homology_cert.specs.Inner.CodeTests.{has_bidegree}
 use Rattle.homology_cert.proofs.checks.none_missing.Goals as goal
 
 pub returns-then-not-has_cell : goal.returns-then-not-has_cell

@@ -2,8 +2,8 @@
 use Rattle.std.proofs.Common.{◌≡◌, true}
 use Rattle.std.specs.List.{list_any}
 use Rattle.torus_geom.specs.Counts.{all_below}
-use Rattle.homology_cert.specs.Certificates.{Cell}
-use Rattle.homology_cert.specs.CertificateTests.{has_bidegree}
+use Rattle.homology_cert.specs.CertificateCodes.{Cell}
+use Rattle.homology_cert.specs.Inner.CodeTests.{has_bidegree}
 use Rattle.homology_cert.proofs.checks.none_missing.Given as goal
 
 abbrev pub invariant-loop-code : goal.invariant-loop-code

@@ -1,5 +1,5 @@
 use Rattle.std.proofs.Common.{◌+◌, arith}
-use Rattle.homology_cert.specs.CertificateTests.{has_bidegree}
+use Rattle.homology_cert.specs.Inner.CodeTests.{has_bidegree}
 use Rattle.homology_cert.proofs.Certified.CheckLemmas.{ascending-count, counted}
 use Rattle.homology_cert.proofs.checks.state_count_at.Goals as goal
 

@@ -2,7 +2,7 @@
 use Rattle.std.proofs.Common.{◌≡◌, length}
 use Rattle.std.specs.List.{filter}
 use Rattle.state_rank.specs.Bijection.{ascending}
-use Rattle.homology_cert.specs.CertificateTests.{has_bidegree}
+use Rattle.homology_cert.specs.Inner.CodeTests.{has_bidegree}
 use Rattle.homology_cert.proofs.checks.state_count_at.Given as goal
 
 abbrev pub invariant-loop-code : goal.invariant-loop-code

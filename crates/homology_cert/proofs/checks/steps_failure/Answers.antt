@@ -2,7 +2,7 @@ use Rattle.std.proofs.Common.{ℤ, sym, ap, subst, ◌∙◌, ◌+◌, drop, ◌
 use Rattle.std.proofs.lemmas.List.{drop-map}
 use Rattle.f2_algebra.specs.Certificate.{StepPair}
 use Rattle.torus_geom.specs.Inner.CodeBorder.{border}
-use Rattle.homology_cert.specs.Certificates.{HasStepStates}
+use Rattle.homology_cert.specs.Inner.CodeCertificates.{HasStepStates}
 use Rattle.homology_cert.specs.Inner.Questions.{first_failing, step_pair_questions, step_questions}
 use Rattle.homology_cert.proofs.Certified.CheckLemmas.{slice_from, step_questions-next, first_failing-here, first_failing-later}
 use Rattle.homology_cert.proofs.checks.steps_failure.Goals as goal

@@ -1,7 +1,8 @@
 use Rattle.std.proofs.Common.{ℕ, ◌+◌, length, drop, get_or, sym, ap, ap₂, subst, ◌∙◌, All, List, arith}
 use Rattle.std.proofs.lemmas.List.{take_all}
 use Rattle.std.proofs.lemmas.List.Sums.{sum_by_more}
-use Rattle.homology_cert.specs.Certificates.{Cell, HasPairStates, entry_count}
+use Rattle.homology_cert.specs.CertificateCodes.{Cell}
+use Rattle.homology_cert.specs.Inner.CodeCertificates.{HasPairStates, entry_count}
 use Rattle.homology_cert.specs.Inner.Questions.{first_failing, cell_questions, all_questions}
 use Rattle.homology_cert.specs.declared.verdicts.CertTest.{CertTest}
 use Rattle.homology_cert.specs.declared.verdicts.CertTest.TheVariants.{Missing}

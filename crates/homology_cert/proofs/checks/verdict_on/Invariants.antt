@@ -1,6 +1,6 @@
 -- the cells so far pass
 use Rattle.std.proofs.Common.{◌≡◌, ◌+◌, take, drop}
-use Rattle.homology_cert.specs.Certificates.{entry_count}
+use Rattle.homology_cert.specs.Inner.CodeCertificates.{entry_count}
 use Rattle.homology_cert.specs.Inner.Questions.{first_failing, all_questions}
 use Rattle.homology_cert.proofs.checks.verdict_on.Given as goal
 

@@ -7,7 +7,7 @@ use Rattle.f2_algebra.specs.Cancel.{IsLog}
 use Rattle.f2_algebra.specs.Slice.{slice_complex}
 use Rattle.cancel.specs.Logs.{log_of}
 use Rattle.torus_geom.specs.Inner.GridComplex.{grid_complex}
-use Rattle.homology_cert.specs.CertificateTests.{has_bidegree}
+use Rattle.homology_cert.specs.Inner.CodeTests.{has_bidegree}
 use Rattle.homology_cert.specs.Inner.Making.{cycle_pair, left_codes, steps_after}
 use Rattle.homology_cert.proofs.Homology.SliceRanks.{reduction_of}
 use Rattle.homology_cert.proofs.Made.MakingLemmas.{made_cell}

@@ -10,7 +10,7 @@ use Rattle.torus_geom.specs.Inner.GridComplex.{grid_complex}
 use Rattle.homology_cert.specs.declared.certificates.StepPair.{StepPair}
 use Rattle.cancel.specs.declared.logs.LogEntry.{LogEntry}
 use Rattle.cancel.specs.Logs.{log_of, entry_of}
-use Rattle.homology_cert.specs.CertificateTests.{has_bidegree}
+use Rattle.homology_cert.specs.Inner.CodeTests.{has_bidegree}
 use Rattle.homology_cert.specs.Inner.Making.{steps_after}
 use Rattle.homology_cert.proofs.Made.MakingLemmas.{steps-pushed, steps-kept, sources-below}
 use Rattle.homology_cert.proofs.making.steps_of.Goals as goal

@@ -1,7 +1,7 @@
 -- The pairs of the entries so far, and those of the entries ahead, are all.
 use Rattle.std.proofs.Common.{◌≡◌, ◌++◌, [], take, drop}
 use Rattle.cancel.specs.Logs.{log_of}
-use Rattle.homology_cert.specs.CertificateTests.{has_bidegree}
+use Rattle.homology_cert.specs.Inner.CodeTests.{has_bidegree}
 use Rattle.homology_cert.specs.Inner.Making.{steps_after}
 use Rattle.homology_cert.proofs.making.steps_of.Given as goal
 

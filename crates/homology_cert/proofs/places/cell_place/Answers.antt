@@ -1,5 +1,5 @@
 use Rattle.std.proofs.Common.{◌≡◌, sym, ap, ◌∙◌, false}
-use Rattle.homology_cert.specs.Certificates.{comes_first}
+use Rattle.homology_cert.specs.Inner.CodeCertificates.{comes_first}
 use Rattle.homology_cert.specs.Inner.Cells.{new_cell}
 use Rattle.homology_cert.proofs.Texts.NextLemmas.{next-in_cell, not_told, not_true}
 use Rattle.homology_cert.proofs.Texts.PlaceLemmas.{not_after}

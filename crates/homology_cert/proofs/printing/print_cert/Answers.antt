@@ -1,8 +1,11 @@
+use Rattle.homology_cert.proofs.States.StateTexts.{certificate_text-states}
 use Rattle.std.proofs.Common.{List, sym, ap, ap₂, subst, ◌∙◌, ◌++◌, All}
 use Rattle.std.specs.List.{flat_map}
 use Rattle.torus_geom.specs.Marks.{Marks, size}
-use Rattle.homology_cert.specs.Certificates.{Cell, HasPairStates}
-use Rattle.homology_cert.specs.CertificateText.{text_of_lines, head_lines, cell_lines}
+use Rattle.homology_cert.specs.CertificateCodes.{Cell}
+use Rattle.homology_cert.specs.Inner.CodeCertificates.{HasPairStates}
+use Rattle.homology_cert.specs.CertificateText.{text_of_lines, head_lines}
+use Rattle.homology_cert.specs.Inner.CodeText.{cell_lines}
 use Rattle.homology_cert.proofs.Texts.TextLemmas.{certificate_pieces}
 use Rattle.homology_cert.proofs.printing.print_cert.Goals as goal
 
@@ -23,5 +26,6 @@ returns c =
       text =
           certificate_pieces cert c.new-text.result.items c.push_head.new.text.items c.push_cells.new.text.items
           c.extend_from_slice.new.self.items c.new-text.ensures.items head cells
-          c.in_ok-extend_from_slice.ensures.items;
+          c.in_ok-extend_from_slice.ensures.items
+          ∙ certificate_text-states cert c.cells.ensures.certificate;
     }

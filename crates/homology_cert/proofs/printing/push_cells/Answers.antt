@@ -1,5 +1,5 @@
 use Rattle.std.proofs.Common.{sym, subst}
-use Rattle.homology_cert.specs.Certificates.{HasPairStates}
+use Rattle.homology_cert.specs.Inner.CodeCertificates.{HasPairStates}
 use Rattle.homology_cert.proofs.printing.push_cells.Goals as goal
 
 pub push_cell-requires : goal.push_cell-requires

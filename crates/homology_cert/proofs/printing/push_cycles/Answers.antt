@@ -1,6 +1,6 @@
 use Rattle.std.proofs.Common.{sym, subst, ◌∙◌}
 use Rattle.f2_algebra.specs.Certificate.{CyclePair}
-use Rattle.homology_cert.specs.Certificates.{AreStates}
+use Rattle.homology_cert.specs.Inner.CodeCertificates.{AreStates}
 use Rattle.homology_cert.proofs.printing.push_cycles.Goals as goal
 
 pub push_set-requires : goal.push_set-requires

@@ -2,7 +2,8 @@
 use Rattle.std.proofs.Common.{◌≡◌, ◌++◌, take}
 use Rattle.std.specs.List.{flat_map}
 use Rattle.torus_geom.specs.Marks.{size}
-use Rattle.homology_cert.specs.CertificateText.{text_of_lines, cycle_lines}
+use Rattle.homology_cert.specs.CertificateText.{text_of_lines}
+use Rattle.homology_cert.specs.Inner.CodeText.{cycle_lines}
 use Rattle.homology_cert.proofs.printing.push_cycles.Given as goal
 
 abbrev pub invariant-loop-pair : goal.invariant-loop-pair

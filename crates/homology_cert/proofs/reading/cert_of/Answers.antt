@@ -1,6 +1,6 @@
 use Rattle.std.proofs.Common.{◌≡◌, arith, ap, sym, subst, ◌∙◌}
-use Rattle.homology_cert.specs.CertificateText.{certificate_text, IsFirstBadLine}
-use Rattle.homology_cert.specs.Certificates.{IsCertificate}
+use Rattle.homology_cert.specs.Inner.CodeText.{certificate_text, IsFirstBadLine}
+use Rattle.homology_cert.specs.Inner.CodeCertificates.{IsCertificate}
 use Rattle.homology_cert.proofs.Texts.NextLemmas.{told_none, told_some}
 use Rattle.homology_cert.proofs.Texts.ReadLemmas.{IsRead-next, IsRead-whole, number_bound, bad_line, bad_end}
 use Rattle.homology_cert.proofs.reading.cert_of.Goals as goal
