@@ -186,14 +186,16 @@ def main():
         return 2
     search = Search()
     search.text(home, text)
-    lines = words = 0
+    counts = {".antt": [0, 0, 0], ".rt": [0, 0, 0]}
     for path, held in sorted(search.reached.items()):
         numbers = {number for one in held.values() for number, _ in one}
-        lines, words = lines + len(numbers), words + len(held)
+        for place, more in enumerate((len(numbers), len(held), 1)):
+            counts[path.suffix][place] += more
         print(f"{path.relative_to(CRATES.parent)}: {len(numbers)} lines ({ranges(numbers)})")
         print("    " + ", ".join(held))
-    print(f"{lines} lines of {words} definitions in {len(search.reached)} files")
-    for one in search.wrong:
+    print("{} lines of {} definitions in {} files of specs/".format(*counts[".antt"]))
+    print("{} lines of {} types in {} files of src/".format(*counts[".rt"]))
+    for one in dict.fromkeys(search.wrong):
         print(f"stands behind the clause: {one}")
     return 1 if search.wrong else 0
 
