@@ -21,28 +21,28 @@ abbrev pub Map : Type 0
 Map = FinMap nat_cmp Node
 
 -- ---- one entry of a map
-pub eq_by_cmp_same : (q k : ℕ) → q ≡ k → eq_by_cmp nat_cmp q k ≡ true
+eq_by_cmp_same : (q k : ℕ) → q ≡ k → eq_by_cmp nat_cmp q k ≡ true
 eq_by_cmp_same q k e = unsigned_tied q k ∙ eq-eqb q k e
 
-pub eq_by_cmp_other : (q k : ℕ) → q ≢ k → eq_by_cmp nat_cmp q k ≡ false
+eq_by_cmp_other : (q k : ℕ) → q ≢ k → eq_by_cmp nat_cmp q k ≡ false
 eq_by_cmp_other q k n = unsigned_tied q k ∙ ne_eqb q k n
 
-pub get-insert_same : (m : Map) (k : ℕ) (x : Node) (q : ℕ) → q ≡ k → get (insert m k x) q ≡ Some x
+get-insert_same : (m : Map) (k : ℕ) (x : Node) (q : ℕ) → q ≡ k → get (insert m k x) q ≡ Some x
 get-insert_same m k x q e =
     get-insert nat_cmp_total m k x q ∙ ap (λ b. cond b (Some x) (get m q)) (eq_by_cmp_same q k e)
 
-pub get-insert_other : (m : Map) (k : ℕ) (x : Node) (q : ℕ) → q ≢ k → get (insert m k x) q ≡ get m q
+get-insert_other : (m : Map) (k : ℕ) (x : Node) (q : ℕ) → q ≢ k → get (insert m k x) q ≡ get m q
 get-insert_other m k x q n =
     get-insert nat_cmp_total m k x q ∙ ap (λ b. cond b (Some x) (get m q)) (eq_by_cmp_other q k n)
 
-pub get-remove_same : (m : Map) (k q : ℕ) → q ≡ k → get (remove m k) q ≡ None
+get-remove_same : (m : Map) (k q : ℕ) → q ≡ k → get (remove m k) q ≡ None
 get-remove_same m k q e = get-remove nat_cmp_total m k q ∙ ap (λ b. cond b None (get m q)) (eq_by_cmp_same q k e)
 
-pub get-remove_other : (m : Map) (k q : ℕ) → q ≢ k → get (remove m k) q ≡ get m q
+get-remove_other : (m : Map) (k q : ℕ) → q ≢ k → get (remove m k) q ≡ get m q
 get-remove_other m k q n = get-remove nat_cmp_total m k q ∙ ap (λ b. cond b None (get m q)) (eq_by_cmp_other q k n)
 
 -- maps with the same entries are equal
-pub same_nodes : (m n : Map) → ((q : ℕ) → get m q ≡ get n q) → m ≡ n
+same_nodes : (m n : Map) → ((q : ℕ) → get m q ≡ get n q) → m ≡ n
 same_nodes m n h = same_map nat_cmp_total nat_cmp-IsAntisymmetric m n h
 
 -- ---- the map, place by place
@@ -50,7 +50,7 @@ same_nodes m n h = same_map nat_cmp_total nat_cmp-IsAntisymmetric m n h
 abbrev pub is_live : List ℕ → ℕ → ℕ → Bool
 is_live gone n q = ltb q n && not (has gone q)
 
-pub is_live_only : (gone : List ℕ) (n q : ℕ) → is_live gone n q ≡ true → (q < n) × (has gone q ≡ false)
+is_live_only : (gone : List ℕ) (n q : ℕ) → is_live gone n q ≡ true → (q < n) × (has gone q ≡ false)
 is_live_only gone n q e = go (ltb q n) (has gone q) refl refl e
   where
     go : (b c : Bool) → ltb q n ≡ b → has gone q ≡ c → (b && not c) ≡ true → (q < n) × (has gone q ≡ false)
@@ -72,12 +72,12 @@ is_live_gone gone n q r = ap (λ c. ltb q n && not c) r ∙ and_false (ltb q n)
     and_false false = refl
 
 -- one step of the map's definition, at another place
-pub get-cond_other : (b : Bool) (m : Map) (k : ℕ) (x : Node) (q : ℕ) → q ≢ k → get (cond b m (insert m k x)) q ≡ get m q
+get-cond_other : (b : Bool) (m : Map) (k : ℕ) (x : Node) (q : ℕ) → q ≢ k → get (cond b m (insert m k x)) q ≡ get m q
 get-cond_other true m k x q n = refl
 get-cond_other false m k x q n = get-insert_other m k x q n
 
 -- a place that is live has the node that lies there, another none
-pub get-live_map : (ns : List Node) (gone : List ℕ) (n q : ℕ)
+get-live_map : (ns : List Node) (gone : List ℕ) (n q : ℕ)
     → get (live_map ns gone n) q ≡ cond (is_live gone n q) (Some (node_at ns q)) None
 get-live_map ns gone zero q =
     get-empty nat_cmp q ∙ sym (ap (λ b. cond b (Some (node_at ns q)) None) (is_live_above gone zero q (omega arith)))
@@ -180,7 +180,7 @@ free_ids-set ns (suc n) h id x r =
 
 -- ---- a list that begins with the old one
 -- it has the old nodes
-pub node_at-longer : (ns ms : List Node) → take (length ns) ms ≡ ns → (k : ℕ) → k < length ns → node_at ms k ≡ node_at ns k
+node_at-longer : (ns ms : List Node) → take (length ns) ms ≡ ns → (k : ℕ) → k < length ns → node_at ms k ≡ node_at ns k
 node_at-longer ns ms e k p = sym (get_or-take (length ns) ms k blank p) ∙ ap (λ xs. node_at xs k) e
 
 -- the same places were given back

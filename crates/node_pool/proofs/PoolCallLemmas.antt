@@ -16,7 +16,7 @@ module _ (ns : List Node) (head fresh limit : ℕ) (x : Node) where
   abbrev pub ms : List Node
   ms = set ns head x
 
-  pub takes_next : (f : ℕ) → IsPool ns head (suc f) fresh limit
+  takes_next : (f : ℕ) → IsPool ns head (suc f) fresh limit
       → IsPool ms next f fresh limit
       × (live_map ms (free_ids ms f next) fresh ≡ insert (live_map ns (free_ids ns (suc f) head) fresh) head x)
       × (get (live_map ns (free_ids ns (suc f) head) fresh) head ≡ None)

@@ -15,7 +15,7 @@ use Rattle.sparse_complex.proofs.PutInLemmas.{from-put, to-put, is_node-linked, 
 use Rattle.sparse_complex.proofs.WriteLemmas.{AreInLists-same}
 use Rattle.sparse_complex.proofs.GraphLemmas.{has_arrow-ends, no_node, node-has_arrow}
 
-pub leave_out-none : (id : ℕ) (is : List ℕ) → among id is ≡ false → leave_out id is ≡ is
+leave_out-none : (id : ℕ) (is : List ℕ) → among id is ≡ false → leave_out id is ≡ is
 leave_out-none id [] h = refl
 leave_out-none id (x ∷ is) h = by (eqb id x) refl h (leave_out-none id is)
   where
@@ -25,13 +25,13 @@ leave_out-none id (x ∷ is) h = by (eqb id x) refl h (leave_out-none id is)
     by false e h r =
         ap (λ b. cond (not b) (x ∷ leave_out id is) (leave_out id is)) (eqb_comm x id ∙ e) ∙ ap (λ js. x ∷ js) (r h)
 
-pub and_not : (a b : Bool) → (b ≡ true → a ≡ true) → (a && not b) ≡ (a ⊻ b)
+and_not : (a b : Bool) → (b ≡ true → a ≡ true) → (a && not b) ≡ (a ⊻ b)
 and_not true true h = refl
 and_not true false h = refl
 and_not false true h = h refl
 and_not false false h = refl
 
-pub or_new : (a b : Bool) → (b ≡ true → a ≡ false) → (a || b) ≡ (a ⊻ b)
+or_new : (a b : Bool) → (b ≡ true → a ≡ false) → (a || b) ≡ (a ⊻ b)
 or_new true true h = h refl
 or_new true false h = refl
 or_new false true h = refl
@@ -61,22 +61,22 @@ module _ (old new : Links) (t : AreListed old) (id : ℕ) (here : is_node old.po
   pub width-unlinked : width new ≡ width old
   width-unlinked = ap length u.heads ∙ length-unlinked old.pool.nodes old.heads.items t id here
 
-  pub gone-node : (i : ℕ) → is_node new.pool.nodes i ≡ (is_node old.pool.nodes i && not (eqb i id))
+  gone-node : (i : ℕ) → is_node new.pool.nodes i ≡ (is_node old.pool.nodes i && not (eqb i id))
   gone-node i = ap (λ ns. is_node ns i) u.nodes ∙ is_node-unlinked old.pool.nodes old.heads.items t id here i
 
-  pub gone-was : (i : ℕ) → is_node new.pool.nodes i ≡ true → is_node old.pool.nodes i ≡ true
+  gone-was : (i : ℕ) → is_node new.pool.nodes i ≡ true → is_node old.pool.nodes i ≡ true
   gone-was i n = (and_parts (is_node old.pool.nodes i) (not (eqb i id)) (sym (gone-node i) ∙ n)).0
 
-  pub gone-distinct : (i : ℕ) → is_node new.pool.nodes i ≡ true → eqb i id ≡ false
+  gone-distinct : (i : ℕ) → is_node new.pool.nodes i ≡ true → eqb i id ≡ false
   gone-distinct i n =
       not-true (eqb i id) (and_parts (is_node old.pool.nodes i) (not (eqb i id)) (sym (gone-node i) ∙ n)).1
 
-  pub gone-from : (i : ℕ) → is_node new.pool.nodes i ≡ true
+  gone-from : (i : ℕ) → is_node new.pool.nodes i ≡ true
       → (node_at new.pool.nodes i).from ≡ (node_at old.pool.nodes i).from
   gone-from i n = ap (λ ns. (node_at ns i).from) u.nodes
       ∙ from-unlinked old.pool.nodes old.heads.items t id here i (ap (λ ns. is_node ns i) (sym u.nodes) ∙ n)
 
-  pub gone-to : (i : ℕ) → is_node new.pool.nodes i ≡ true → (node_at new.pool.nodes i).to ≡ (node_at old.pool.nodes i).to
+  gone-to : (i : ℕ) → is_node new.pool.nodes i ≡ true → (node_at new.pool.nodes i).to ≡ (node_at old.pool.nodes i).to
   gone-to i n = ap (λ ns. (node_at ns i).to) u.nodes
       ∙ to-unlinked old.pool.nodes old.heads.items t id here i (ap (λ ns. is_node ns i) (sym u.nodes) ∙ n)
 
@@ -170,37 +170,37 @@ module _ (old new : Links) (t : AreListed old) (p q : ℕ) (p_in : p < width old
       → (node_at old.pool.nodes i).to ≡ q → ⊥
   none = no_node old t p q absent
 
-  pub put-listed : AreListed new
+  put-listed : AreListed new
   put-listed =
       AreInLists-same _ _ _ _ u.nodes u.heads
       (AreInLists-linked old.pool.nodes old.heads.items t u.id u.fresh u.is_id p q p_in q_in none)
 
-  pub put-node : (i : ℕ) → is_node new.pool.nodes i ≡ (eqb i u.id || is_node old.pool.nodes i)
+  put-node : (i : ℕ) → is_node new.pool.nodes i ≡ (eqb i u.id || is_node old.pool.nodes i)
   put-node i = ap (λ ns. is_node ns i) u.nodes
       ∙ is_node-linked old.pool.nodes old.heads.items t u.id u.fresh u.is_id p q p_in q_in none i
 
-  pub put-from : (i : ℕ) → eqb i no_id ≡ false
+  put-from : (i : ℕ) → eqb i no_id ≡ false
       → (node_at new.pool.nodes i).from ≡ cond (eqb i u.id) p (node_at old.pool.nodes i).from
   put-from i ne = ap (λ ns. (node_at ns i).from) u.nodes
       ∙ from-put old.pool.nodes old.heads.items t u.id u.fresh u.is_id p q p_in q_in none i ne
 
-  pub put-to : (i : ℕ) → eqb i no_id ≡ false
+  put-to : (i : ℕ) → eqb i no_id ≡ false
       → (node_at new.pool.nodes i).to ≡ cond (eqb i u.id) q (node_at old.pool.nodes i).to
   put-to i ne = ap (λ ns. (node_at ns i).to) u.nodes
       ∙ to-put old.pool.nodes old.heads.items t u.id u.fresh u.is_id p q p_in q_in none i ne
 
-  pub put-old : (i : ℕ) → is_node old.pool.nodes i ≡ true → eqb i u.id ≡ false
+  put-old : (i : ℕ) → is_node old.pool.nodes i ≡ true → eqb i u.id ≡ false
   put-old i n = ne_eqb i u.id (λ e. true≢false (sym n ∙ ap (is_node old.pool.nodes) e ∙ u.fresh))
 
-  pub put-outs : (k : ℕ) → outs_of new k ≡ cond (eqb k p) (u.id ∷ outs_of old k) (outs_of old k)
+  put-outs : (k : ℕ) → outs_of new k ≡ cond (eqb k p) (u.id ∷ outs_of old k) (outs_of old k)
   put-outs k = (λ j. outs (u.nodes j) (u.heads j) k)
       ∙ outs-linked old.pool.nodes old.heads.items t u.id u.fresh u.is_id p q p_in q_in none k
 
-  pub put-ins : (k : ℕ) → ins_of new k ≡ cond (eqb k q) (u.id ∷ ins_of old k) (ins_of old k)
+  put-ins : (k : ℕ) → ins_of new k ≡ cond (eqb k q) (u.id ∷ ins_of old k) (ins_of old k)
   put-ins k = (λ j. ins (u.nodes j) (u.heads j) k)
       ∙ ins-linked old.pool.nodes old.heads.items t u.id u.fresh u.is_id p q p_in q_in none k
 
-  pub old-ends : (i : ℕ) → is_node old.pool.nodes i ≡ true
+  old-ends : (i : ℕ) → is_node old.pool.nodes i ≡ true
       → ((node_at new.pool.nodes i).from ≡ (node_at old.pool.nodes i).from)
       × ((node_at new.pool.nodes i).to ≡ (node_at old.pool.nodes i).to)
   old-ends i n = (
@@ -299,18 +299,18 @@ found-has_arrow l t p q (Some i) f n = sym (has_arrow-ends l t i p q f.0 f.1 f.2
 -- ---- no arrows
 module _ (nodes : Nodes) (heads : List Head) (empty : nodes ≡ fin.empty)
     (none : (k : ℕ) → head_at heads k ≡ no_head) where
-  pub no-node : (i : ℕ) → is_node nodes i ≡ false
+  no-node : (i : ℕ) → is_node nodes i ≡ false
   unfolding is_node
   no-node i = ap (λ ns. is_some (fin.get ns i)) empty ∙ ap is_some (fin.get-empty nat_cmp i)
 
-  pub no-len : fin.len nodes ≡ 0
+  no-len : fin.len nodes ≡ 0
   no-len = ap fin.len empty ∙ fin.len-empty nat_cmp Node
 
-  pub outs-none : (k : ℕ) → outs nodes heads k ≡ []
+  outs-none : (k : ℕ) → outs nodes heads k ≡ []
   unfolding outs_from
   outs-none k = ap (λ n. ids_from (λ i. (node_at nodes i).next_out) n (head_at heads k).first_out) no-len
 
-  pub ins-none : (k : ℕ) → ins nodes heads k ≡ []
+  ins-none : (k : ℕ) → ins nodes heads k ≡ []
   unfolding ins_from
   ins-none k = ap (λ n. ids_from (λ i. (node_at nodes i).next_in) n (head_at heads k).first_in) no-len
 

@@ -41,7 +41,7 @@ pub record ArrowsPlace (D : Complex ℤ) (cells : List Cell) (key : ℕ) (done :
       ≡ (((ltb p key && ltb q (length cells)) && arrow D (code_at cells p) (code_at cells q))
       || (eqb p key && (ltb q (length cells) && among (code_at cells q) done)))
 
-pub links-none : (D : Complex ℤ) (cells : List Cell) (l : Links) → AreListed l → width l ≡ length cells
+links-none : (D : Complex ℤ) (cells : List Cell) (l : Links) → AreListed l → width l ≡ length cells
     → ((s t : ℕ) → has_arrow l s t ≡ false) → AreLinksBelow D cells 0 l
 links-none D cells l t w none = record {
   listed = t;
@@ -91,7 +91,7 @@ module _ (D : Complex ℤ) (cells : List Cell) (keys : List ℕ) (k : AreKeys ke
       || (eqb key key && (ltb (key_of keys c) (length cells) && (ap (λ d. among d done) (k.live c live).1 ∙ fresh) i)))
       ∙ same 2 (λ e l. e && (l && false)) (λ e l. false) refl (eqb key key) (ltb (key_of keys c) (length cells))
 
-  pub key-is : (t : ℕ) → eqb t (key_of keys c) ≡ (ltb t (length cells) && eqb (code_at cells t) c)
+  key-is : (t : ℕ) → eqb t (key_of keys c) ≡ (ltb t (length cells) && eqb (code_at cells t) c)
   key-is t = same_test _ _
       (λ h. let e = eqb-true t (key_of keys c) h in and_from (ltb t (length cells)) (eqb (code_at cells t) c)
       (lt-ltb t (length cells) (subst (λ j. j < length cells) (sym e) (k.live c live).0))
@@ -155,19 +155,19 @@ arrows-end D cells key done now a all = record {
         ∙ ap (λ b. ((ltb p key || b) && ltb q (length cells)) && arrow D (code_at cells p) (code_at cells q)) (sym e)
 
 -- ---- the codes that were read
-pub distinct-too : (xs : List ℕ) → IsApart xs → AreDistinct xs
+distinct-too : (xs : List ℕ) → IsApart xs → AreDistinct xs
 distinct-too [] a = tt
 distinct-too (x ∷ xs) a = (a.0, distinct-too xs a.1)
 
 -- an element is among all
-pub in-all : (ys : List (List ℕ)) (i : ℕ) (d : List ℕ) → i < length ys
+in-all : (ys : List (List ℕ)) (i : ℕ) (d : List ℕ) → i < length ys
     → among (rank (get_or ys i d)) (map rank ys) ≡ true
 in-all [] i d l = absurd (omega arith)
 in-all (y ∷ ys) zero d l = in_head (rank y) (map rank ys)
 in-all (y ∷ ys) (suc i) d l = in_tail (rank (get_or ys i d)) (rank y) (map rank ys) (in-all ys i d (omega arith))
 
 -- an element is not among those before it
-pub not-before : (ys : List (List ℕ)) (i : ℕ) (d : List ℕ) → i < length ys → AreDistinct (map rank ys)
+not-before : (ys : List (List ℕ)) (i : ℕ) (d : List ℕ) → i < length ys → AreDistinct (map rank ys)
     → among (rank (get_or ys i d)) (map rank (take i ys)) ≡ false
 not-before [] i d l a = absurd (omega arith)
 not-before (y ∷ ys) zero d l a = refl
@@ -200,7 +200,7 @@ module _ (g : Marks) (a : ℤ) (grid : IsGrid g) (cells : List Cell)
       (code-below (at_alexander a (grid_complex g)) (factorial (size g)) cells s key l)
       (ap is_some (degree-at (at_alexander a (grid_complex g)) (factorial (size g)) cells s key l))))
 
-  pub distinct-items : AreDistinct (map rank items)
+  distinct-items : AreDistinct (map rank items)
   distinct-items =
       subst AreDistinct (sym border) (distinct-too (codes (border_of_state g x)) (IsApart-codes (border_of_state g x)))
 

@@ -20,18 +20,18 @@ use Rattle.sparse_complex.specs.declared.slices.Cell.{Cell}
 use Rattle.sparse_complex.specs.Inner.Visits.{IsBranch, AreFirstCells}
 use Rattle.sparse_complex.proofs.VisitLemmas.{branch-within, length-left, rows_used-alike, sum_before-alike}
 
-pub min_below : (k n : ℕ) → 0 < n → min k (n - 1) < n
+min_below : (k n : ℕ) → 0 < n → min k (n - 1) < n
 min_below k n some = grind arith
 
-pub min_low : (k n : ℕ) → k ≤ n → min k n ≡ k
+min_low : (k n : ℕ) → k ≤ n → min k n ≡ k
 min_low k n l = grind arith
 
 pub products : (f m c : ℕ) → f ≤ m → f * c ≤ m * c
 products f m c l = grind arith
 
-pub added : (first front count base front_next : ℕ) → base ≡ first + front * count → front_next ≡ front + 1
+pub base_added : (first front count base front_next : ℕ) → base ≡ first + front * count → front_next ≡ front + 1
     → base + count ≡ first + front_next * count
-added first front count base front_next e f =
+base_added first front count base front_next e f =
     let product : front_next * count ≡ front * count + count = ap (λ k. k * count) f ∙ omega arith in
     omega arith
 
@@ -45,7 +45,7 @@ pub record IsGoneThrough (g : Marks) (a : ℤ) (b : Branch) (count next base : �
   pub passed : length front + (b.column + 1) ≡ next
   pub first_is : (r : ℕ) (later : List ℕ) → back ≡ r ∷ later → first ≡ take b.column b.first ++ r ∷ (front ++ later)
   pub state : IsBijection (size g) first
-  pub base_is : base ≡ b.base + length front * count
+  base_is : base ≡ b.base + length front * count
   pub cells_below : AreFirstCells (at_alexander a (grid_complex g)) base cells
 
 -- the branch of the next part
@@ -55,7 +55,7 @@ part_of b first used count base left =
 
 module _ (g : Marks) (grid : IsGrid g) (a : ℤ) (b : Branch) (s : IsBranch g a b) (some : b.column < size g) (count : ℕ)
     (count_is : count ≡ factorial (size g - b.column - 1)) where
-  pub rows_left : length (drop b.column b.first) ≡ size g - b.column
+  rows_left : length (drop b.column b.first) ≡ size g - b.column
   rows_left = length-left g grid a b s
 
   -- before the first part
@@ -202,7 +202,7 @@ module _ (g : Marks) (grid : IsGrid g) (a : ℤ) (b : Branch) (s : IsBranch g a 
               subst (IsBijection (size g)) (sym new_is)
               (IsBijection-swap (size g) first b.column (min next (size g - 1)) some (min_below next (size g) (omega arith))
               t.state);
-          base_is = added b.base (length t.front) count base (length (t.front ++ one_more.0 ∷ [])) is front_long;
+          base_is = base_added b.base (length t.front) count base (length (t.front ++ one_more.0 ∷ [])) is front_long;
           cells_below = below;
         }
       where
@@ -223,7 +223,7 @@ module _ (g : Marks) (grid : IsGrid g) (a : ℤ) (b : Branch) (s : IsBranch g a 
             first_with = first_is ∙ ap (λ xs. take b.column b.first ++ one_more.0 ∷ (t.front ++ xs)) e
 
   -- the parts together are the branch
-  pub parts_whole : (size g - b.column) * count ≡ b.count
+  parts_whole : (size g - b.column) * count ≡ b.count
   unfolding factorial
   parts_whole = product (size g - b.column) refl
     where
@@ -242,7 +242,7 @@ module _ (g : Marks) (grid : IsGrid g) (a : ℤ) (b : Branch) (s : IsBranch g a 
   part_within next base first cells t more =
       let all = branch-within g grid a b s in
       let passed = t.passed in
-      let is = added b.base (length t.front) count base (length t.front + 1) t.base_is refl in
+      let is = base_added b.base (length t.front) count base (length t.front + 1) t.base_is refl in
       let most = products (length t.front + 1) (size g - b.column) count (omega arith) in
       let whole = parts_whole in
       omega arith

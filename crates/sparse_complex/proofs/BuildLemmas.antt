@@ -54,14 +54,14 @@ pub count-cons : (c : ℕ) (x : Cell) (cells : List Cell)
     → count_of c (x ∷ cells) ≡ cond (eqb x.code c) 1 0 + count_of c cells
 count-cons c x cells = sum_by-cons (λ y. cond (eqb y.code c) 1 0) x cells
 
-pub count-head : (c : ℕ) (x : Cell) (cells : List Cell) → eqb x.code c ≡ true
+count-head : (c : ℕ) (x : Cell) (cells : List Cell) → eqb x.code c ≡ true
     → count_of c (x ∷ cells) ≡ suc (count_of c cells)
 count-head c x cells e = count-cons c x cells ∙ ap (λ b. cond b 1 0 + count_of c cells) e ∙ omega arith
 
 pub count-other : (c : ℕ) (x : Cell) (cells : List Cell) → eqb x.code c ≡ false → count_of c (x ∷ cells) ≡ count_of c cells
 count-other c x cells e = count-cons c x cells ∙ ap (λ b. cond b 1 0 + count_of c cells) e ∙ omega arith
 
-pub count-more : (c : ℕ) (x : Cell) (cells : List Cell) → count_of c cells ≤ count_of c (x ∷ cells)
+count-more : (c : ℕ) (x : Cell) (cells : List Cell) → count_of c cells ≤ count_of c (x ∷ cells)
 count-more c x cells = by (eqb x.code c) refl
   where
     by : (b : Bool) → eqb x.code c ≡ b → count_of c cells ≤ count_of c (x ∷ cells)
@@ -69,7 +69,7 @@ count-more c x cells = by (eqb x.code c) refl
     by false e = let h : count_of c (x ∷ cells) ≡ count_of c cells = count-other c x cells e in omega arith
 
 -- the cell at a place is counted
-pub count-at : (cells : List Cell) (k : ℕ) (c : ℕ) → k < length cells → code_at cells k ≡ c → 1 ≤ count_of c cells
+count-at : (cells : List Cell) (k : ℕ) (c : ℕ) → k < length cells → code_at cells k ≡ c → 1 ≤ count_of c cells
 unfolding code_at
 count-at [] k c l e = absurd (omega arith)
 count-at (x ∷ cells) zero c l e =
@@ -77,7 +77,7 @@ count-at (x ∷ cells) zero c l e =
 count-at (x ∷ cells) (suc k) c l e = le_trans (count-at cells k c (omega arith) e) (count-more c x cells)
 
 -- and where two places have one code it is counted twice
-pub count-two : (cells : List Cell) (j k c : ℕ) → j < k → k < length cells → code_at cells j ≡ c → code_at cells k ≡ c
+count-two : (cells : List Cell) (j k c : ℕ) → j < k → k < length cells → code_at cells j ≡ c → code_at cells k ≡ c
     → 2 ≤ count_of c cells
 unfolding code_at
 count-two [] j k c m l d e = absurd (omega arith)
@@ -90,7 +90,7 @@ count-two (x ∷ cells) (suc j) (suc k) c m l d e =
     le_trans (count-two cells j k c (omega arith) (omega arith) d e) (count-more c x cells)
 
 -- a code that is counted has a place
-pub place-of : (cells : List Cell) (c : ℕ) → 1 ≤ count_of c cells → (k : ℕ) × (k < length cells) × (code_at cells k ≡ c)
+place-of : (cells : List Cell) (c : ℕ) → 1 ≤ count_of c cells → (k : ℕ) × (k < length cells) × (code_at cells k ≡ c)
 unfolding code_at
 place-of [] c h = absurd (omega arith)
 place-of (x ∷ cells) c h = by (eqb x.code c) refl (place-of cells c)
@@ -103,16 +103,16 @@ place-of (x ∷ cells) c h = by (eqb x.code c) refl (place-of cells c)
         let (k, l, is) = r (omega arith) in
         (suc k, omega arith, is)
 
-pub code_at-read : (cells : List Cell) (k : ℕ) → code_at cells k ≡ (get_or cells k no_cell).code
+code_at-read : (cells : List Cell) (k : ℕ) → code_at cells k ≡ (get_or cells k no_cell).code
 unfolding code_at
 code_at-read cells k = refl
 
-pub maslov_at-read : (cells : List Cell) (k : ℕ) → maslov_at cells k ≡ (get_or cells k no_cell).maslov
+maslov_at-read : (cells : List Cell) (k : ℕ) → maslov_at cells k ≡ (get_or cells k no_cell).maslov
 unfolding maslov_at
 maslov_at-read cells k = refl
 
 module _ (D : Complex ℤ) (n : ℕ) (cells : List Cell) (s : AreCells D n cells) where
-  pub one_or_none : (b : Bool) → cond b 1 0 ≤ 1
+  one_or_none : (b : Bool) → cond b 1 0 ≤ 1
   one_or_none true = omega arith
   one_or_none false = omega arith
 
@@ -235,6 +235,6 @@ AreCells-none D = record {
     none : (c : ℕ) → ltb c 0 ≡ false
     none c = grind arith
 
-pub AreCells-same : (D : Complex ℤ) (n : ℕ) (cells cells_too : List Cell) → cells_too ≡ cells → AreCells D n cells
+AreCells-same : (D : Complex ℤ) (n : ℕ) (cells cells_too : List Cell) → cells_too ≡ cells → AreCells D n cells
     → AreCells D n cells_too
 AreCells-same D n cells cells_too e s = subst (AreCells D n) (sym e) s

@@ -22,7 +22,7 @@ use Rattle.sparse_complex.proofs.QueryLemmas.{distinct-source_codes, distinct-ta
 
 -- ---- an entry of a slice
 -- a code that has an arrow is a key of the map
-pub key_of_arrow : (s : Slice) (p t : ℕ) → arrow (slice_complex s) p t ≡ true → fin.contains_key s p ≡ true
+key_of_arrow : (s : Slice) (p t : ℕ) → arrow (slice_complex s) p t ≡ true → fin.contains_key s p ≡ true
 key_of_arrow s p t h = by (fin.get s p) refl h
   where
     by : (o : Option (ℤ × Chain)) → fin.get s p ≡ o → holds (targets_in o) t ≡ true → is_some o ≡ true
@@ -30,7 +30,7 @@ key_of_arrow s p t h = by (fin.get s p) refl h
     by (Some v) e h = refl
 
 -- the other sources of y
-pub holds-other_sources : (s : Slice) (x y p : ℕ)
+holds-other_sources : (s : Slice) (x y p : ℕ)
     → holds (other_sources s x y) p ≡ (arrow (slice_complex s) p y && not (eqb p x))
 unfolding other_sources holds codes
 holds-other_sources s x y p =
@@ -44,7 +44,7 @@ holds-other_sources s x y p =
     by false h = same 1 (λ k. k && false) (λ k. false) refl (any p (fin.keys s))
 
 -- the other targets of x
-pub holds-other_targets : (s : Slice) (x y t : ℕ)
+holds-other_targets : (s : Slice) (x y t : ℕ)
     → holds (other_targets s x y) t ≡ (arrow (slice_complex s) x t && not (eqb t y))
 unfolding other_targets
 holds-other_targets s x y t = holds-where_code (λ q. not (eqb q y)) ((slice_complex s).targets x) t
@@ -56,12 +56,12 @@ IsEntry-of_arrow s x y h =
     record { arrows = h; other_sources = holds-other_sources s x y; other_targets = holds-other_targets s x y }
 
 -- ---- the number of toggles
-pub distinct-same : (xs : List ℕ) → AreDistinct xs → IsApart xs
+distinct-same : (xs : List ℕ) → AreDistinct xs → IsApart xs
 distinct-same [] a = tt
 distinct-same (x ∷ xs) a = (a.0, distinct-same xs a.1)
 
 -- a chain with the elements of a list that are apart has as many codes
-pub count-codes : (z : Chain) (xs : List ℕ) → AreDistinct xs → ((c : ℕ) → holds z c ≡ among c xs)
+count-codes : (z : Chain) (xs : List ℕ) → AreDistinct xs → ((c : ℕ) → holds z c ≡ among c xs)
     → length (codes z) ≡ length xs
 count-codes z xs a h = sym (cardinality-length z)
     ∙ ap cardinality (same_chain z (of_codes xs) (λ c. h c ∙ sym (holds-of_codes xs c)))
@@ -71,7 +71,7 @@ pub among-others : (t y : ℕ) (ks : List ℕ) → among t (others y ks) ≡ (am
 among-others t y ks = any-filter t (λ j. not (eqb j y)) ks
 
 -- as many codes other than c as keys other than k
-pub length-others : (cells : List Cell) (c k : ℕ) (ks : List ℕ)
+length-others : (cells : List Cell) (c k : ℕ) (ks : List ℕ)
     → ((j : ℕ) → among j ks ≡ true → eqb (code_at cells j) c ≡ eqb j k)
     → length (others c (map (code_at cells) ks)) ≡ length (others k ks)
 length-others cells c k [] h = refl
@@ -126,14 +126,14 @@ module _ (keys : List ℕ) (cells : List Cell) (links : Links) (s : IsStoredByKe
       (λ j i. code-test y j m (s.ends p j (sym (has_arrow-targets links s.listed p j) ∙ i)).1))
 
   -- with no source, or no target, there is nothing to toggle
-  pub no_fill-from : (x y : ℕ) → key_of keys x ≡ no_key → fill (slice_of keys cells links) x y ≡ 0
+  no_fill-from : (x y : ℕ) → key_of keys x ≡ no_key → fill (slice_of keys cells links) x y ≡ 0
   no_fill-from x y e = ap (λ n. length (codes (other_sources (slice_of keys cells links) x y)) * n)
       (count-codes (other_targets (slice_of keys cells links) x y) [] tt
       (λ c. holds-other_targets (slice_of keys cells links) x y c
       ∙ ap (λ b. b && not (eqb c y)) (no_arrow-from keys cells links s x c e)))
       ∙ omega arith
 
-  pub no_fill-to : (x y : ℕ) → key_of keys y ≡ no_key → fill (slice_of keys cells links) x y ≡ 0
+  no_fill-to : (x y : ℕ) → key_of keys y ≡ no_key → fill (slice_of keys cells links) x y ≡ 0
   no_fill-to x y e = ap (λ n. n * length (codes (other_targets (slice_of keys cells links) x y)))
       (count-codes (other_sources (slice_of keys cells links) x y) [] tt
       (λ c. holds-other_sources (slice_of keys cells links) x y c

@@ -19,20 +19,20 @@ use Rattle.sparse_complex.proofs.CancelLemmas.{IsEntry-of_arrow, code-test, fill
 use Rattle.sparse_complex.proofs.TakenKeyLemmas.{IsCut, key_of-set, live-below, not-true, or_none, xor_cases}
 
 -- the keys without those of two codes
-abbrev pub keys_without : List ℕ → ℕ → ℕ → List ℕ
+abbrev keys_without : List ℕ → ℕ → ℕ → List ℕ
 keys_without keys x y = set (set keys x no_key) y no_key
 
 module _ (keys : List ℕ) (cells : List Cell) (links : Links) (s : IsStoredByKey keys cells links) (x y : ℕ)
     (l : is_live keys x ≡ true) (m : is_live keys y ≡ true)
     (new : Links) (cut : IsCut (key_of keys x) (key_of keys y) links new) where
-  pub key-without : (c : ℕ)
+  key-without : (c : ℕ)
       → key_of (keys_without keys x y) c ≡ cond (eqb c y) no_key (cond (eqb c x) no_key (key_of keys c))
   key-without c =
       key_of-set (set keys x no_key) y no_key c
       (subst (λ n. y < n) (sym (length-set keys x no_key)) (live-below keys y m))
       ∙ ap (λ k. cond (eqb c y) no_key k) (key_of-set keys x no_key c (live-below keys x l))
 
-  pub live-without : (c : ℕ) → is_live (keys_without keys x y) c ≡ (is_live keys c && not (is_one_of x y c))
+  live-without : (c : ℕ) → is_live (keys_without keys x y) c ≡ (is_live keys c && not (is_one_of x y c))
   live-without c = ap (λ k. not (eqb k no_key)) (key-without c) ∙ by (eqb c x) (eqb c y) (is_live keys c) refl
     where
       by : (a b d : Bool) → is_live keys c ≡ d
@@ -58,7 +58,7 @@ module _ (keys : List ℕ) (cells : List Cell) (links : Links) (s : IsStoredByKe
           all true = refl
           all false = refl
 
-  pub key-stays : (c : ℕ) → is_one_of x y c ≡ false → key_of (keys_without keys x y) c ≡ key_of keys c
+  key-stays : (c : ℕ) → is_one_of x y c ≡ false → key_of (keys_without keys x y) c ≡ key_of keys c
   key-stays c e = key-without c ∙ by (eqb c x) (eqb c y) e
     where
       by : (a b : Bool) → (a || b) ≡ false → cond b no_key (cond a no_key (key_of keys c)) ≡ key_of keys c
@@ -67,7 +67,7 @@ module _ (keys : List ℕ) (cells : List Cell) (links : Links) (s : IsStoredByKe
       by false false e = refl
 
   -- the arrows that are left have ends that stay
-  pub cut-parts : (a b : ℕ) → has_arrow new a b ≡ true
+  cut-parts : (a b : ℕ) → has_arrow new a b ≡ true
       → ((has_arrow links a b ≡ true)
       ⊎ ((has_arrow links a (key_of keys y) ≡ true) × (has_arrow links (key_of keys x) b ≡ true)))
       × ((eqb a (key_of keys x) ≡ false) × (eqb a (key_of keys y) ≡ false))
@@ -100,13 +100,13 @@ module _ (keys : List ℕ) (cells : List Cell) (links : Links) (s : IsStoredByKe
           )
 
   -- a live key that is none of the two is still live
-  pub still-live : (k : ℕ) → IsLiveKey keys cells k → (eqb k (key_of keys x) ≡ false) × (eqb k (key_of keys y) ≡ false)
+  still-live : (k : ℕ) → IsLiveKey keys cells k → (eqb k (key_of keys x) ≡ false) × (eqb k (key_of keys y) ≡ false)
       → IsLiveKey (keys_without keys x y) cells k
   still-live k e n =
       key-stays (code_at cells k) (ap₂ (λ a b. a || b) (code-test keys cells links s x k l e ∙ n.0)
       (code-test keys cells links s y k m e ∙ n.1)) ∙ e
 
-  pub stored-left : IsStoredByKey (keys_without keys x y) cells new
+  stored-left : IsStoredByKey (keys_without keys x y) cells new
   stored-left = record {
     listed = cut.listed;
     small = subst (λ w. w ≤ most_keys) (sym cut.width) s.small;
@@ -127,7 +127,7 @@ module _ (keys : List ℕ) (cells : List Cell) (links : Links) (s : IsStoredByKe
         ];
   }
 
-  pub degree-left : (c : ℕ)
+  degree-left : (c : ℕ)
       → (slice_complex (slice_of (keys_without keys x y) cells new)).degree c
       ≡ (cancelled (slice_complex (slice_of keys cells links)) x y).degree c
   degree-left c =
@@ -154,11 +154,11 @@ module _ (keys : List ℕ) (cells : List Cell) (links : Links) (s : IsStoredByKe
           ap₂ (λ u v. cond (u && not v) (Some (maslov_at cells (key_of (keys_without keys x y) c))) None) f e
           ∙ sym (ap₂ (λ u v. cond v None (cond u (Some (maslov_at cells (key_of keys c))) None)) f e)
 
-  abbrev pub old_arrow : ℕ → ℕ → Bool
+  abbrev old_arrow : ℕ → ℕ → Bool
   old_arrow c d = arrow (slice_complex (slice_of keys cells links)) c d
 
   -- of codes that were live
-  pub both-live : (c d : ℕ) → is_live keys c ≡ true → is_live keys d ≡ true
+  both-live : (c d : ℕ) → is_live keys c ≡ true → is_live keys d ≡ true
       → has_arrow new (key_of keys c) (key_of keys d)
       ≡ (not (is_one_of x y c) && ((old_arrow c d ⊻ (old_arrow c y && old_arrow x d)) && not (is_one_of x y d)))
   both-live c d u v =
@@ -180,7 +180,7 @@ module _ (keys : List ℕ) (cells : List Cell) (links : Links) (s : IsStoredByKe
           (and_from (is_live keys c) (is_live keys d) u v))
 
   -- a code that was not live has no arrow before or after
-  pub not-live : (c d : ℕ) → (is_live keys c && is_live keys d) ≡ false
+  not-live : (c d : ℕ) → (is_live keys c && is_live keys d) ≡ false
       → (old_arrow c d ⊻ (old_arrow c y && old_arrow x d)) ≡ false
   not-live c d e =
       (λ i. arrow-stored keys cells links s c d i
@@ -203,7 +203,7 @@ module _ (keys : List ℕ) (cells : List Cell) (links : Links) (s : IsStoredByKe
           none false = refl
       by false d x y h a b e = refl
 
-  pub arrow-left : (c d : ℕ)
+  arrow-left : (c d : ℕ)
       → arrow (slice_complex (slice_of (keys_without keys x y) cells new)) c d
       ≡ (not (is_one_of x y c) && ((old_arrow c d ⊻ (old_arrow c y && old_arrow x d)) && not (is_one_of x y d)))
   arrow-left c d = arrow-stored (keys_without keys x y) cells new stored-left c d
@@ -256,13 +256,13 @@ module _ (keys : List ℕ) (cells : List Cell) (links : Links) (s : IsStoredByKe
 
   module _ (rules : IsComplex (slice_complex (slice_of keys cells links)))
       (is : arrow (slice_complex (slice_of keys cells links)) x y ≡ true) where
-    pub rules-left : IsComplex (cancelled (slice_complex (slice_of keys cells links)) x y)
+    rules-left : IsComplex (cancelled (slice_complex (slice_of keys cells links)) x y)
     rules-left =
         cancelled_IsComplex (slice_complex (slice_of keys cells links)) rules _
         (IsEntry-of_arrow (slice_of keys cells links) x y is)
 
     -- what is left is the cancelled slice
-    pub left-is : slice_complex (slice_of (keys_without keys x y) cells new)
+    left-is : slice_complex (slice_of (keys_without keys x y) cells new)
         ≡ cancelled (slice_complex (slice_of keys cells links)) x y
     left-is =
         same_complex _ _ refl degree-left
@@ -271,7 +271,7 @@ module _ (keys : List ℕ) (cells : List Cell) (links : Links) (s : IsStoredByKe
         (IsEntry-of_arrow (slice_of keys cells links) x y is) c d))
 
   -- the cursor has only to move on
-  pub first-left : (cursor next : ℕ) → IsFirst links cursor → next ≤ width new
+  first-left : (cursor next : ℕ) → IsFirst links cursor → next ≤ width new
       → ((k : ℕ) → cursor ≤ k → k < next → (head_at new.heads.items k).first_out ≡ no_id)
       → (next < width new → eqb (head_at new.heads.items next).first_out no_id ≡ false) → IsFirst new next
   first-left cursor next f within none some = record {
@@ -303,7 +303,7 @@ module _ (keys : List ℕ) (cells : List Cell) (links : Links) (s : IsStoredByKe
 -- ---- for the code
 pub record CanCancel (keys : List ℕ) (links : Links) (x y p q fills : ℕ) : Type 0 where
   pub x_live : is_live keys x ≡ true
-  pub y_live : is_live keys y ≡ true
+  y_live : is_live keys y ≡ true
   pub p_in : p < width links
   pub q_in : q < width links
   pub x_in : x < length keys

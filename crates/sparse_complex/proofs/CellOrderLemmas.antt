@@ -16,7 +16,7 @@ use Rattle.sparse_complex.specs.Inner.Built.{AreCells}
 use Rattle.sparse_complex.specs.Inner.Visits.{AreFirstCells, IsAscending}
 use Rattle.sparse_complex.proofs.BuildLemmas.{cells-apart}
 
-pub int_order : (m n : ℤ) → (m <ℤ n) ⊎ ((m ≡ n) ⊎ (n <ℤ m))
+int_order : (m n : ℤ) → (m <ℤ n) ⊎ ((m ≡ n) ⊎ (n <ℤ m))
 int_order (pos a) (pos b) = elim (cases_order a b) [
   | inl e ↦ inr (inl (ap pos e))
   | inr o ↦ elim o [ inl l ↦ inl (omega (arith, ints)) | inr l ↦ inr (inr (omega (arith, ints))) ]

@@ -11,7 +11,7 @@ use Rattle.sparse_complex.proofs.GraphLemmas.{has_arrow-targets, has_arrow-sourc
 use Rattle.sparse_complex.proofs.ArrowChangeLemmas.{gone-listed, gone-outs, gone-ins, has_arrow-unlinked, width-unlinked}
 use Rattle.sparse_complex.proofs.WalkLemmas.{out-none, in-none, out-begin, in-begin}
 
-pub leave_out-shorter : (id : ℕ) (is : List ℕ) → among id is ≡ true → length (leave_out id is) < length is
+leave_out-shorter : (id : ℕ) (is : List ℕ) → among id is ≡ true → length (leave_out id is) < length is
 leave_out-shorter id is m = by is m
   where
     no_longer : (is : List ℕ) → length (leave_out id is) ≤ length is
@@ -83,14 +83,14 @@ clear-end gone old now c none = record { listed = c.listed; width = c.width; arr
 
 -- the first arrow of a key, as the code reads it
 module _ (l : Links) (t : AreListed l) (k : ℕ) (h : Head) (e : head_at l.heads.items k ≡ h) where
-  pub first_out-live : (h.first_out ≡ no_id → ⊥)
+  first_out-live : (h.first_out ≡ no_id → ⊥)
       → (is_node l.pool.nodes h.first_out ≡ true) × ((node_at l.pool.nodes h.first_out).from ≡ k)
   first_out-live ne =
       subst (λ (g : Head). (eqb g.first_out no_id ≡ false
       → (is_node l.pool.nodes g.first_out ≡ true) × ((node_at l.pool.nodes g.first_out).from ≡ k))) e
       (λ z. head-live _ _ _ _ _ _ _ t.out_lists t.ids k z) (ne_eqb h.first_out no_id ne)
 
-  pub first_in-live : (h.first_in ≡ no_id → ⊥)
+  first_in-live : (h.first_in ≡ no_id → ⊥)
       → (is_node l.pool.nodes h.first_in ≡ true) × ((node_at l.pool.nodes h.first_in).to ≡ k)
   first_in-live ne =
       subst (λ (g : Head). (eqb g.first_in no_id ≡ false → (is_node l.pool.nodes g.first_in ≡ true)

@@ -1,4 +1,4 @@
--- How many arrows there are: at most one from each key to each key. And what a walk has counted of a list.
+-- How many arrows there are: at most one from each key to each key. And what a walk has counted_step of a list.
 use Rattle.std.proofs.Common.{◌≡◌, ℕ, zero, suc, ◌+◌, ◌-◌, ◌*◌, ◌^◌, ◌<◌, ◌≤◌, Bool, true, false, not, cond, ◌||◌, eqb, List, [], ◌∷◌, ◌++◌, length, length-append, Option, Some, None, is_some, nat_cmp, ◌⊎◌, inl, inr, refl, sym, ap, ◌∙◌, arith, le_trans}
 use mir.Val.{bool_byte}
 use Rattle.std.specs.FinMap as fin
@@ -26,10 +26,10 @@ others-first k j ks = by (eqb j k)
     by false = omega arith
 
 -- a step that counts the next key unless it is k
-pub counted : (k count one total next : ℕ) (now rest : List ℕ) → now ≡ next ∷ rest
+pub counted_step : (k count one total next : ℕ) (now rest : List ℕ) → now ≡ next ∷ rest
     → one ≡ bool_byte (not (eqb next k)) → count + length (others k now) ≡ total
     → count + one + length (others k rest) ≡ total
-counted k count one total next now rest is one_is so_far =
+counted_step k count one total next now rest is one_is so_far =
     let e : length (others k now) ≡ bool_byte (not (eqb next k)) + length (others k rest) =
     ap (λ ks. length (others k ks)) is ∙ others-first k next rest in
     omega (arith, e, one_is, so_far)

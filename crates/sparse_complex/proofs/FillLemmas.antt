@@ -14,14 +14,14 @@ use Rattle.sparse_complex.proofs.WalkLemmas.{IsOn, OutStep, out-moved, out-none}
 
 -- ---- what one toggle leaves
 module _ (p q : ℕ) (old new : Links) (t : AreListed old) (d : IsToggled p q old new) where
-  pub SameOuts-toggled : (k : ℕ) → eqb k p ≡ false → SameOuts k old new
+  SameOuts-toggled : (k : ℕ) → eqb k p ≡ false → SameOuts k old new
   SameOuts-toggled k ne = record {
     list = d.other_outs k ne;
     ends = λ i m. (d.ends i (out_member old t k i m).0 (out_member new d.listed k i
         (ap (among i) (d.other_outs k ne) ∙ m)).0).1;
   }
 
-  pub SameIns-toggled : (k : ℕ) → eqb k q ≡ false → SameIns k old new
+  SameIns-toggled : (k : ℕ) → eqb k q ≡ false → SameIns k old new
   SameIns-toggled k ne = record {
     list = d.other_ins k ne;
     ends = λ i m. (d.ends i (in_member old t k i m).0 (in_member new d.listed k i
@@ -46,7 +46,7 @@ SameIns-then k a b c f g =
 pub targets-same : (k : ℕ) (old new : Links) → SameOuts k old new → targets new k ≡ targets old k
 targets-same k old new d = ap (tos new) d.list ∙ map-same _ _ (outs_of old k) d.ends
 
-pub sources-same : (k : ℕ) (old new : Links) → SameIns k old new → sources new k ≡ sources old k
+sources-same : (k : ℕ) (old new : Links) → SameIns k old new → sources new k ≡ sources old k
 sources-same k old new d = ap (froms new) d.list ∙ map-same _ _ (ins_of old k) d.ends
 
 -- ---- the keys that are ahead

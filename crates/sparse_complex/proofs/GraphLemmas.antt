@@ -57,7 +57,7 @@ module _ (l : Links) (t : AreListed l) where
   in_member k i m = member-live _ _ _ _ _ _ _ t.in_lists t.ids k i m
 
   -- a node is an arrow between its ends
-  pub has_arrow-node : (i : ℕ) → is_node l.pool.nodes i ≡ true
+  has_arrow-node : (i : ℕ) → is_node l.pool.nodes i ≡ true
       → has_arrow l (node_at l.pool.nodes i).from (node_at l.pool.nodes i).to ≡ true
   unfolding has_arrow
   has_arrow-node i n =

@@ -17,7 +17,7 @@ pub record KeysPlace (n : ℕ) (cells : List Cell) (i : ℕ) (keys : List ℕ) :
   pub placed : (k : ℕ) → k < i → key_of keys (code_at cells k) ≡ k
   pub live : (c : ℕ) → is_live keys c ≡ true → (key_of keys c < i) × (code_at cells (key_of keys c) ≡ c)
 
-pub key_of-replicate : (n c : ℕ) → key_of (replicate n no_key) c ≡ no_key
+key_of-replicate : (n c : ℕ) → key_of (replicate n no_key) c ≡ no_key
 unfolding key_of
 key_of-replicate zero c = refl
 key_of-replicate (suc n) zero = refl

@@ -129,7 +129,7 @@ module _ (nodes : Nodes) (at : ℕ) (n : Node) where
           or false h = refl
 
 -- ---- the heads
-pub head_at-set : (heads : List Head) (k : ℕ) (h : Head) (j : ℕ) → k < length heads
+head_at-set : (heads : List Head) (k : ℕ) (h : Head) (j : ℕ) → k < length heads
     → head_at (set heads k h) j ≡ cond (eqb j k) h (head_at heads j)
 unfolding head_at
 head_at-set heads k h j l = by (eqb j k) refl

@@ -6,7 +6,7 @@ use Rattle.f2_algebra.proofs.Chains.Sets.{any-filter}
 use Rattle.sparse_complex.specs.Inner.Lists.{no_id, among, AreDistinct, IsList, ids_from}
 
 -- ---- tests
-pub cond_same : {A : Type 0} (b : Bool) (x : A) → cond b x x ≡ x
+cond_same : {A : Type 0} (b : Bool) (x : A) → cond b x x ≡ x
 cond_same true x = refl
 cond_same false x = refl
 

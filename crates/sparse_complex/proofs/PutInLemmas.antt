@@ -12,16 +12,16 @@ use Rattle.sparse_complex.proofs.LinkLemmas.{ap-cond, field-same, field-with_nod
 module _ (nodes : Nodes) (heads : List Head) (t : AreInLists nodes heads) (id : ℕ) (fresh : is_node nodes id ≡ false)
     (is_id : eqb id no_id ≡ false) (p q : ℕ) (p_in : p < length heads) (q_in : q < length heads)
     (none : (i : ℕ) → is_node nodes i ≡ true → (node_at nodes i).from ≡ p → (node_at nodes i).to ≡ q → ⊥) where
-  abbrev pub put_1 : Nodes
+  abbrev put_1 : Nodes
   put_1 = fin.insert nodes id (new_node heads p q)
 
-  abbrev pub put_2 : Nodes
+  abbrev put_2 : Nodes
   put_2 = with_prev_out put_1 (head_at heads p).first_out id
 
-  abbrev pub put_3 : Nodes
+  abbrev put_3 : Nodes
   put_3 = with_prev_in put_2 (head_at heads q).first_in id
 
-  pub old-in-1 : (i : ℕ) → is_node nodes i ≡ true → is_node put_1 i ≡ true
+  old-in-1 : (i : ℕ) → is_node nodes i ≡ true → is_node put_1 i ≡ true
   old-in-1 i l = is_node-insert nodes id (new_node heads p q) i ∙ ap (λ b. eqb i id || b) l ∙ either (eqb i id)
     where
       either : (b : Bool) → (b || true) ≡ true
@@ -92,7 +92,7 @@ module _ (nodes : Nodes) (heads : List Head) (t : AreInLists nodes heads) (id : 
         (put-same_2 (λ m. m.prev_in) refl ∙ put-first (λ m. m.prev_in))
 
   -- the new id is apart from the old ones
-  pub old-distinct : (i : ℕ) → is_node nodes i ≡ true → eqb i id ≡ false
+  old-distinct : (i : ℕ) → is_node nodes i ≡ true → eqb i id ≡ false
   old-distinct i l = ne_eqb i id (λ e. true≢false (sym l ∙ ap (is_node nodes) e ∙ fresh))
 
   pub at_old : {A : Type 0} (i : ℕ) → is_node nodes i ≡ true → (x y : A) → cond (eqb i id) x y ≡ y
@@ -102,7 +102,7 @@ module _ (nodes : Nodes) (heads : List Head) (t : AreInLists nodes heads) (id : 
   at_new x y = ap (λ b. cond b x y) (eq-eqb id id refl)
 
   -- a head that is not no id is old
-  pub id_no_head : (h : ℕ) → (eqb h no_id ≡ false → is_node nodes h ≡ true) → eqb id h ≡ false
+  id_no_head : (h : ℕ) → (eqb h no_id ≡ false → is_node nodes h ≡ true) → eqb id h ≡ false
   id_no_head h ok = by (eqb h no_id) refl
     where
       by : (b : Bool) → eqb h no_id ≡ b → eqb id h ≡ false
@@ -117,7 +117,7 @@ module _ (nodes : Nodes) (heads : List Head) (t : AreInLists nodes heads) (id : 
       (subst (λ m. q < m) (sym (length-with heads no_id p (record (head_at heads p) { first_out = id }) p_in)) q_in)
       ∙ length-with heads no_id p (record (head_at heads p) { first_out = id }) p_in
 
-  pub first_out-linked : (k : ℕ)
+  first_out-linked : (k : ℕ)
       → (head_at (linked_heads heads id p q) k).first_out ≡ cond (eqb k p) id (head_at heads k).first_out
   unfolding linked_heads
   first_out-linked k =
@@ -127,7 +127,7 @@ module _ (nodes : Nodes) (heads : List Head) (t : AreInLists nodes heads) (id : 
       (λ h. h.first_out) refl k
       ∙ first-with heads no_id p (record (head_at heads p) { first_out = id }) p_in (λ h. h.first_out) k
 
-  pub first_in-linked : (k : ℕ)
+  first_in-linked : (k : ℕ)
       → (head_at (linked_heads heads id p q) k).first_in ≡ cond (eqb k q) id (head_at heads k).first_in
   unfolding linked_heads
   first_in-linked k =
@@ -138,14 +138,14 @@ module _ (nodes : Nodes) (heads : List Head) (t : AreInLists nodes heads) (id : 
       ∙ ap (λ j. cond (eqb k q) id j)
       (first-same heads no_id p (record (head_at heads p) { first_out = id }) p_in (λ h. h.first_in) refl k)
 
-  pub put-ids : (i : ℕ) → is_node (linked_nodes nodes heads id p q) i ≡ true → eqb i no_id ≡ false
+  put-ids : (i : ℕ) → is_node (linked_nodes nodes heads id p q) i ≡ true → eqb i no_id ≡ false
   put-ids i l = by (eqb i id) refl (sym (is_node-linked i) ∙ l)
     where
       by : (b : Bool) → eqb i id ≡ b → (b || is_node nodes i) ≡ true → eqb i no_id ≡ false
       by true e h = ap (λ j. eqb j no_id) (eqb-true i id e) ∙ is_id
       by false e h = t.ids i h
 
-  pub put-out_lists : AreLists (is_node (linked_nodes nodes heads id p q))
+  put-out_lists : AreLists (is_node (linked_nodes nodes heads id p q))
       (λ i. (node_at (linked_nodes nodes heads id p q) i).from)
       (λ i. (node_at (linked_nodes nodes heads id p q) i).next_out)
       (λ i. (node_at (linked_nodes nodes heads id p q) i).prev_out)
@@ -162,7 +162,7 @@ module _ (nodes : Nodes) (heads : List Head) (t : AreInLists nodes heads) (id : 
       (λ i l. prev_out-put i (t.ids i l) ∙ ap (λ j. cond (eqb i (head_at heads p).first_out) id j) (at_old i l _ _))
       first_out-linked
 
-  pub put-in_lists : AreLists (is_node (linked_nodes nodes heads id p q))
+  put-in_lists : AreLists (is_node (linked_nodes nodes heads id p q))
       (λ i. (node_at (linked_nodes nodes heads id p q) i).to)
       (λ i. (node_at (linked_nodes nodes heads id p q) i).next_in)
       (λ i. (node_at (linked_nodes nodes heads id p q) i).prev_in)
@@ -192,7 +192,7 @@ module _ (nodes : Nodes) (heads : List Head) (t : AreInLists nodes heads) (id : 
   unfolding ins_from
   ins-linked k = thread-ids_from (linked_nodes nodes heads id p q) _ _ _ _ _ _ put-in_lists put-ids k
 
-  pub put-simple : (i j : ℕ) → is_node (linked_nodes nodes heads id p q) i ≡ true
+  put-simple : (i j : ℕ) → is_node (linked_nodes nodes heads id p q) i ≡ true
       → is_node (linked_nodes nodes heads id p q) j ≡ true
       → (node_at (linked_nodes nodes heads id p q) i).from ≡ (node_at (linked_nodes nodes heads id p q) j).from
       → (node_at (linked_nodes nodes heads id p q) i).to ≡ (node_at (linked_nodes nodes heads id p q) j).to → i ≡ j

@@ -45,7 +45,7 @@ module _ (live : ℕ → Bool) (key next prev : ℕ → ℕ) (width : ℕ) (head
 
   module _ (id : ℕ) (here : live id ≡ true) where
     -- who leads to a live id, forwards, backwards, and from the head
-    pub next-led : (x : ℕ) → live x ≡ true → eqb (next x) id ≡ eqb x (prev id)
+    next-led : (x : ℕ) → live x ≡ true → eqb (next x) id ≡ eqb x (prev id)
     next-led x l = same_test _ _ forth back
       where
         forth : eqb (next x) id ≡ true → eqb x (prev id) ≡ true
@@ -65,7 +65,7 @@ module _ (live : ℕ → Bool) (key next prev : ℕ → ℕ) (width : ℕ) (head
               | inr r ↦ eq-eqb (next x) id (ap next is ∙ r.1)
             ]
 
-    pub prev-led : (x : ℕ) → live x ≡ true → eqb (prev x) id ≡ eqb x (next id)
+    prev-led : (x : ℕ) → live x ≡ true → eqb (prev x) id ≡ eqb x (next id)
     prev-led x l = same_test _ _ forth back
       where
         forth : eqb (prev x) id ≡ true → eqb x (next id) ≡ true
@@ -85,7 +85,7 @@ module _ (live : ℕ → Bool) (key next prev : ℕ → ℕ) (width : ℕ) (head
               | inr r ↦ eq-eqb (prev x) id (ap prev is ∙ r.1)
             ]
 
-    pub head-led : (k : ℕ) → eqb (head k) id ≡ (eqb (prev id) no_id && eqb k (key id))
+    head-led : (k : ℕ) → eqb (head k) id ≡ (eqb (prev id) no_id && eqb k (key id))
     head-led k = same_test _ _ forth back
       where
         forth : eqb (head k) id ≡ true → (eqb (prev id) no_id && eqb k (key id)) ≡ true

@@ -13,19 +13,19 @@ module _ (nodes : Nodes) (heads : List Head) (t : AreInLists nodes heads) (id : 
   abbrev pub n : Node
   n = node_at nodes id
 
-  abbrev pub step_1 : Nodes
+  abbrev step_1 : Nodes
   step_1 = with_next_out nodes n.prev_out n.next_out
 
-  abbrev pub step_2 : Nodes
+  abbrev step_2 : Nodes
   step_2 = with_prev_out step_1 n.next_out n.prev_out
 
-  abbrev pub step_3 : Nodes
+  abbrev step_3 : Nodes
   step_3 = with_next_in step_2 n.prev_in n.next_in
 
-  abbrev pub step_4 : Nodes
+  abbrev step_4 : Nodes
   step_4 = with_prev_in step_3 n.next_in n.prev_in
 
-  pub live-4 : (i : ℕ) → is_node step_4 i ≡ is_node nodes i
+  live-4 : (i : ℕ) → is_node step_4 i ≡ is_node nodes i
   live-4 i =
       let l1 = is_node-with_node nodes n.prev_out (record (node_at nodes n.prev_out) { next_out = n.next_out })
       (prev-live _ _ _ _ _ _ _ t.out_lists t.ids id here) in
@@ -133,7 +133,7 @@ module _ (nodes : Nodes) (heads : List Head) (t : AreInLists nodes heads) (id : 
       (record (head_at (with_first_out heads n.prev_out n.from n.next_out) n.to) { first_in = n.next_in }) to_in
       ∙ length-with heads n.prev_out n.from (record (head_at heads n.from) { first_out = n.next_out }) from_in
 
-  pub first_out-unlinked : (k : ℕ)
+  first_out-unlinked : (k : ℕ)
       → (head_at (unlinked_heads nodes heads id) k).first_out
       ≡ cond (eqb n.prev_out no_id && eqb k n.from) n.next_out (head_at heads k).first_out
   unfolding unlinked_heads
@@ -144,7 +144,7 @@ module _ (nodes : Nodes) (heads : List Head) (t : AreInLists nodes heads) (id : 
       ∙ first-with heads n.prev_out n.from (record (head_at heads n.from) { first_out = n.next_out }) from_in
       (λ h. h.first_out) k
 
-  pub first_in-unlinked : (k : ℕ)
+  first_in-unlinked : (k : ℕ)
       → (head_at (unlinked_heads nodes heads id) k).first_in
       ≡ cond (eqb n.prev_in no_id && eqb k n.to) n.next_in (head_at heads k).first_in
   unfolding unlinked_heads
@@ -156,10 +156,10 @@ module _ (nodes : Nodes) (heads : List Head) (t : AreInLists nodes heads) (id : 
       (first-same heads n.prev_out n.from (record (head_at heads n.from) { first_out = n.next_out }) from_in
       (λ h. h.first_in) refl k)
 
-  pub ids' : (i : ℕ) → is_node (unlinked_nodes nodes id) i ≡ true → eqb i no_id ≡ false
+  ids' : (i : ℕ) → is_node (unlinked_nodes nodes id) i ≡ true → eqb i no_id ≡ false
   ids' i l = t.ids i (was i l).0
 
-  pub out_lists' : AreLists (is_node (unlinked_nodes nodes id)) (λ i. (node_at (unlinked_nodes nodes id) i).from)
+  out_lists' : AreLists (is_node (unlinked_nodes nodes id)) (λ i. (node_at (unlinked_nodes nodes id) i).from)
       (λ i. (node_at (unlinked_nodes nodes id) i).next_out) (λ i. (node_at (unlinked_nodes nodes id) i).prev_out)
       (length heads) (λ k. (head_at (unlinked_heads nodes heads id) k).first_out)
       (λ k. leave_out id (outs nodes heads k))
@@ -167,7 +167,7 @@ module _ (nodes : Nodes) (heads : List Head) (t : AreInLists nodes heads) (id : 
       thread-unlinked _ _ _ _ _ _ _ t.out_lists t.ids id here _ _ _ _ _ is_node-unlinked from-unlinked next_out-unlinked
       prev_out-unlinked first_out-unlinked
 
-  pub in_lists' : AreLists (is_node (unlinked_nodes nodes id)) (λ i. (node_at (unlinked_nodes nodes id) i).to)
+  in_lists' : AreLists (is_node (unlinked_nodes nodes id)) (λ i. (node_at (unlinked_nodes nodes id) i).to)
       (λ i. (node_at (unlinked_nodes nodes id) i).next_in) (λ i. (node_at (unlinked_nodes nodes id) i).prev_in)
       (length heads) (λ k. (head_at (unlinked_heads nodes heads id) k).first_in) (λ k. leave_out id (ins nodes heads k))
   in_lists' =

@@ -78,7 +78,7 @@ pub AreFirstCells-same : (D : Complex ℤ) (n : ℕ) (cells cells_too : List Cel
 AreFirstCells-same D n cells cells_too e s = subst (AreFirstCells D n) (sym e) s
 
 -- codes that are no cells add nothing
-pub AreFirstCells-skip_all : (D : Complex ℤ) (base : ℕ) (cells : List Cell) → AreFirstCells D base cells → (m : ℕ)
+AreFirstCells-skip_all : (D : Complex ℤ) (base : ℕ) (cells : List Cell) → AreFirstCells D base cells → (m : ℕ)
     → ((k : ℕ) → base ≤ k → k < base + m → D.degree k ≡ None) → AreFirstCells D (base + m) cells
 AreFirstCells-skip_all D base cells s zero none = subst (λ n. AreFirstCells D n cells) (sym (zero_more base)) s
   where
@@ -97,7 +97,7 @@ module _ (g : Marks) (grid : IsGrid g) (a : ℤ) (b : Branch) (s : IsBranch g a 
   pub begin : List ℕ
   begin = take b.column b.first
 
-  pub length-begin : length (take b.column b.first) ≡ b.column
+  length-begin : length (take b.column b.first) ≡ b.column
   length-begin = let e = s.state.long in let l = s.within in length-take-le b.column b.first (omega arith)
 
   pub length-left : length (drop b.column b.first) ≡ size g - b.column
@@ -122,7 +122,7 @@ module _ (g : Marks) (grid : IsGrid g) (a : ℤ) (b : Branch) (s : IsBranch g a 
       omega arith
 
   -- its states begin as the first of them
-  pub branch-alike : (k : ℕ) → b.base ≤ k → k < b.base + b.count
+  branch-alike : (k : ℕ) → b.base ≤ k → k < b.base + b.count
       → (d : ℕ) → d < b.column → slice_index (unrank (size g) k) d ≡ slice_index b.first d
   branch-alike k low high d below =
       let many : factorial (length (drop b.column b.first)) ≡ b.count = ap factorial length-left ∙ sym s.count in
@@ -178,7 +178,7 @@ module _ (g : Marks) (grid : IsGrid g) (a : ℤ) (b : Branch) (s : IsBranch g a 
       left_none n c e = omega arith
 
   -- so many states have the parts of a branch
-  pub part-count : b.column < size g → b.count / (size g - b.column) ≡ factorial (size g - b.column - 1)
+  part-count : b.column < size g → b.count / (size g - b.column) ≡ factorial (size g - b.column - 1)
   unfolding factorial
   part-count some =
       let m = size g - b.column - 1 in

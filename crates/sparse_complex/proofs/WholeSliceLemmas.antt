@@ -18,7 +18,7 @@ module _ (D : Complex ℤ) (n : ℕ) (rules : IsComplex D) (up : D.up ≡ (λ m.
     (past : (c : ℕ) → n ≤ c → D.degree c ≡ None) (cells : List Cell) (s : AreCells D n cells) (keys : List ℕ)
     (k : AreKeys keys cells) where
   -- a code with a degree is below n
-  pub below-n : (c : ℕ) → is_some (D.degree c) ≡ true → c < n
+  below-n : (c : ℕ) → is_some (D.degree c) ≡ true → c < n
   below-n c h = by (ltb c n) refl
     where
       by : (b : Bool) → ltb c n ≡ b → c < n

@@ -16,7 +16,7 @@ with_node-is nodes at m n none e =
     ap (fin.insert nodes at) e ∙ sym (ap (λ b. cond b nodes (fin.insert nodes at n)) (ne_eqb at no_id none))
 
 -- at no id nothing is written
-pub with_node-none : (nodes : Nodes) (at : ℕ) (n : Node) → at ≡ no_id → nodes ≡ with_node nodes at n
+with_node-none : (nodes : Nodes) (at : ℕ) (n : Node) → at ≡ no_id → nodes ≡ with_node nodes at n
 with_node-none nodes at n e = sym (ap (λ b. cond b nodes (fin.insert nodes at n)) (eq-eqb at no_id e))
 
 pub first-is : (heads : List Head) (at k : ℕ) (g h : Head) → at ≡ no_id → g ≡ h
@@ -32,7 +32,7 @@ pub is_node-contains : (nodes : Nodes) (i : ℕ) → is_node nodes i ≡ true �
 unfolding is_node
 is_node-contains nodes i h = h
 
-pub contains-is_node : (nodes : Nodes) (i : ℕ) → fin.contains_key nodes i ≡ true → is_node nodes i ≡ true
+contains-is_node : (nodes : Nodes) (i : ℕ) → fin.contains_key nodes i ≡ true → is_node nodes i ≡ true
 unfolding is_node
 contains-is_node nodes i h = h
 
@@ -42,7 +42,7 @@ unfolding is_node
 none_is_node nodes i h = ap is_some h
 
 -- what the code reads at a key
-pub get_or-default : (heads : List Head) (k : ℕ) (d e : Head) → k < length heads → get_or heads k d ≡ get_or heads k e
+get_or-default : (heads : List Head) (k : ℕ) (d e : Head) → k < length heads → get_or heads k d ≡ get_or heads k e
 get_or-default [] k d e l = absurd (omega arith)
 get_or-default (x ∷ heads) zero d e l = refl
 get_or-default (x ∷ heads) (suc k) d e l = get_or-default heads k d e (omega arith)
@@ -52,16 +52,16 @@ unfolding head_at
 head_is heads k h l e = get_or-default heads k no_head h l ∙ sym e
 
 -- the nodes after each write of taking out the node m
-abbrev pub after_1 : Nodes → Node → Nodes
+abbrev after_1 : Nodes → Node → Nodes
 after_1 nodes m = with_next_out nodes m.prev_out m.next_out
 
-abbrev pub after_2 : Nodes → Node → Nodes
+abbrev after_2 : Nodes → Node → Nodes
 after_2 nodes m = with_prev_out (after_1 nodes m) m.next_out m.prev_out
 
-abbrev pub after_3 : Nodes → Node → Nodes
+abbrev after_3 : Nodes → Node → Nodes
 after_3 nodes m = with_next_in (after_2 nodes m) m.prev_in m.next_in
 
-abbrev pub after_4 : Nodes → Node → Nodes
+abbrev after_4 : Nodes → Node → Nodes
 after_4 nodes m = with_prev_in (after_3 nodes m) m.next_in m.prev_in
 
 -- each write goes to a node that is there
@@ -109,7 +109,7 @@ can_unlink nodes heads t id here m e =
     })
 
 -- the heads after the writes
-abbrev pub heads_1 : List Head → Node → List Head
+abbrev heads_1 : List Head → Node → List Head
 heads_1 heads m = with_first_out heads m.prev_out m.from m.next_out
 
 pub unlinked_nodes-is : (nodes : Nodes) (id : ℕ) (m : Node) → node_at nodes id ≡ m
@@ -129,15 +129,15 @@ AreInLists-same nodes nodes' heads heads' e f t =
     subst (λ (s : Nodes × List Head). AreInLists s.0 s.1) (λ i. (sym e i, sym f i)) t
 
 -- the head of a key is a node or no id, also in a map with one node more
-pub head-ok-out : (nodes : Nodes) (heads : List Head) (t : AreInLists nodes heads) (k : ℕ)
+head-ok-out : (nodes : Nodes) (heads : List Head) (t : AreInLists nodes heads) (k : ℕ)
     → eqb (head_at heads k).first_out no_id ≡ false → is_node nodes (head_at heads k).first_out ≡ true
 head-ok-out nodes heads t k e = (head-live _ _ _ _ _ _ _ t.out_lists t.ids k e).0
 
-pub head-ok-in : (nodes : Nodes) (heads : List Head) (t : AreInLists nodes heads) (k : ℕ)
+head-ok-in : (nodes : Nodes) (heads : List Head) (t : AreInLists nodes heads) (k : ℕ)
     → eqb (head_at heads k).first_in no_id ≡ false → is_node nodes (head_at heads k).first_in ≡ true
 head-ok-in nodes heads t k e = (head-live _ _ _ _ _ _ _ t.in_lists t.ids k e).0
 
-pub is_node-put : (nodes : Nodes) (id : ℕ) (n : Node) (i : ℕ) → is_node nodes i ≡ true
+is_node-put : (nodes : Nodes) (id : ℕ) (n : Node) (i : ℕ) → is_node nodes i ≡ true
     → is_node (fin.insert nodes id n) i ≡ true
 is_node-put nodes id n i l = is_node-insert nodes id n i ∙ ap (λ b. eqb i id || b) l ∙ either (eqb i id)
   where

@@ -14,7 +14,7 @@ use Rattle.state_rank.proofs.RankLemmas.{IsBijection-unrank, rank-unrank, rank-b
 use Rattle.state_rank.proofs.StepLemmas.{FirstDiffer, before-differ, differ}
 
 -- where two states agree before the place q, the row of one there is a row of the other from q on
-pub row_from : (n : ℕ) (x z : List ℕ) → IsBijection n x → IsBijection n z → (q : ℕ) → q < n
+row_from : (n : ℕ) (x z : List ℕ) → IsBijection n x → IsBijection n z → (q : ℕ) → q < n
     → ((i : ℕ) → i < q → slice_index x i ≡ slice_index z i)
     → (j : ℕ) × ((q ≤ j) × (j < n)) × (slice_index x j ≡ slice_index z q)
 row_from n x z s t q l same =
@@ -25,7 +25,7 @@ row_from n x z s t q l same =
     ]
 
 -- x and a later state do not first differ where the rows of x fall
-pub not_where_falling : (n : ℕ) (x z : List ℕ) → IsBijection n x → IsBijection n z → (a q : ℕ) → FallsFrom a x → a ≤ q
+not_where_falling : (n : ℕ) (x z : List ℕ) → IsBijection n x → IsBijection n z → (a q : ℕ) → FallsFrom a x → a ≤ q
     → q < n → FirstDiffer x z q → ⊥
 not_where_falling n x z s t a q falls l m d =
     let h = row_from n x z s t q m d.same in
@@ -45,7 +45,7 @@ pub record IsStep (n : ℕ) (x y : List ℕ) (p : ℕ) : Type 0 where
   pub least : (i : ℕ) → p < i → i < n → slice_index x p < slice_index x i → slice_index y p ≤ slice_index x i
 
 -- an earlier state and y do not first differ behind p
-pub not_where_rising : (n : ℕ) (x y z : List ℕ) (p q : ℕ) → IsStep n x y p → IsBijection n y → IsBijection n z → p < q
+not_where_rising : (n : ℕ) (x y z : List ℕ) (p q : ℕ) → IsStep n x y p → IsBijection n y → IsBijection n z → p < q
     → q < n → FirstDiffer z y q → ⊥
 not_where_rising n x y z p q k t u l m d =
     let h = row_from n y z t u q m (λ i g. sym (d.same i g)) in
@@ -56,7 +56,7 @@ not_where_rising n x y z p q k t u l m d =
     let e = h.2 in let u = d.up in absurd (omega arith)
 
 -- no state lies between
-pub none_between : (n : ℕ) (x y z : List ℕ) (p : ℕ) → IsStep n x y p → IsBijection n x → IsBijection n y
+none_between : (n : ℕ) (x y z : List ℕ) (p : ℕ) → IsStep n x y p → IsBijection n x → IsBijection n y
     → IsBijection n z → (q r : ℕ) → q < n → r < n → FirstDiffer x z q → FirstDiffer z y r → ⊥
 none_between n x y z p k s t u q r lq lr d e = elim (cases_order q p) [
   | inl i ↦ elim (cases_order r p) [
@@ -91,7 +91,7 @@ none_between n x y z p k s t u q r lq lr d e = elim (cases_order q p) [
 -- ---- ranks
 
 -- the state of rank k is later than x where k is above its rank
-pub differ_unrank : (n : ℕ) (x : List ℕ) → IsBijection n x → (k : ℕ) → rank x < k → k < factorial n
+differ_unrank : (n : ℕ) (x : List ℕ) → IsBijection n x → (k : ℕ) → rank x < k → k < factorial n
     → (q : ℕ) × (q < n) × FirstDiffer x (unrank n k) q
 differ_unrank n x s k l m =
     let z : List ℕ = unrank n k in
@@ -103,7 +103,7 @@ differ_unrank n x s k l m =
     (d.0, omega arith, d.2)
 
 -- the step goes to the next rank
-pub rank-step : (n : ℕ) (x y : List ℕ) (p : ℕ) → IsStep n x y p → IsBijection n x → IsBijection n y
+rank-step : (n : ℕ) (x y : List ℕ) (p : ℕ) → IsStep n x y p → IsBijection n x → IsBijection n y
     → rank y ≡ rank x + 1
 rank-step n x y p k s t =
     let ex = s.long in let ey = t.long in let w = k.within in
@@ -124,7 +124,7 @@ rank-step n x y p k s t =
     ]
 
 -- so it goes to the state of the next rank
-pub step-unrank : (n : ℕ) (x y : List ℕ) (p : ℕ) → IsStep n x y p → IsBijection n x → IsBijection n y
+step-unrank : (n : ℕ) (x y : List ℕ) (p : ℕ) → IsStep n x y p → IsBijection n x → IsBijection n y
     → y ≡ unrank n (rank x + 1)
 step-unrank n x y p k s t = sym (unrank-rank n y t) ∙ ap (unrank n) (rank-step n x y p k s t)
 
@@ -158,14 +158,14 @@ pub record IsTurned (n : ℕ) (w y : List ℕ) (p : ℕ) : Type 0 where
 
 module _ (n : ℕ) (w y : List ℕ) (p : ℕ) (t : IsTurned n w y p) (within : p < n) (s : IsBijection n w) where
   -- a place of y is a place of w, others for others
-  pub turned_at : (i : ℕ) → i < n
+  turned_at : (i : ℕ) → i < n
       → (j : ℕ) × (j < n) × (((i ≤ p) × (j ≡ i)) ⊎ ((p < i) × (j ≡ p + n - i))) × (slice_index y i ≡ slice_index w j)
   turned_at i l = elim (cases_lt p i) [
     | inl m ↦ (p + n - i, omega arith, inr (m, refl), t.back i m l)
     | inr m ↦ (i, l, inl (m, refl), t.front i m)
   ]
 
-  pub IsBijection-turned : IsBijection n y
+  IsBijection-turned : IsBijection n y
   IsBijection-turned = record {
     long = t.long;
     small = λ c l. let h = turned_at c l in let k = s.small h.0 h.1 in let e = h.3 in omega arith;
@@ -203,7 +203,7 @@ module _ (n : ℕ) (x y : List ℕ) (p m : ℕ) (s : IsBijection n x) (k : IsCho
   at c o q = let b = k.behind in let l = k.within in slice_index-swap_other x p m c (omega arith) l o q
 
   -- behind p the rows still fall after the exchange
-  pub still_falls : (a b : ℕ) → p < a → a < b → b < n → slice_index (swap x p m) b ≤ slice_index (swap x p m) a
+  still_falls : (a b : ℕ) → p < a → a < b → b < n → slice_index (swap x p m) b ≤ slice_index (swap x p m) a
   still_falls a b l h o =
       let e = long in
       elim (cases_eq a m) [
@@ -221,7 +221,7 @@ module _ (n : ℕ) (x y : List ℕ) (p m : ℕ) (s : IsBijection n x) (k : IsCho
             ]
       ]
 
-  pub step_chosen : IsStep n x y p
+  step_chosen : IsStep n x y p
   step_chosen =
       let b = k.behind in let w = within in
       let atp : slice_index y p ≡ slice_index x m = t.front p (omega arith) ∙ at_p in
@@ -246,7 +246,7 @@ module _ (n : ℕ) (x y : List ℕ) (p m : ℕ) (s : IsBijection n x) (k : IsCho
             ];
       }
 
-  pub IsBijection-chosen : IsBijection n y
+  IsBijection-chosen : IsBijection n y
   IsBijection-chosen = let b = k.behind in let w = within in
       IsBijection-turned n (swap x p m) y p t (omega arith) (IsBijection-swap n x p m (omega arith) w s)
 
@@ -258,27 +258,27 @@ rewritten a n w ys = take a w ++ (ys ++ drop (n - a) (drop a w))
 
 module _ (a n : ℕ) (w ys : List ℕ) (turned : ys ≡ reverse (take (n - a) (drop a w))) (ordered : a ≤ n)
     (fits : n ≤ length w) where
-  pub length-part : length (take (n - a) (drop a w)) ≡ n - a
+  length-part : length (take (n - a) (drop a w)) ≡ n - a
   length-part = let e = length-drop a w in length-take-le (n - a) (drop a w) (omega arith)
 
-  pub length-turned : length ys ≡ n - a
+  length-turned : length ys ≡ n - a
   length-turned = ap length turned ∙ length-reverse (take (n - a) (drop a w)) ∙ length-part
 
-  pub length-front : length (take a w) ≡ a
+  length-front : length (take a w) ≡ a
   length-front = length-take-le a w (omega arith)
 
-  pub length-rewritten : length (rewritten a n w ys) ≡ length w
+  length-rewritten : length (rewritten a n w ys) ≡ length w
   length-rewritten =
       let e = length-append (take a w) (ys ++ drop (n - a) (drop a w)) in
       let f = length-append ys (drop (n - a) (drop a w)) in
       let g = length-drop (n - a) (drop a w) in let j = length-drop a w in
       let h = length-turned in let i = length-front in omega arith
 
-  pub rewritten-front : (i : ℕ) → i < a → slice_index (rewritten a n w ys) i ≡ slice_index w i
+  rewritten-front : (i : ℕ) → i < a → slice_index (rewritten a n w ys) i ≡ slice_index w i
   rewritten-front i l = let e = length-front in
       get_or_append_left (take a w) (ys ++ drop (n - a) (drop a w)) 0 i (omega arith) ∙ get_or-take a w i 0 l
 
-  pub rewritten-back : (i : ℕ) → a ≤ i → i < n
+  rewritten-back : (i : ℕ) → a ≤ i → i < n
       → slice_index (rewritten a n w ys) i ≡ slice_index w (a + (n - a - 1 - (i - a)))
   rewritten-back i l m =
       let e = length-front in let f = length-turned in let g = length-part in
@@ -291,7 +291,7 @@ module _ (a n : ℕ) (w ys : List ℕ) (turned : ys ≡ reverse (take (n - a) (d
       ∙ get_or-take (n - a) (drop a w) (n - a - 1 - (i - a)) 0 (omega arith)
       ∙ get_or-drop a w (n - a - 1 - (i - a)) 0
 
-  pub rewritten-past : (i : ℕ) → n ≤ i → slice_index (rewritten a n w ys) i ≡ slice_index w i
+  rewritten-past : (i : ℕ) → n ≤ i → slice_index (rewritten a n w ys) i ≡ slice_index w i
   rewritten-past i l =
       let e = length-front in let f = length-turned in
       let place : a + (n - a + (i - a - (n - a))) ≡ i = omega arith in
@@ -328,13 +328,13 @@ turned_rows n rows w ys p m b l fits is turned =
 module _ (size : ℕ) (rows : List ℕ) (s : IsStoredByPlace size rows) (p m : ℕ)
     (k : IsChosen (take size rows) (take size rows) p m)
     (w ys : List ℕ) (is : w ≡ swap rows p m) (turned : ys ≡ reverse (take (size - (p + 1)) (drop (p + 1) w))) where
-  pub long_now : length (take size rows) ≡ size
+  long_now : length (take size rows) ≡ size
   long_now = length-stored size rows s
 
   pub was : IsBijection size (take size rows)
   was = subst (λ n. IsBijection n (take size rows)) long_now s.state.bijection
 
-  pub turned_is : IsTurned size (swap (take size rows) p m) (take size (rewritten (p + 1) size w ys)) p
+  turned_is : IsTurned size (swap (take size rows) p m) (take size (rewritten (p + 1) size w ys)) p
   turned_is = let e = long_now in let l = k.within in let a = s.long in let b = s.fits in
       turned_rows size rows w ys p m k.behind (omega arith) (omega arith) is turned
 

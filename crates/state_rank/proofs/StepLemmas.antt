@@ -9,7 +9,7 @@ use Rattle.state_rank.proofs.OrderLemmas.{is_before-lower, is_before-higher, is_
 -- ---- the two loops
 
 -- one place more
-pub falls_more : (x : List ℕ) (c : ℕ) → FallsFrom (c - 1) x → 1 < c → slice_index x (c - 1) ≤ slice_index x (c - 1 - 1)
+falls_more : (x : List ℕ) (c : ℕ) → FallsFrom (c - 1) x → 1 < c → slice_index x (c - 1) ≤ slice_index x (c - 1 - 1)
     → FallsFrom (c - 1 - 1) x
 falls_more x c h some step i j l m n = elim (cases_eq i (c - 1 - 1)) [
   | inl e ↦ elim (cases_eq j (c - 1)) [
@@ -24,7 +24,7 @@ abbrev pub AreLowFrom : List ℕ → ℕ → ℕ → Type 0
 AreLowFrom x p c = (i : ℕ) → c ≤ i → i < length x → slice_index x i ≤ slice_index x p
 
 -- one place more
-pub low_more : (x : List ℕ) (p c : ℕ) → AreLowFrom x p c → 0 < c → slice_index x (c - 1) ≤ slice_index x p
+low_more : (x : List ℕ) (p c : ℕ) → AreLowFrom x p c → 0 < c → slice_index x (c - 1) ≤ slice_index x p
     → AreLowFrom x p (c - 1)
 low_more x p c h some step i l m = elim (cases_eq i (c - 1)) [
   | inl e ↦ let a = ap (slice_index x) e in omega arith

@@ -5,7 +5,7 @@ use Rattle.sparse_complex.specs.Inner.Graph.{ins_of, froms, sources, others}
 use Rattle.sparse_complex.proofs.WriteLemmas.{head_is, is_node-contains}
 use Rattle.sparse_complex.proofs.WalkLemmas.{in-live, in-facts, in-begin, in-none, in-length}
 use Rattle.sparse_complex.proofs.GraphLemmas.{length-map}
-use Rattle.sparse_complex.proofs.CountLemmas.{counted, others-shorter}
+use Rattle.sparse_complex.proofs.CountLemmas.{counted_step, others-shorter}
 use Rattle.sparse_complex.proofs.links.Links.count_in.Goals as goal
 
 pub loop-at-init : goal.loop-at-init
@@ -19,7 +19,7 @@ overflow_add-count c =
     let s = in-facts c.args.self.now c.requires.listed c.args.key c.loop-at.at _ c.loop-at.invariant.on
     c.loop-at-test.true c.get-node.ensures.node in
     let ks = sources c.args.self.now c.args.key in
-    let next = counted c.args.source c.loop-at.count c.from-count.result _ c.get-node.result.from _ _
+    let next = counted_step c.args.source c.loop-at.count c.from-count.result _ c.get-node.result.from _ _
     (ap (froms c.args.self.now) s.ahead
     ∙ ap (λ k. k ∷ froms c.args.self.now (ins_from c.args.self.now.pool.nodes c.get-node.result.next_in)) s.from_is)
     c.from-count.ensures c.loop-at.invariant.ahead in
@@ -44,7 +44,7 @@ loop-at-preserved c =
     c.loop-at-test.true c.get-node.ensures.node in
     record {
       on = s.on;
-      ahead = counted c.args.source c.loop-at.count c.from-count.result _ c.get-node.result.from _ _
+      ahead = counted_step c.args.source c.loop-at.count c.from-count.result _ c.get-node.result.from _ _
           (ap (froms c.args.self.now) s.ahead
           ∙ ap (λ k. k ∷ froms c.args.self.now (ins_from c.args.self.now.pool.nodes c.get-node.result.next_in)) s.from_is)
           c.from-count.ensures c.loop-at.invariant.ahead;

@@ -5,7 +5,7 @@ use Rattle.sparse_complex.specs.Inner.Graph.{outs_of, tos, targets, others}
 use Rattle.sparse_complex.proofs.WriteLemmas.{head_is, is_node-contains}
 use Rattle.sparse_complex.proofs.WalkLemmas.{out-live, out-facts, out-begin, out-none, out-length}
 use Rattle.sparse_complex.proofs.GraphLemmas.{length-map}
-use Rattle.sparse_complex.proofs.CountLemmas.{counted, others-shorter}
+use Rattle.sparse_complex.proofs.CountLemmas.{counted_step, others-shorter}
 use Rattle.sparse_complex.proofs.links.Links.count_out.Goals as goal
 
 pub loop-at-init : goal.loop-at-init
@@ -19,7 +19,7 @@ overflow_add-count c =
     let s = out-facts c.args.self.now c.requires.listed c.args.key c.loop-at.at _ c.loop-at.invariant.on
     c.loop-at-test.true c.get-node.ensures.node in
     let ks = targets c.args.self.now c.args.key in
-    let next = counted c.args.target c.loop-at.count c.from-count.result _ c.get-node.result.to _ _
+    let next = counted_step c.args.target c.loop-at.count c.from-count.result _ c.get-node.result.to _ _
     (ap (tos c.args.self.now) s.ahead
     ∙ ap (λ k. k ∷ tos c.args.self.now (outs_from c.args.self.now.pool.nodes c.get-node.result.next_out)) s.to_is)
     c.from-count.ensures c.loop-at.invariant.ahead in
@@ -44,7 +44,7 @@ loop-at-preserved c =
     c.loop-at-test.true c.get-node.ensures.node in
     record {
       on = s.on;
-      ahead = counted c.args.target c.loop-at.count c.from-count.result _ c.get-node.result.to _ _
+      ahead = counted_step c.args.target c.loop-at.count c.from-count.result _ c.get-node.result.to _ _
           (ap (tos c.args.self.now) s.ahead
           ∙ ap (λ k. k ∷ tos c.args.self.now (outs_from c.args.self.now.pool.nodes c.get-node.result.next_out)) s.to_is)
           c.from-count.ensures c.loop-at.invariant.ahead;
