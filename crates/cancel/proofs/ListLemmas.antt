@@ -22,11 +22,11 @@ ListsOnce-without xs test x l = record {
 }
 
 -- what is in a list is found there
-pub any-member : (xs : List ℕ) (s : ℕ) → Contains xs s → any s xs ≡ true
-any-member [] s m = absurd (no_member s m)
-any-member (x ∷ xs) s m = elim (member_cases x xs s m) [
+pub any-Contains : (xs : List ℕ) (s : ℕ) → Contains xs s → any s xs ≡ true
+any-Contains [] s m = absurd (no_member s m)
+any-Contains (x ∷ xs) s m = elim (member_cases x xs s m) [
   | inl e ↦ ap (λ b. b || any s xs) (eq-eqb s x (sym e))
-  | inr t ↦ ap (λ b. eqb s x || b) (any-member xs s t) ∙ either (eqb s x)
+  | inr t ↦ ap (λ b. eqb s x || b) (any-Contains xs s t) ∙ either (eqb s x)
 ]
   where
     either : (b : Bool) → (b || true) ≡ true
@@ -38,7 +38,7 @@ pub holds-listed : (xs : List ℕ) (test : ℕ → Bool) → ListsOnce xs test �
 holds-listed xs test l s =
     holds-of_codes xs s
     ∙ both (any s xs) (test s) (λ e. (l.each s).0 (Contains-from_any (λ a b. eqb-true a b) s xs e))
-    (λ e. any-member xs s ((l.each s).1 e))
+    (λ e. any-Contains xs s ((l.each s).1 e))
   where
     both : (a b : Bool) → (a ≡ true → b ≡ true) → (b ≡ true → a ≡ true) → a ≡ b
     both true b f g = sym (f refl)

@@ -1,13 +1,13 @@
 -- What one entry of a log does to a chain, and the passes over the entries.
 use Rattle.std.proofs.Common.{◌≡◌, ◌≢◌, ℕ, zero, suc, ◌+◌, ◌-◌, ◌<◌, ◌≤◌, Bool, true, false, not, cond, ◌&&◌, ◌||◌, eqb, List, [], ◌∷◌, ◌++◌, length, drop, get_or, AllPairs, refl, sym, ap, ap₂, ◌∙◌, append_assoc, add-one, arith, inl, inr}
 use Rattle.std.proofs.Math.Seq.{drop-cons, drop-length}
-use Rattle.std.proofs.lemmas.Bool.{eqb-true, eq-eqb, false≢true, cases_Bool}
+use Rattle.std.proofs.lemmas.Bool.{eqb-true, false≢true, cases_Bool}
 use Rattle.f2_algebra.specs.Chain.{Chain, holds, nothing, single, of_codes, ◌⊕◌, where_code, pairs_oddly}
 use Rattle.f2_algebra.specs.Cancel.{Entry, is_one_of, without, rest_of_one, lift_of_one, pull_of_one, rest, lift, pull, correction}
 use Rattle.f2_algebra.proofs.Chains.Tables.{◌⊻◌, same, xor-false}
 use Rattle.f2_algebra.proofs.Chains.Sets.{any, same_chain, holds-single, holds-add, holds-where_code, IsApart, pairs_oddly-comm}
 use Rattle.f2_algebra.proofs.Chains.Sums.{add_comm, add_assoc, add-nothing}
-use Rattle.f2_algebra.proofs.Chains.Lists.{of_codes-cons}
+use Rattle.f2_algebra.proofs.Chains.Lists.{of_codes-cons, any-at}
 use Rattle.f2_algebra.proofs.Cancelling.LogLemmas.{correction_by, correction-by}
 use Rattle.cancel.specs.declared.logs.LogEntry.{LogEntry}
 use Rattle.cancel.specs.Logs.{entry_of, log_of}
@@ -29,41 +29,32 @@ IsApart-pairs (x ∷ xs) once = (
   IsApart-pairs xs (λ i j d l k. once (suc i) (suc j) d (omega arith) (omega arith)),
 )
 
-found : (xs : List ℕ) (j d : ℕ) → j < length xs → any (get_or xs j d) xs ≡ true
-found [] j d within = absurd (omega arith)
-found (x ∷ xs) zero d within = ap (λ b. b || any x xs) (eq-eqb x x refl)
-found (x ∷ xs) (suc j) d within = either (eqb (get_or xs j d) x) (found xs j d (omega arith))
-  where
-    either : (b : Bool) {c : Bool} → c ≡ true → (b || c) ≡ true
-    either true is = refl
-    either false is = is
-
 -- and codes that are apart differ place by place
 pub pairs-IsApart : (xs : List ℕ) → IsApart xs → AllPairs (λ b c. b ≢ c) xs
 pairs-IsApart [] apart i j d l k e = absurd (omega arith)
 pairs-IsApart (x ∷ xs) apart i zero d l k e = absurd (omega arith)
 pairs-IsApart (x ∷ xs) apart zero (suc j) d l k e =
-    false≢true (sym apart.0 ∙ ap (λ y. any y xs) e ∙ found xs j d (omega arith))
+    false≢true (sym apart.0 ∙ ap (λ y. any y xs) e ∙ any-at xs j d (omega arith))
 pairs-IsApart (x ∷ xs) apart (suc i) (suc j) d l k e = pairs-IsApart xs apart.1 i j d (omega arith) (omega arith) e
 
--- the chain after each of the codes was toggled, in order
-abbrev pub toggled : Chain → List ℕ → Chain
-toggled z [] = z
-toggled z (x ∷ xs) = toggled (z ⊕ single x) xs
+-- the chain after each of the codes was toggled_by, in order
+abbrev pub toggled_by : Chain → List ℕ → Chain
+toggled_by z [] = z
+toggled_by z (x ∷ xs) = toggled_by (z ⊕ single x) xs
 
 -- it is the sum with the set of the codes
-pub toggled-sum : (z : Chain) (xs : List ℕ) → IsApart xs → toggled z xs ≡ z ⊕ of_codes xs
+pub toggled-sum : (z : Chain) (xs : List ℕ) → IsApart xs → toggled_by z xs ≡ z ⊕ of_codes xs
 toggled-sum z [] apart = sym (add-nothing z)
 toggled-sum z (x ∷ xs) apart =
     toggled-sum (z ⊕ single x) xs apart.1
     ∙ add_assoc z (single x) (of_codes xs)
     ∙ ap (λ c. z ⊕ c) (sym (of_codes-cons x xs apart.0))
 
--- where none is ahead, all were toggled
+-- where none is ahead, all were toggled_by
 pub toggled-all : (z w : Chain) (xs : List ℕ) (k : ℕ) → k ≡ length xs → AllPairs (λ b c. b ≢ c) xs
-    → toggled w (drop k xs) ≡ toggled z xs → w ≡ z ⊕ of_codes xs
+    → toggled_by w (drop k xs) ≡ toggled_by z xs → w ≡ z ⊕ of_codes xs
 toggled-all z w xs k all once so_far =
-    ap (toggled w) (sym (ap (λ n. drop n xs) all ∙ drop-length xs)) ∙ so_far ∙ toggled-sum z xs (IsApart-pairs xs once)
+    ap (toggled_by w) (sym (ap (λ n. drop n xs) all ∙ drop-length xs)) ∙ so_far ∙ toggled-sum z xs (IsApart-pairs xs once)
 
 -- ---- a code taken out
 at_code : (z : Chain) (s q : ℕ) (b : Bool) → holds z s ≡ b → (t : Bool) → eqb q s ≡ t

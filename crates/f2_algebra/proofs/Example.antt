@@ -2,8 +2,8 @@
 -- cell 1 of degree (0,0); cells 0, 3 and 4 of degree (-1,-1), each with one arrow, to cell 2 of degree (-2,-1); and
 -- cell 5 of degree (-2,-2).
 -- The rank at (-1,-1) is 2.
-use Rattle.std.proofs.Common.{◌≡◌, ◌||◌, eqb, slice_index, ◌⊎◌, inl, inr, subst, ℕ, zero, suc, ◌+◌, ◌<◌, ℤ, pos, negsuc, Bool, true, false, List, [], ◌∷◌, length, Option, Some, None, refl, sym, ap, ◌∙◌, arith}
-use Rattle.std.proofs.lemmas.Bool.{false≢true, eqb-true}
+use Rattle.std.proofs.Common.{◌≡◌, eqb, slice_index, inl, inr, subst, ℕ, zero, suc, ◌+◌, ◌<◌, ℤ, pos, negsuc, true, false, List, [], ◌∷◌, length, Option, Some, None, refl, sym, ap, ◌∙◌, arith}
+use Rattle.std.proofs.lemmas.Bool.{false≢true, eqb-true, or_cases}
 use Rattle.std.proofs.lemmas.Int.{ints}
 use Rattle.f2_algebra.specs.Chain.{Chain, holds, of_codes, nothing, single, ◌⊕◌, pairs_oddly}
 use Rattle.f2_algebra.specs.Complex.{Complex, arrow, border, IsComplex, IsAbove, AllOfDegree, IsCycle, IsRank}
@@ -70,13 +70,9 @@ laws = record { up_one = up_m_one; up_other = up_m_other; lowers = lowers; squar
 abbrev cells : Chain
 cells = of_codes (0 ∷ 3 ∷ 4 ∷ [])
 
-in_tail : (b c : Bool) → (b || c) ≡ true → (b ≡ true) ⊎ (c ≡ true)
-in_tail true c h = inl refl
-in_tail false c h = inr h
-
 code_in : (P : ℕ → Type 0) (xs : List ℕ) → Every P xs → (s : ℕ) → any s xs ≡ true → P s
 code_in P [] h s i = absurd (false≢true i)
-code_in P (x ∷ xs) h s i = elim (in_tail (eqb s x) (any s xs) i) [
+code_in P (x ∷ xs) h s i = elim (or_cases (eqb s x) (any s xs) i) [
   | inl e ↦ subst P (sym (eqb-true s x e)) h.0
   | inr j ↦ code_in P xs h.1 s j
 ]

@@ -32,9 +32,9 @@ pub record IsFilled {A : Type 0} (long : ℕ) (xs : List A) (i : ℕ) (d : A) (P
   pub each : (k : ℕ) → k < i → P k (slice_index_or xs k d)
 
 -- one more entry is written
-pub IsFilled-more : {A : Type 0} (long : ℕ) (xs : List A) (i : ℕ) (d : A) (P : ℕ → A → Type 0) (v : A) → i < long
+pub IsFilledWith-more : {A : Type 0} (long : ℕ) (xs : List A) (i : ℕ) (d : A) (P : ℕ → A → Type 0) (v : A) → i < long
     → IsFilled long xs i d P → P i v → IsFilled long (set xs i v) (i + 1) d P
-IsFilled-more long xs i d P v inside filled new =
+IsFilledWith-more long xs i d P v inside filled new =
     let whole = filled.whole in
     record {
       whole = length-set xs i v ∙ whole;

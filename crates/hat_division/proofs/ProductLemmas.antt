@@ -1,5 +1,5 @@
 -- The product of a table and a power of 1 + q^-1 t^-1.
-use Rattle.std.proofs.Common.{◌≡◌, ℕ, zero, suc, ◌+◌, ◌-◌, ◌*◌, ◌^◌, ◌<◌, ◌≤◌, ℤ, pos, ◌+ℤ◌, Bool, true, false, List, [], ◌∷◌, length, get_or, take, drop, All, AllPairs, IsTrue, refl, ap, sym, subst, ◌∙◌, ◌⊎◌, inl, inr, arith}
+use Rattle.std.proofs.Common.{◌≡◌, ℕ, suc, ◌+◌, ◌-◌, ◌*◌, ◌^◌, ◌<◌, ◌≤◌, ℤ, pos, ◌+ℤ◌, true, false, List, [], ◌∷◌, length, get_or, take, drop, All, AllPairs, IsTrue, refl, ap, sym, subst, ◌∙◌, inl, inr, arith}
 use Rattle.std.specs.Prelude.{◌-ℤ◌}
 use Rattle.std.specs.List.{insert}
 use Rattle.std.proofs.lemmas.Bool.{cases_Bool, cases_eq, cases_lt, false≢true}
@@ -7,30 +7,29 @@ use Rattle.std.proofs.lemmas.Int.{ints}
 use Rattle.std.proofs.lemmas.List.{get_or_default}
 use Rattle.std.proofs.lemmas.List.Edits.{length-insert, get_or-insert_below, get_or-insert_at, get_or-insert_above}
 use Rattle.std.proofs.lemmas.List.Elements.{All-append, All-cons, All-take, All-drop}
-use Rattle.std.proofs.lemmas.Nat.{mul-le}
 use Rattle.std.proofs.Math.Nat.{mul-le-mul_left, mul-le-mul_right, one-le-mul}
 use Rattle.std.proofs.Math.Pow.{pow_mono}
 use Rattle.hat_division.specs.Table.{comes_before, AreOrdered, IsTable}
-use Rattle.hat_division.specs.Product.{stands_at, part_at, rank_at, binomial, sum_first, product_rank, IsProduct, IsSmall}
+use Rattle.hat_division.specs.Product.{stands_at, rank_at, binomial, sum_first, product_rank, IsProduct}
 use Rattle.hat_division.specs.Inner.Products.{ArePositive, IsPut, IsPartOfProduct, AreShiftsPut, AreRowsPut}
 use Rattle.hat_division.specs.declared.tables.TableRow.{TableRow}
 use Rattle.hat_division.proofs.SumLemmas.{sum_first-le, term-le, term-found, sum_first-scaled, sum-binomials, binomial-none, binomial-positive}
-use Rattle.hat_division.proofs.RankLemmas.{apart, apart_back, order_of, comes_before-transitive, degrees_of, together_back, stands_itself, rank_at-nil, rank_at-insert, part_at-here, part_at-elsewhere, rank_at-le, rank_at-none, row_found, rank_at-row}
+use Rattle.hat_division.proofs.RankLemmas.{apart, apart_back, ordered_or_together, comes_before-transitive, degrees_of, stands_itself, rank_at-nil, rank_at-insert, part_at-here, part_at-elsewhere, rank_at-le, rank_at-none, row_found, rank_at-row}
 
--- a term of the product
-abbrev pub term : ℕ → List TableRow → ℤ → ℤ → ℕ → ℕ
-term k rows m a i = binomial k i * rank_at rows (m +ℤ pos i) (a +ℤ pos i)
+-- a product_term of the product
+abbrev pub product_term : ℕ → List TableRow → ℤ → ℤ → ℕ → ℕ
+product_term k rows m a i = binomial k i * rank_at rows (m +ℤ pos i) (a +ℤ pos i)
 
 pub product_rank-sum : (k : ℕ) (rows : List TableRow) (m a : ℤ)
-    → product_rank k rows m a ≡ sum_first (suc k) (term k rows m a)
+    → product_rank k rows m a ≡ sum_first (suc k) (product_term k rows m a)
 unfolding product_rank
 product_rank-sum k rows m a = refl
 
 plus_none : (z : ℤ) → z +ℤ pos 0 ≡ z
 plus_none z = omega (arith, ints)
 
--- the first term is the rank itself
-pub term-first : (k : ℕ) (rows : List TableRow) (m a : ℤ) → term k rows m a 0 ≡ rank_at rows m a
+-- the first product_term is the rank itself
+pub term-first : (k : ℕ) (rows : List TableRow) (m a : ℤ) → product_term k rows m a 0 ≡ rank_at rows m a
 term-first k rows m a =
     let place : rank_at rows (m +ℤ pos 0) (a +ℤ pos 0) ≡ rank_at rows m a =
     λ i. rank_at rows (plus_none m i) (plus_none a i) in
@@ -40,7 +39,7 @@ term-first k rows m a =
 -- so the product has at least the rank
 pub product_rank-ge : (k : ℕ) (rows : List TableRow) (m a : ℤ) → rank_at rows m a ≤ product_rank k rows m a
 product_rank-ge k rows m a =
-    omega (arith, product_rank-sum k rows m a, term-first k rows m a, term-le (suc k) 0 (term k rows m a) (omega arith))
+    omega (arith, product_rank-sum k rows m a, term-first k rows m a, term-le (suc k) 0 (product_term k rows m a) (omega arith))
 
 right_factor : (x y : ℕ) → 0 < x * y → 0 < y
 right_factor x y h = elim (cases_lt 0 y) [
@@ -52,7 +51,7 @@ right_factor x y h = elim (cases_lt 0 y) [
 pub product-found : (k : ℕ) (rows : List TableRow) (m a : ℤ) → 0 < product_rank k rows m a
     → (i : ℕ) × (i ≤ k) × (0 < rank_at rows (m +ℤ pos i) (a +ℤ pos i))
 product-found k rows m a h =
-    let t = term-found (suc k) (term k rows m a) (omega (arith, product_rank-sum k rows m a)) in
+    let t = term-found (suc k) (product_term k rows m a) (omega (arith, product_rank-sum k rows m a)) in
     let below = t.1 in
     (t.0, omega arith, right_factor (binomial k t.0) (rank_at rows (m +ℤ pos t.0) (a +ℤ pos t.0)) t.2)
 
@@ -60,8 +59,8 @@ product-found k rows m a h =
 pub product-reached : (k : ℕ) (rows : List TableRow) (m a : ℤ) (i : ℕ) → i ≤ k
     → 0 < rank_at rows (m +ℤ pos i) (a +ℤ pos i) → 0 < product_rank k rows m a
 product-reached k rows m a i l h =
-    let positive : 1 ≤ term k rows m a i = one-le-mul (binomial-positive k i l) (omega arith) in
-    omega (arith, product_rank-sum k rows m a, term-le (suc k) i (term k rows m a) (omega arith))
+    let positive : 1 ≤ product_term k rows m a i = one-le-mul (binomial-positive k i l) (omega arith) in
+    omega (arith, product_rank-sum k rows m a, term-le (suc k) i (product_term k rows m a) (omega arith))
 
 -- ---- how large the ranks are
 -- the rank is at most a bound of all ranks of the rows
@@ -79,7 +78,7 @@ pub product_rank-le : (k b : ℕ) (rows : List TableRow) (m a : ℤ) → ((m a :
     → product_rank k rows m a ≤ 2 ^ k * b
 product_rank-le k b rows m a h =
     let terms =
-    sum_first-le (suc k) (term k rows m a) (λ i. binomial k i * b)
+    sum_first-le (suc k) (product_term k rows m a) (λ i. binomial k i * b)
     (λ i l. mul-le-mul_left (binomial k i) (h (m +ℤ pos i) (a +ℤ pos i))) in
     let whole = mul-le-mul_right b (sum-binomials k (suc k)) in
     omega (arith, product_rank-sum k rows m a, sum_first-scaled (suc k) b (binomial k))
@@ -142,7 +141,7 @@ module _ (old : List TableRow) (row : TableRow) (p : ℕ) (positive : ArePositiv
     (rest : (d : TableRow) → p < length old → comes_before (get_or old p d) row ≡ false)
     (free : (d : TableRow) → p < length old → stands_at (get_or old p d) row.m row.a ≡ false) where
   next_after : (d : TableRow) → p < length old → comes_before row (get_or old p d) ≡ true
-  next_after d l = elim (order_of row (get_or old p d)) [
+  next_after d l = elim (ordered_or_together row (get_or old p d)) [
     | inl h ↦ h
     | inr other ↦ elim other [
       | inl h ↦ absurd (false≢true (sym (rest d l) ∙ h))

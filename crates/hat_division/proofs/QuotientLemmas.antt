@@ -1,6 +1,6 @@
 -- The quotient of a table by a power of 1 + q^-1 t^-1: from the top row down each rank of it is known; a table has
 -- a quotient or has none, and at most one.
-use Rattle.std.proofs.Common.{◌≡◌, ℕ, zero, suc, ◌+◌, ◌-◌, ◌*◌, ◌^◌, ◌<◌, ◌≤◌, ℤ, pos, ◌+ℤ◌, Bool, true, false, if◌then◌else◌, List, [], ◌∷◌, ◌++◌, length, get_or, take, drop, All, IsTrue, refl, ap, sym, subst, ◌∙◌, ◌⊎◌, inl, inr, arith}
+use Rattle.std.proofs.Common.{◌≡◌, ℕ, zero, suc, ◌+◌, ◌-◌, ◌*◌, ◌<◌, ◌≤◌, ℤ, pos, ◌+ℤ◌, true, false, if◌then◌else◌, List, [], ◌∷◌, ◌++◌, length, get_or, take, drop, All, IsTrue, refl, ap, sym, subst, ◌∙◌, ◌⊎◌, inl, inr, arith}
 use Rattle.std.specs.Prelude.{◌<ℤ◌, ◌-ℤ◌, ◌≤ℤ◌, neg_ℤ, ◌&&◌}
 use Rattle.std.specs.Ordering.{int_eq}
 use Rattle.std.proofs.lemmas.Bool.{cases_Bool, cases_eq, cases_lt, cond-true, cond-false}
@@ -9,14 +9,14 @@ use Rattle.std.proofs.lemmas.List.{get_or-drop, get_or-take, get_or_default, len
 use Rattle.std.proofs.lemmas.List.Elements.{All-push}
 use Rattle.std.proofs.lemmas.List.Quantifiers.{all_pairs_push}
 use Rattle.std.proofs.Math.Nat.{mul-le-mul_left}
-use Rattle.hat_division.specs.Table.{comes_before, AreOrdered}
-use Rattle.hat_division.specs.Product.{stands_at, part_at, rank_at, binomial, sum_first, product_rank, IsProduct, IsQuotient, IsSmall}
+use Rattle.hat_division.specs.Table.{comes_before}
+use Rattle.hat_division.specs.Product.{stands_at, rank_at, binomial, product_rank, IsProduct, IsQuotient, IsSmall}
 use Rattle.hat_division.specs.Inner.Products.{ArePositive}
 use Rattle.hat_division.specs.Inner.Quotients.{IsCandidate}
 use Rattle.hat_division.specs.declared.tables.TableRow.{TableRow}
 use Rattle.hat_division.proofs.SumLemmas.{sum_first-first, sum_first-le}
 use Rattle.hat_division.proofs.RankLemmas.{not_higher, later_not_higher, comes_before-degrees, degrees_of, together_back, stands_itself, rank_at-nil, rank_at-push, rank_at-more, rank_at-take-drop, part_at-here, part_at-elsewhere, rank_at-le, rank_at-none, row_found, rank_at-row, same_rows}
-use Rattle.hat_division.proofs.ProductLemmas.{term, term-first, product_rank-sum, product_rank-ge, product-found, product-step}
+use Rattle.hat_division.proofs.ProductLemmas.{product_term, term-first, product_rank-sum, product_rank-ge, product-step}
 
 -- what is left of a row's rank, in its bidegree
 abbrev pub left_at : TableRow → ℕ → ℤ → ℤ → ℕ
@@ -86,10 +86,10 @@ module _ (k : ℕ) (rows : List TableRow) (positive : ArePositive rows) (n : ℕ
   pub rest_of_rank : (q : List TableRow) → IsQuotient k rows q
       → rank_at q row.m row.a + product_rank k now row.m row.a ≡ row.rank
   rest_of_rank q h =
-      let none : term k now row.m row.a 0 ≡ 0 =
+      let none : product_term k now row.m row.a 0 ≡ 0 =
       omega (arith, term-first k now row.m row.a, so_far.under row.m row.a, earlier_none) in
       let sums =
-      sum_first-first k (term k q row.m row.a) (term k now row.m row.a) none
+      sum_first-first k (product_term k q row.m row.a) (product_term k now row.m row.a) none
       (λ i. ap (λ r. binomial k (suc i) * r) (above_same q h i)) in
       omega (
         arith,
@@ -284,7 +284,7 @@ module _ (k : ℕ) (rows c : List TableRow) (under : (m a : ℤ) → rank_at c m
         arith,
         product_rank-sum k c m a,
         product_rank-sum k rows m a,
-        sum_first-le (suc k) (term k c m a) (term k rows m a)
+        sum_first-le (suc k) (product_term k c m a) (product_term k rows m a)
             (λ i l. mul-le-mul_left (binomial k i) (under (m +ℤ pos i) (a +ℤ pos i))),
       )
 

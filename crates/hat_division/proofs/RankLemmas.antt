@@ -1,13 +1,13 @@
 -- Ranks by bidegree of lists of rows, and of lists in order; tables with the same ranks are equal.
-use Rattle.std.proofs.Common.{◌≡◌, ℕ, zero, suc, ◌+◌, ◌<◌, ◌≤◌, ℤ, pos, ◌+ℤ◌, Bool, true, false, cond, List, [], ◌∷◌, ◌++◌, length, get_or, take, drop, All, AllPairs, IsTrue, refl, ap, sym, subst, ◌∙◌, ◌⊎◌, inl, inr, arith}
-use Rattle.std.specs.Prelude.{◌<ℤ◌, int_lt}
+use Rattle.std.proofs.Common.{◌≡◌, ℕ, zero, suc, ◌+◌, ◌<◌, ◌≤◌, ℤ, true, false, List, [], ◌∷◌, ◌++◌, length, get_or, take, drop, All, refl, ap, sym, ◌∙◌, ◌⊎◌, inl, inr, arith}
+use Rattle.std.specs.Prelude.{◌<ℤ◌}
 use Rattle.std.specs.List.{insert}
 use Rattle.std.specs.Ordering.{int_eq}
 use Rattle.std.proofs.lemmas.Bool.{cases_Bool, cond-true, cond-false, false≢true, and_parts}
 use Rattle.std.proofs.lemmas.Bool.Decides.{Decides-int_eq}
 use Rattle.std.proofs.lemmas.Int.{ints}
 use Rattle.std.proofs.lemmas.List.Elements.{All-head, All-tail}
-use Rattle.std.proofs.lemmas.List.Sums.{sum_by-cons, sum_by-append, sum_by_push, sum_by_more, sum_by-take-drop, sum_by-insert, get_or-le-sum_by}
+use Rattle.std.proofs.lemmas.List.Sums.{sum_by-cons, sum_by_push, sum_by_more, sum_by-take-drop, sum_by-insert, get_or-le-sum_by}
 use Rattle.hat_division.specs.Table.{comes_before, AreOrdered}
 use Rattle.hat_division.specs.Product.{stands_at, part_at, rank_at}
 use Rattle.hat_division.specs.Inner.Products.{ArePositive}
@@ -22,8 +22,8 @@ pub apart_back : (p q : TableRow) (m a : ℤ) → comes_before p q ≡ true → 
 apart_back p q m a h s = grind (arith, ints)
 
 -- of two rows one comes before the other, or they stand in one bidegree
-pub order_of : (p q : TableRow) → (comes_before p q ≡ true) ⊎ ((comes_before q p ≡ true) ⊎ (stands_at q p.m p.a ≡ true))
-order_of p q = elim (cases_Bool (comes_before p q)) [
+pub ordered_or_together : (p q : TableRow) → (comes_before p q ≡ true) ⊎ ((comes_before q p ≡ true) ⊎ (stands_at q p.m p.a ≡ true))
+ordered_or_together p q = elim (cases_Bool (comes_before p q)) [
   | inl h ↦ inl h
   | inr h ↦ elim (cases_Bool (comes_before q p)) [
     | inl k ↦ inr (inl k)
@@ -185,7 +185,7 @@ first_positive row rows h = All-head (λ r. 1 ≤ r.rank) row rows h.positive
 -- the first rows are the same
 same_first : (p q : TableRow) (ps qs : List TableRow) → ArePositive (p ∷ ps) → ArePositive (q ∷ qs)
     → ((m a : ℤ) → rank_at (p ∷ ps) m a ≡ rank_at (q ∷ qs) m a) → p ≡ q
-same_first p q ps qs hp hq same = elim (order_of p q) [
+same_first p q ps qs hp hq same = elim (ordered_or_together p q) [
   | inl h ↦
       absurd (omega (
         arith,

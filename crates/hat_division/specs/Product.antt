@@ -3,13 +3,11 @@
 --     stands_at row m a            the row stands in the bidegree (m, a)
 --     part_at row m a              the part of a row in the bidegree (m, a): its rank, or 0 where it stands elsewhere
 --     rank_at rows m a             the rank in the bidegree (m, a): that of the row there, or 0 where there is none. In
---                                  a
---                                  table at most one row is there; of a list with more, it is the sum
+--                                  a table at most one row is there; of a list with more, it is the sum
 --     binomial n i                 the number of ways to choose i things of n
 --     sum_first n f                f 0 + f 1 + .. + f (n - 1)
 --     product_rank k rows m a      the rank in the bidegree (m, a) of the product of the table and (1 + q^-1 t^-1)^k:
---                                  the
---                                  sum over i from 0 to k of binomial k i times the rank in (m + i, a + i)
+--                                  the sum over i from 0 to k of binomial k i times the rank in (m + i, a + i)
 --     IsProduct k rows product     this product is the table `product`, in each bidegree
 --     IsQuotient k rows quotient   `quotient` has the order of tables and ranks above 0, and its product with
 --                                  (1 + q^-1 t^-1)^k is the table `rows`

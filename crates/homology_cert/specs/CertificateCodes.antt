@@ -4,12 +4,12 @@
 --     cycle_pair_code, step_pair_code, cell_code, certificate_code   how the values of these are told apart
 --     cycle_pair_of n p, step_pair_of n p, cell_of n c, certificate_of c
 --                           the same with the states, of size n, that the codes stand for
-use Rattle.std.specs.Prelude.{ℕ, ◌+◌, ◌-◌, ◌^◌, ◌<◌, ◌≤◌, ℤ, Bool, List, length, IsTrue, refl, map}
+use Rattle.std.specs.Prelude.{ℕ, ℤ, List, refl, map}
 use Rattle.std.specs.Coded.{Coded, code_by, coded×, coded_list, coded_ℕ, coded_ℤ}
 use Rattle.std.specs.FinSet as finite_set
-use Rattle.f2_algebra.specs.Chain.{Chain, codes}
+use Rattle.f2_algebra.specs.Chain.{Chain}
 use Rattle.f2_algebra.specs.Certificate.{CyclePair, StepPair, CertCell}
-use Rattle.torus_geom.specs.Marks.{Marks, size, IsGrid}
+use Rattle.torus_geom.specs.Marks.{Marks, size}
 use Rattle.torus_geom.specs.Codes.{states_of}
 use Rattle.homology_cert.specs.Certificates as states
 

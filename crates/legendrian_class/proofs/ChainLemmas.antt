@@ -1,5 +1,5 @@
 -- The codes of a chain one by one: the least, those that pass a test, how many they are.
-use Rattle.std.proofs.Common.{◌≡◌, ℕ, zero, suc, ◌+◌, ◌<◌, ◌≤◌, Bool, true, false, cond, ◌&&◌, ◌||◌, eqb, List, [], ◌∷◌, length, drop, slice_index, All, Option, refl, sym, ap, ap₂, subst, ◌∙◌, add-one, inl, inr, arith}
+use Rattle.std.proofs.Common.{◌≡◌, ℕ, zero, suc, ◌+◌, ◌<◌, ◌≤◌, Bool, true, false, cond, ◌&&◌, ◌||◌, eqb, List, [], ◌∷◌, length, drop, slice_index, Option, refl, sym, ap, ap₂, subst, ◌∙◌, add-one, inl, inr, arith}
 use Rattle.std.specs.List.{filter, slice_get}
 use Rattle.std.specs.List.Sorted.{IsStrictlyIncreasing}
 use Rattle.std.specs.Option.{IfSome, IsNone}
@@ -19,10 +19,6 @@ each_in P (x ∷ xs) all s is = elim (cases_Bool (eqb s x)) [
   | inl same ↦ subst P (sym (eqb-true s x same)) (all 0 (omega arith))
   | inr other ↦ each_in P xs (λ k l. all (suc k) (omega arith)) s (sym (ap (λ b. b || any s xs) other) ∙ is)
 ]
-
--- what holds of all codes holds of each code that the chain holds
-pub each_code : (P : ℕ → Type 0) (z : Chain) → All P (codes z) → (s : ℕ) → holds z s ≡ true → P s
-each_code P z all s is = each_in P (codes z) (λ k l. all k 0 l) s (sym (holds-codes z s) ∙ is)
 
 -- ---- the least code
 first_place : (x : ℕ) (xs : List ℕ) → IsStrictlyIncreasing (x ∷ xs) → (k : ℕ) → k < length (x ∷ xs)
@@ -46,8 +42,8 @@ pub first-least : (z : Chain) (o : Option ℕ) → o ≡ slice_get (codes z) 0 �
 first-least z o e = subst (λ p. IfSome p (IsLeast z)) (sym e) (first_of z (codes z) refl (rising-codes z)).0
 
 -- and where there is none, the chain is empty
-pub first-none : (z : Chain) (o : Option ℕ) → o ≡ slice_get (codes z) 0 → IsNone o → z ≡ nothing
-first-none z o e none = (first_of z (codes z) refl (rising-codes z)).1 (subst IsNone e none)
+pub first_code-none : (z : Chain) (o : Option ℕ) → o ≡ slice_get (codes z) 0 → IsNone o → z ≡ nothing
+first_code-none z o e none = (first_of z (codes z) refl (rising-codes z)).1 (subst IsNone e none)
 
 -- ---- the codes that pass a test
 -- those of a list that pass it toggled, in order

@@ -1,9 +1,9 @@
 -- The turned states of a chain, one after another; and a chain of states is carried to a chain of states.
-use Rattle.std.proofs.Common.{List, [], ap, arith, get_or, inl, inr, length, map, subst, sym, take, ℕ, ◌++◌, ◌+◌, ◌<◌, ◌∙◌, ◌∷◌, ◌≡◌}
+use Rattle.std.proofs.Common.{List, [], ap, arith, get_or, inl, inr, length, map, subst, sym, take, ℕ, ◌+◌, ◌<◌, ◌∙◌, ◌∷◌, ◌≡◌}
 use Rattle.std.proofs.lemmas.Bool.{cases_lt}
 use Rattle.std.proofs.lemmas.List.{map-append, take_more}
 use Rattle.f2_algebra.proofs.Chains.Lists.{All-codes}
-use Rattle.f2_algebra.proofs.Chains.Sums.{add-nothing, add_assoc, nothing-add}
+use Rattle.f2_algebra.proofs.Chains.Sums.{total-push}
 use Rattle.f2_algebra.specs.Chain.{Chain, codes, holds, single, sum_over, total, ◌⊕◌}
 use Rattle.state_rank.specs.States.{factorial, rank, unrank}
 use Rattle.torus_geom.specs.Marks.{Marks, size}
@@ -15,15 +15,11 @@ use Rattle.grid_moves.specs.Carried.{turned_state}
 use Rattle.grid_moves.specs.Moves.{turned}
 use Rattle.grid_moves.specs.declared.turns.Side.{Side}
 use Rattle.torus_geom.specs.Codes.{HasRanks}
-use Rattle.legendrian_class.proofs.ChainLemmas.{each_code}
+use Rattle.f2_algebra.proofs.Chains.Sets.{each_code}
 
 -- the sum of the turned states, by their ranks
 abbrev pub sum_of_turned : Side → ℕ → List ℕ → Chain
 sum_of_turned side n cs = total (map (λ k. single (moved n (turned_state side) k)) cs)
-
-total-push : (zs : List Chain) (z : Chain) → total (zs ++ z ∷ []) ≡ total zs ⊕ z
-total-push [] z = add-nothing z ∙ sym (nothing-add z)
-total-push (w ∷ zs) z = ap (λ u. w ⊕ u) (total-push zs z) ∙ sym (add_assoc w (total zs) z)
 
 -- one more is added
 pub turned_added : (side : Side) (n : ℕ) (cs : List ℕ) (i code k : ℕ) (x y : List ℕ) (old new : Chain) → i < length cs

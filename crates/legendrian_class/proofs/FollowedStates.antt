@@ -24,11 +24,12 @@ use Rattle.legendrian_class.specs.Inner.CodeFollowed as over_codes
 use Rattle.torus_geom.specs.Codes.{states_of}
 use Rattle.legendrian_class.specs.FollowedCodes.{FollowedCodes, followed_of}
 use Rattle.legendrian_class.specs.Followed.{listed, at_start, after_turn, after_commutation}
-use Rattle.torus_geom.proofs.Chains.StateTests.{same_test, is_same-is, is_same-true, any-member, member_of_any}
+use Rattle.torus_geom.proofs.Chains.StateTests.{is_same-is, is_same-true, any-member, member_of_any}
 use Rattle.torus_geom.proofs.Chains.CodesLemmas.{AreRanks, is_states_of, states_of-nothing}
 use Rattle.grid_moves.proofs.Exchanged.SwappedTwice.{size-swapped}
 use Rattle.grid_moves.proofs.Turned.CarriedStates.{states_of-turned}
 use Rattle.pentagon_map.proofs.States.StateImages.{states_of-image}
+use Rattle.f2_algebra.proofs.Chains.Tables.{same_test}
 
 -- a set of the ranks of listed states stands for the chain of the list
 pub states_of-listed : (n : ℕ) (xs : List (List ℕ)) → ((x : List ℕ) → Contains xs x → IsBijection n x)

@@ -12,9 +12,9 @@ use Rattle.f2_algebra.specs.Slice.{Slice, slice_complex, IsReduced}
 use Rattle.f2_algebra.specs.Bigraded.{maslov_if, at_alexander}
 use Rattle.f2_algebra.specs.Verdict.{IsNullBy, IsAliveBy}
 use Rattle.f2_algebra.proofs.Chains.Tables.{◌⊻◌, same}
-use Rattle.f2_algebra.proofs.Chains.Sets.{same_chain, holds-nothing, holds-add, holds-where_code, weight, weight-same, weight-none, weight-where, xor-true}
+use Rattle.f2_algebra.proofs.Chains.Sets.{same_chain, holds-nothing, holds-add, holds-where_code, weight, weight-same, weight-none, weight-where, xor-true, each_code}
 use Rattle.f2_algebra.proofs.Chains.Sums.{add_comm, add_assoc, add_self, add-nothing, add_back, holds-sum_over}
-use Rattle.f2_algebra.proofs.Cancelling.Cancellation.{border-add, border-nothing}
+use Rattle.f2_algebra.proofs.Cancelling.Cancellation.{complex_border-add, border-nothing}
 use Rattle.f2_algebra.proofs.Cancelling.LogLemmas.{none_where, correction-by}
 use Rattle.f2_algebra.proofs.Ranks.Bigraded.{with_second, at_alexander_IsPartOf}
 use Rattle.f2_algebra.proofs.Certificates.Verdict.{null_by_correction, alive_by_pull}
@@ -27,7 +27,7 @@ use Rattle.sparse_complex.proofs.GridPartLemmas.{part_rules, degree-cell, degree
 use Rattle.torus_geom.specs.Codes.{HasRanks}
 use Rattle.legendrian_class.specs.Inner.CodeVerdicts.{alexander_at}
 use Rattle.legendrian_class.specs.Inner.Parts.{has_alexander, IsNullBut}
-use Rattle.legendrian_class.proofs.ChainLemmas.{each_code, fewer-where}
+use Rattle.legendrian_class.proofs.ChainLemmas.{fewer-where}
 
 -- a part that is told of a grid that is the same
 pub part_of_grid : (g h : Marks) (part : Chain) (a : ℤ) (z : Chain) → h ≡ g → part ≡ where_code (has_alexander h a) z
@@ -195,17 +195,17 @@ module _ (g : Marks) (grid : IsGrid g) (z : Chain) (states : HasRanks (size g) z
       sym (cell-degree g a s (each_code (λ code. code < factorial (size g)) z states s in_z))
       ∙ ap is_some (of s in_f) in
       false≢true (sym not_in ∙ in_part s ∙ ap₂ ◌&&◌ in_z at))
-      (border-add C z part ∙ ap₂ ◌⊕◌ cycle there.cycle ∙ add_self nothing)
+      (complex_border-add C z part ∙ ap₂ ◌⊕◌ cycle there.cycle ∙ add_self nothing)
       there)
 
   module _ (left bound : Chain) (but : IsNullBut g z left bound) (code : ℕ) (held : holds left code ≡ true)
-      (at_code : a ≡ alexander_at g code) where
+      (each_code : a ≡ alexander_at g code) where
     degree_of : (s : ℕ) → has_alexander g a s ≡ true → alexander_at g s ≡ a
     degree_of s is = (Decides-int_eq (alexander_at g s) a).0 is
 
     part_in_left : (s : ℕ) → holds part s ≡ true → holds left s ≡ true
     part_in_left s h = let (in_z, is) = part_in_z s h in
-        but.closed code s held in_z (sym at_code ∙ sym (degree_of s is))
+        but.closed code s held in_z (sym each_code ∙ sym (degree_of s is))
 
     -- a null part joins those before it
     pub null-next : (b : Chain) → IsNullBy (at_alexander a (grid_complex g)) part b
@@ -242,7 +242,7 @@ module _ (g : Marks) (grid : IsGrid g) (z : Chain) (states : HasRanks (size g) z
         subst (λ c. length (codes c) < length (codes left)) (sym others)
         (fewer-where (λ s. not (holds part s)) left code held
         (ap not (in_part code
-        ∙ ap₂ ◌&&◌ (but.within code held) ((Decides-int_eq (alexander_at g code) a).1 (sym at_code)))))
+        ∙ ap₂ ◌&&◌ (but.within code held) ((Decides-int_eq (alexander_at g code) a).1 (sym each_code)))))
       where
         but_part : (l p : Bool) → (p ≡ true → l ≡ true) → (l ⊻ p) ≡ (l && not p)
         but_part true p inside = same 1 (λ p. true ⊻ p) (λ p. true && not p) refl p

@@ -5,9 +5,8 @@ use Rattle.f2_algebra.specs.Chain.{Chain, holds, nothing, pairs_oddly}
 use Rattle.f2_algebra.specs.Complex.{AllCells}
 use Rattle.f2_algebra.specs.Bigraded.{up_m}
 use Rattle.f2_algebra.specs.Verdict.{IsNullBy, IsAliveBy}
-use Rattle.f2_algebra.proofs.Chains.Sets.{any, holds-nothing, weight-nothing, pairs_oddly-weight}
+use Rattle.f2_algebra.proofs.Chains.Sets.{any, holds-nothing, weight-nothing, pairs_oddly-weight, each_code}
 use Rattle.f2_algebra.proofs.Chains.Lists.{All-codes}
-use Rattle.f2_algebra.proofs.Cancelling.Cancellation.{same_some}
 use Rattle.f2_algebra.proofs.Certificates.Verdict.{even_with_borders, exists_verdict}
 use Rattle.state_rank.specs.States.{factorial, unrank}
 use Rattle.torus_geom.specs.Marks.{Marks, size, IsGrid}
@@ -19,19 +18,9 @@ use Rattle.rectangles.proofs.Law.GridComplexLemmas.{grid_complex_rules}
 use Rattle.legendrian_class.specs.declared.verdicts.ClassVerdict.TheVariants as verdict
 use Rattle.torus_geom.specs.Codes.{HasRanks}
 use Rattle.legendrian_class.specs.Inner.CodeVerdicts.{IsNotCycle, IsNull, IsAlive, HasVerdict, HasOneVerdict}
-use Rattle.legendrian_class.proofs.ChainLemmas.{each_code}
+use Rattle.rectangles.proofs.Homology.HomologyLemmas.{degree_is}
 
 -- ---- the cells of the grid complex
-degree_if : (g : Marks) (s : ℕ) (b : Bool) (d : ℤ × ℤ)
-    → (if b then Some (bidegree g (unrank (size g) s)) else None) ≡ Some d
-    → (b ≡ true) × (bidegree g (unrank (size g) s) ≡ d)
-degree_if g s true d e = (refl, same_some (bidegree g (unrank (size g) s)) d e)
-degree_if g s false d e = absurd (false≢true (ap is_some e))
-
--- a code that has a degree is the rank of a state, of that degree
-degree_is : (g : Marks) (s : ℕ) (d : ℤ × ℤ) → (grid_complex g).degree s ≡ Some d
-    → (s < factorial (size g)) × (bidegree g (unrank (size g) s) ≡ d)
-degree_is g s d e = let told = degree_if g s _ d e in (ltb-true s (factorial (size g)) told.0, told.1)
 
 -- the targets of a state are its border
 targets_is : (g : Marks) (s : ℕ) → s < factorial (size g)

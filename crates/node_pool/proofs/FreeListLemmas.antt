@@ -1,14 +1,12 @@
 -- The map of a pool, and what each step makes of it.
 --
 -- The map is read key by key: a place below `fresh` that was not given back has the node that lies there
--- (`get-live_map`). So
--- where a step writes one node and changes what is given back or fresh, the map changes at that place alone
--- (`live_map-set_live`, `live_map-set_dead`); the list of what was given back reads none but its own nodes
+-- (`get-live_map`). So where a step writes one node and changes what is given back or fresh, the map changes at that
+-- place alone (`live_map-set_live`, `live_map-set_dead`); the list of what was given back reads none but its own nodes
 -- (`free_ids-set`), and neither sees what a growth adds (`free_ids-longer`, `live_map-longer`). The lemmas of the last
--- part
--- give for each call of the pool its new invariant and its new map together.
+-- part give for each call of the pool its new invariant and its new map together.
 use Rattle.std.proofs.Common.{◌≡◌, ℕ, zero, suc, ◌+◌, ◌-◌, ◌<◌, ◌≤◌, Bool, true, false, cond, not, ◌&&◌, ◌||◌, eqb, ltb, List, [], ◌∷◌, length, set, take, ◌⊎◌, inl, inr, Some, None, is_some, ◌≢◌, refl, sym, ap, ◌∙◌, arith}
-use Rattle.std.proofs.lemmas.Bool.{eqb-false, eq-eqb, ne_eqb, cases_eq, cases_order, cases_Bool, lt-ltb, le-ltb, ltb-true, false≢true}
+use Rattle.std.proofs.lemmas.Bool.{eqb-false, eq-eqb, ne_eqb, cases_eq, cases_order, cases_Bool, lt-ltb, le-ltb, ltb-true, false≢true, or_parts}
 use Rattle.std.proofs.lemmas.List.{get_or-set_same, get_or-set_other, get_or-take, length-take}
 use Rattle.std.specs.Ordering.{nat_cmp, eq_by_cmp}
 use Rattle.std.specs.Cmp.{unsigned_tied, nat_cmp_total}
@@ -163,16 +161,13 @@ live_map-set_dead ns gone gone' n n' id x a same = same_nodes _ _ (λ q. at q (c
         ∙ sym (get-remove_other (live_map ns gone n) id q d ∙ get-live_map ns gone n q)
 
 -- ---- the places that were given back
-pub or_false : (b c : Bool) → (b || c) ≡ false → (b ≡ false) × (c ≡ false)
-or_false false c e = (refl, e)
-or_false true c e = absurd (false≢true (sym e))
 
 -- their list reads no node but their own
 pub free_ids-set : (ns : List Node) (n h id : ℕ) (x : Node) → has (free_ids ns n h) id ≡ false
     → free_ids (set ns id x) n h ≡ free_ids ns n h
 free_ids-set ns zero h id x r = refl
 free_ids-set ns (suc n) h id x r =
-    let parts = or_false (eqb id h) (has (free_ids ns n (node_at ns h).next_out) id) r in
+    let parts = or_parts (eqb id h) (has (free_ids ns n (node_at ns h).next_out) id) r in
     let read : node_at (set ns id x) h ≡ node_at ns h =
     get_or-set_other ns id h x blank (λ e. eqb-false id h parts.0 (sym e)) in
     ap (λ is. h ∷ is) (ap (λ y. free_ids (set ns id x) n y.next_out) read

@@ -10,27 +10,27 @@ use Rattle.node_pool.specs.Inner.FreeList.{free_ids, has, live_map, AreApart, Is
 use Rattle.node_pool.proofs.FreeListLemmas.{AreApart-more, Map, free_ids-longer, free_ids-set, get-live_map_dead, has_above, is_live, is_live_above, is_live_gone, is_live_if, len-insert_live, len-insert_new, len-remove_live, live_map-longer, live_map-set_dead, live_map-set_live, live_place}
 
 module _ (ns : List Node) (head fresh limit : ℕ) (x : Node) where
-  abbrev pub next : ℕ
-  next = (node_at ns head).next_out
+  abbrev pub next_free : ℕ
+  next_free = (node_at ns head).next_out
 
   abbrev pub ms : List Node
   ms = set ns head x
 
   takes_next : (f : ℕ) → IsPool ns head (suc f) fresh limit
-      → IsPool ms next f fresh limit
-      × (live_map ms (free_ids ms f next) fresh ≡ insert (live_map ns (free_ids ns (suc f) head) fresh) head x)
+      → IsPool ms next_free f fresh limit
+      × (live_map ms (free_ids ms f next_free) fresh ≡ insert (live_map ns (free_ids ns (suc f) head) fresh) head x)
       × (get (live_map ns (free_ids ns (suc f) head) fresh) head ≡ None)
   takes_next f ok =
-      let rest = free_ids ns f next in let gone = free_ids ns (suc f) head in
+      let rest = free_ids ns f next_free in let gone = free_ids ns (suc f) head in
       let a = ok.apart in
-      let kept : free_ids ms f next ≡ rest = free_ids-set ns f next head x a.1 in
+      let kept : free_ids ms f next_free ≡ rest = free_ids-set ns f next_free head x a.1 in
       let inside : head < length ns = omega (arith, a.0, ok.begun, ok.room) in
       let absent : get (live_map ns gone fresh) head ≡ None =
       get-live_map_dead ns gone fresh head
       (is_live_gone gone fresh head (ap (λ b. b || has rest head) (eq-eqb head head refl))) in
       let others : (q : ℕ) → q ≢ head → is_live rest fresh q ≡ is_live gone fresh q =
       λ q d. ap (λ b. ltb q fresh && not (b || has rest q)) (sym (ne_eqb q head d)) in
-      let now : live_map ms (free_ids ms f next) fresh ≡ insert (live_map ns gone fresh) head x =
+      let now : live_map ms (free_ids ms f next_free) fresh ≡ insert (live_map ns gone fresh) head x =
       ap (λ is. live_map ms is fresh) kept
       ∙ live_map-set_live ns gone rest fresh fresh head x inside (is_live_if rest fresh head a.0 a.1) others in (
         record {

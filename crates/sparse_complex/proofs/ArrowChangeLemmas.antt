@@ -1,15 +1,15 @@
 -- One arrow changes.
 use Rattle.std.proofs.Common.{◌≡◌, ℕ, zero, suc, ◌+◌, ◌<◌, ◌≤◌, Bool, true, false, not, cond, ◌&&◌, ◌||◌, eqb, List, [], ◌∷◌, length, get_or, max, leb, Option, Some, None, is_some, IfSome, IsNone, replicate, nat_cmp, ◌⊎◌, inl, inr, refl, sym, ap, ap₂, subst, ◌∙◌, arith}
 use Rattle.std.specs.FinMap as fin
-use Rattle.std.proofs.lemmas.Bool.{eqb-true, ne_eqb, eq-eqb, true≢false, false≢true, and_parts, and_from}
-use Rattle.f2_algebra.proofs.Chains.Tables.{◌⊻◌}
+use Rattle.std.proofs.lemmas.Bool.{eqb-true, ne_eqb, eq-eqb, true≢false, and_parts, and_from, not-true, or_cases, or_left, or_right}
+use Rattle.f2_algebra.proofs.Chains.Tables.{◌⊻◌, same_test, eqb_comm}
 use Rattle.node_pool.specs.declared.Node.{Node}
 use Rattle.sparse_complex.specs.declared.links.Head.{Head}
 use Rattle.sparse_complex.specs.declared.links.Links.{Links}
 use Rattle.sparse_complex.specs.declared.slices.Cell.{Cell}
 use Rattle.sparse_complex.specs.Inner.Lists.{Nodes, no_id, no_head, among, AreDistinct, node_at, is_node, head_at, ids_from, outs_from, ins_from, outs, ins, IsList, AreInLists}
 use Rattle.sparse_complex.specs.Inner.Graph.{no_cell, code_at, IsArrow, AreListed, width, outs_of, ins_of, tos, has_arrow, IsLinked, IsUnlinked, IsToggled}
-use Rattle.sparse_complex.proofs.ListLemmas.{same_test, eqb_comm, leave_out}
+use Rattle.sparse_complex.proofs.ListLemmas.{leave_out}
 use Rattle.sparse_complex.proofs.UnlinkLemmas.{from-unlinked, to-unlinked, is_node-unlinked, length-unlinked, outs-unlinked, ins-unlinked, AreInLists-unlinked}
 use Rattle.sparse_complex.proofs.PutInLemmas.{from-put, to-put, is_node-linked, length-linked, outs-linked, ins-linked, AreInLists-linked}
 use Rattle.sparse_complex.proofs.WriteLemmas.{AreInLists-same}
@@ -36,22 +36,6 @@ or_new true true h = h refl
 or_new true false h = refl
 or_new false true h = refl
 or_new false false h = refl
-
-pub not-true : (b : Bool) → not b ≡ true → b ≡ false
-not-true true h = sym h
-not-true false h = refl
-
-pub or_cases : (a b : Bool) → (a || b) ≡ true → (a ≡ true) ⊎ (b ≡ true)
-or_cases true b h = inl refl
-or_cases false b h = inr h
-
-pub or_left : (a b : Bool) → a ≡ true → (a || b) ≡ true
-or_left true b h = refl
-or_left false b h = absurd (false≢true h)
-
-pub or_right : (a b : Bool) → b ≡ true → (a || b) ≡ true
-or_right true b h = refl
-or_right false b h = h
 
 module _ (old new : Links) (t : AreListed old) (id : ℕ) (here : is_node old.pool.nodes id ≡ true)
     (u : IsUnlinked id old new) where

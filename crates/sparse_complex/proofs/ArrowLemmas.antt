@@ -8,7 +8,7 @@ use Rattle.std.proofs.Common.{◌≡◌, ℕ, zero, suc, ℤ, ◌+◌, ◌<◌, 
 use Rattle.std.proofs.lemmas.List.{take_more, map-append}
 use Rattle.std.proofs.lemmas.Bool.{eq-eqb, eqb-true, ne_eqb, lt-ltb, ltb-true, true≢false, and_parts, and_from}
 use Rattle.f2_algebra.specs.Complex.{Complex, arrow}
-use Rattle.f2_algebra.proofs.Chains.Tables.{same}
+use Rattle.f2_algebra.proofs.Chains.Tables.{same, same_test}
 use Rattle.f2_algebra.proofs.Chains.Sets.{any-append, holds-codes, IsApart, IsApart-codes}
 use Rattle.state_rank.specs.States.{rank, unrank, factorial}
 use Rattle.f2_algebra.specs.Chain.{holds, codes}
@@ -22,7 +22,7 @@ use Rattle.sparse_complex.specs.Inner.Lists.{among, AreDistinct, linked_heads}
 use Rattle.sparse_complex.specs.Inner.Graph.{AreListed, width, has_arrow, code_at, IsLinked}
 use Rattle.sparse_complex.specs.Inner.Stored.{key_of, is_live}
 use Rattle.sparse_complex.specs.Inner.Built.{AreCells, AreKeys, AreLinksBelow}
-use Rattle.sparse_complex.proofs.ListLemmas.{same_test, in_head, in_tail}
+use Rattle.sparse_complex.proofs.ListLemmas.{in_head, in_tail}
 use Rattle.sparse_complex.proofs.WriteLemmas.{AreInLists-same}
 use Rattle.sparse_complex.proofs.PutInLemmas.{length-linked}
 use Rattle.sparse_complex.proofs.ArrowChangeLemmas.{has_arrow-linked}
@@ -52,10 +52,6 @@ links-none D cells l t w none = record {
   where
     no : (p : ℕ) → ltb p 0 ≡ false
     no p = grind arith
-
-pub or_false : (b : Bool) → (b || false) ≡ b
-or_false true = refl
-or_false false = refl
 
 pub arrows-start : (D : Complex ℤ) (cells : List Cell) (key : ℕ) (old now : Links) → AreLinksBelow D cells key old
     → now.pool.nodes ≡ old.pool.nodes → now.heads.items ≡ old.heads.items → ArrowsPlace D cells key [] now

@@ -16,13 +16,13 @@ use Rattle.sparse_complex.specs.declared.slices.Cell.{Cell}
 use Rattle.sparse_complex.specs.Inner.Graph.{no_cell, code_at}
 use Rattle.sparse_complex.specs.Inner.Stored.{most_keys, maslov_at}
 use Rattle.sparse_complex.specs.Inner.Built.{count_of, AreCells}
-use Rattle.sparse_complex.proofs.ListLemmas.{eqb_comm}
+use Rattle.f2_algebra.proofs.Chains.Tables.{eqb_comm}
 
 -- ---- the visit of the states
 -- the number of states is not large
-pub factorial_fits : (n : ℕ) → n ≤ MAX_SIZE → factorial n ≤ most_keys
+pub states_fit_keys : (n : ℕ) → n ≤ MAX_SIZE → factorial n ≤ most_keys
 unfolding factorial
-factorial_fits n m = let grown = factorial_grows n MAX_SIZE m in omega arith
+states_fit_keys n m = let grown = factorial_grows n MAX_SIZE m in omega arith
 
 -- while states are left, x is the state of the rank `code`
 abbrev pub IsVisited : ℕ → ℕ → List ℕ → Type 0
@@ -50,23 +50,23 @@ visited-next n code old new went below visited steps last more =
 pub ltb-next : (c n : ℕ) → ltb c (n + 1) ≡ (ltb c n || eqb c n)
 ltb-next c n = grind arith
 
-pub count-cons : (c : ℕ) (x : Cell) (cells : List Cell)
+pub count_of-cons : (c : ℕ) (x : Cell) (cells : List Cell)
     → count_of c (x ∷ cells) ≡ cond (eqb x.code c) 1 0 + count_of c cells
-count-cons c x cells = sum_by-cons (λ y. cond (eqb y.code c) 1 0) x cells
+count_of-cons c x cells = sum_by-cons (λ y. cond (eqb y.code c) 1 0) x cells
 
 count-head : (c : ℕ) (x : Cell) (cells : List Cell) → eqb x.code c ≡ true
     → count_of c (x ∷ cells) ≡ suc (count_of c cells)
-count-head c x cells e = count-cons c x cells ∙ ap (λ b. cond b 1 0 + count_of c cells) e ∙ omega arith
+count-head c x cells e = count_of-cons c x cells ∙ ap (λ b. cond b 1 0 + count_of c cells) e ∙ omega arith
 
-pub count-other : (c : ℕ) (x : Cell) (cells : List Cell) → eqb x.code c ≡ false → count_of c (x ∷ cells) ≡ count_of c cells
-count-other c x cells e = count-cons c x cells ∙ ap (λ b. cond b 1 0 + count_of c cells) e ∙ omega arith
+pub count_of-other : (c : ℕ) (x : Cell) (cells : List Cell) → eqb x.code c ≡ false → count_of c (x ∷ cells) ≡ count_of c cells
+count_of-other c x cells e = count_of-cons c x cells ∙ ap (λ b. cond b 1 0 + count_of c cells) e ∙ omega arith
 
 count-more : (c : ℕ) (x : Cell) (cells : List Cell) → count_of c cells ≤ count_of c (x ∷ cells)
 count-more c x cells = by (eqb x.code c) refl
   where
     by : (b : Bool) → eqb x.code c ≡ b → count_of c cells ≤ count_of c (x ∷ cells)
     by true e = let h : count_of c (x ∷ cells) ≡ suc (count_of c cells) = count-head c x cells e in omega arith
-    by false e = let h : count_of c (x ∷ cells) ≡ count_of c cells = count-other c x cells e in omega arith
+    by false e = let h : count_of c (x ∷ cells) ≡ count_of c cells = count_of-other c x cells e in omega arith
 
 -- the cell at a place is counted
 count-at : (cells : List Cell) (k : ℕ) (c : ℕ) → k < length cells → code_at cells k ≡ c → 1 ≤ count_of c cells
@@ -99,7 +99,7 @@ place-of (x ∷ cells) c h = by (eqb x.code c) refl (place-of cells c)
         → (k : ℕ) × (k < length (x ∷ cells)) × (code_at (x ∷ cells) k ≡ c)
     by true e r = (0, omega arith, eqb-true x.code c e)
     by false e r =
-        let d : count_of c (x ∷ cells) ≡ count_of c cells = count-other c x cells e in
+        let d : count_of c (x ∷ cells) ≡ count_of c cells = count_of-other c x cells e in
         let (k, l, is) = r (omega arith) in
         (suc k, omega arith, is)
 
@@ -179,7 +179,7 @@ module _ (D : Complex ℤ) (n : ℕ) (cells : List Cell) (s : AreCells D n cells
     counts = λ c.
         sum_by-append (λ (x : Cell). cond (eqb x.code c) 1 0) cells (record { code = n; maslov = m } ∷ [])
         ∙ ap₂ (λ a b. a + b) (s.counts c)
-        (count-cons c (record { code = n; maslov = m }) [] ∙ last (cond (eqb n c) 1 0)
+        (count_of-cons c (record { code = n; maslov = m }) [] ∙ last (cond (eqb n c) 1 0)
         ∙ ap (λ b. cond b 1 0) (eqb_comm n c))
         ∙ more c (eqb c n) refl (ltb c n) refl
         ∙ ap (λ b. cond (b && is_some (D.degree c)) 1 0) (sym (ltb-next c n));

@@ -1,10 +1,10 @@
 -- The cancelled slice.
 use Rattle.std.proofs.Common.{◌≡◌, ℕ, ◌*◌, ◌<◌, ◌≤◌, Bool, true, false, not, cond, ◌&&◌, ◌||◌, eqb, ltb, List, length, set, length-set, Some, None, ◌⊎◌, inl, inr, refl, sym, ap, ap₂, subst, ◌∙◌, arith}
-use Rattle.std.proofs.lemmas.Bool.{true≢false, and_parts, and_from}
+use Rattle.std.proofs.lemmas.Bool.{true≢false, and_parts, and_from, not-true}
 use Rattle.f2_algebra.specs.Complex.{arrow, IsComplex}
 use Rattle.f2_algebra.specs.Cancel.{is_one_of, cancelled}
 use Rattle.f2_algebra.specs.Slice.{slice_complex}
-use Rattle.f2_algebra.proofs.Chains.Tables.{◌⊻◌, same}
+use Rattle.f2_algebra.proofs.Chains.Tables.{◌⊻◌, same, neither}
 use Rattle.f2_algebra.proofs.Cancelling.Cancellation.{arrow-cancelled, cancelled_IsComplex}
 use Rattle.f2_algebra.proofs.Cancelling.Slice.{same_complex}
 use Rattle.sparse_complex.specs.declared.links.Links.{Links}
@@ -16,7 +16,7 @@ use Rattle.sparse_complex.specs.Inner.Stored.{no_key, most_keys, key_of, is_live
 use Rattle.sparse_complex.proofs.ClearLemmas.{no_out}
 use Rattle.sparse_complex.proofs.StoredLemmas.{degree-slice_of, arrow-stored, ends-live}
 use Rattle.sparse_complex.proofs.CancelLemmas.{IsEntry-of_arrow, code-test, fill-stored, key-test}
-use Rattle.sparse_complex.proofs.TakenKeyLemmas.{IsCut, key_of-set, live-below, not-true, or_none, xor_cases}
+use Rattle.sparse_complex.proofs.TakenKeyLemmas.{IsCut, key_of-set, live-below, xor_cases}
 
 -- the keys without those of two codes
 abbrev keys_without : List ℕ → ℕ → ℕ → List ℕ
@@ -83,8 +83,8 @@ module _ (keys : List ℕ) (cells : List Cell) (links : Links) (s : IsStoredByKe
       (not (eqb b (key_of keys x) || eqb b (key_of keys y))) w.1 in (
         either (xor_cases (has_arrow links a b) (has_arrow links a (key_of keys y) && not (eqb a (key_of keys x)))
             (has_arrow links (key_of keys x) b && not (eqb b (key_of keys y))) w.0),
-        or_none (eqb a (key_of keys x)) (eqb a (key_of keys y)) u.0,
-        or_none (eqb b (key_of keys x)) (eqb b (key_of keys y)) u.1,
+        neither (eqb a (key_of keys x)) (eqb a (key_of keys y)) u.0,
+        neither (eqb b (key_of keys x)) (eqb b (key_of keys y)) u.1,
       )
     where
       either : (has_arrow links a b ≡ true)

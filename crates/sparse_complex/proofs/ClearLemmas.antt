@@ -5,11 +5,12 @@ use Rattle.sparse_complex.specs.declared.links.Head.{Head}
 use Rattle.sparse_complex.specs.declared.links.Links.{Links}
 use Rattle.sparse_complex.specs.Inner.Lists.{no_id, among, node_at, is_node, head_at}
 use Rattle.sparse_complex.specs.Inner.Graph.{AreListed, width, outs_of, ins_of, tos, froms, has_arrow, IsUnlinked, IsCleared}
-use Rattle.sparse_complex.proofs.ListLemmas.{eqb_comm, leave_out}
+use Rattle.sparse_complex.proofs.ListLemmas.{leave_out}
 use Rattle.sparse_complex.proofs.ThreadLemmas.{head-live, live-member}
 use Rattle.sparse_complex.proofs.GraphLemmas.{has_arrow-targets, has_arrow-sources}
 use Rattle.sparse_complex.proofs.ArrowChangeLemmas.{gone-listed, gone-outs, gone-ins, has_arrow-unlinked, width-unlinked}
 use Rattle.sparse_complex.proofs.WalkLemmas.{out-none, in-none, out-begin, in-begin}
+use Rattle.f2_algebra.proofs.Chains.Tables.{and-true, eqb_comm}
 
 leave_out-shorter : (id : ℕ) (is : List ℕ) → among id is ≡ true → length (leave_out id is) < length is
 leave_out-shorter id is m = by is m
@@ -42,10 +43,6 @@ pub record ClearPlace (gone : ℕ → ℕ → Bool) (old now : Links) : Type 0 w
 pub clear-start : (gone : ℕ → ℕ → Bool) (old : Links) → AreListed old → ClearPlace gone old old
 clear-start gone old t = record { listed = t; width = refl; arrows = λ s t e. refl }
 
-pub and_true : (b : Bool) → (b && true) ≡ b
-and_true true = refl
-and_true false = refl
-
 pub clear-step : (gone : ℕ → ℕ → Bool) (old now : Links) → ClearPlace gone old now
     → (id : ℕ) (here : is_node now.pool.nodes id ≡ true)
     → gone (node_at now.pool.nodes id).from (node_at now.pool.nodes id).to ≡ true → (new : Links)
@@ -57,7 +54,7 @@ clear-step gone old now c id here g new u = record {
       has_arrow-unlinked now new c.listed id here u s r
       ∙ ap (λ b. has_arrow now s r && not b)
       (other s r e (eqb s (node_at now.pool.nodes id).from && eqb r (node_at now.pool.nodes id).to) refl)
-      ∙ and_true (has_arrow now s r) ∙ c.arrows s r e;
+      ∙ and-true (has_arrow now s r) ∙ c.arrows s r e;
 }
   where
     other : (s r : ℕ) → gone s r ≡ false → (b : Bool)
@@ -79,7 +76,7 @@ clear-end gone old now c none = record { listed = c.listed; width = c.width; arr
         and_false : (b : Bool) → (b && false) ≡ false
         and_false true = refl
         and_false false = refl
-    by s r false e = c.arrows s r e ∙ sym (ap (λ b. has_arrow old s r && not b) e ∙ and_true (has_arrow old s r))
+    by s r false e = c.arrows s r e ∙ sym (ap (λ b. has_arrow old s r && not b) e ∙ and-true (has_arrow old s r))
 
 -- the first arrow of a key, as the code reads it
 module _ (l : Links) (t : AreListed l) (k : ℕ) (h : Head) (e : head_at l.heads.items k ≡ h) where

@@ -2,13 +2,13 @@
 use Rattle.std.proofs.Common.{◌≡◌, ℕ, ◌+◌, ◌<◌, ◌≤◌, Bool, true, false, not, cond, ◌&&◌, ◌||◌, eqb, List, [], ◌∷◌, ◌++◌, length, refl, sym, ap, subst, ◌∙◌, arith}
 use Rattle.std.proofs.lemmas.Bool.{eqb-true}
 use Rattle.std.proofs.lemmas.List.{map-append}
-use Rattle.f2_algebra.proofs.Chains.Tables.{◌⊻◌, same}
+use Rattle.f2_algebra.proofs.Chains.Tables.{◌⊻◌, same, eqb_comm}
 use Rattle.f2_algebra.proofs.Chains.Sets.{any-append, any-filter}
 use Rattle.node_pool.specs.declared.Node.{Node}
 use Rattle.sparse_complex.specs.declared.links.Links.{Links}
 use Rattle.sparse_complex.specs.Inner.Lists.{no_id, among, AreDistinct, node_at, outs_from}
 use Rattle.sparse_complex.specs.Inner.Graph.{AreListed, width, outs_of, ins_of, tos, froms, targets, sources, has_arrow, others, IsToggled, SameOuts, SameIns, IsToggledFrom}
-use Rattle.sparse_complex.proofs.ListLemmas.{eqb_comm, in_head}
+use Rattle.sparse_complex.proofs.ListLemmas.{in_head}
 use Rattle.sparse_complex.proofs.GraphLemmas.{out_member, in_member, map-same, has_arrow-targets, distinct-targets}
 use Rattle.sparse_complex.proofs.WalkLemmas.{IsOn, OutStep, out-moved, out-none}
 

@@ -4,8 +4,9 @@ use Rattle.std.proofs.lemmas.Bool.{true≢false, false≢true}
 use Rattle.sparse_complex.specs.declared.links.Links.{Links}
 use Rattle.sparse_complex.specs.Inner.Lists.{among, AreDistinct, node_at, is_node}
 use Rattle.sparse_complex.specs.Inner.Graph.{AreListed, width, outs_of, ins_of, targets, sources, has_arrow}
-use Rattle.sparse_complex.proofs.ListLemmas.{same_test, in_head, in_tail, in_cases}
+use Rattle.sparse_complex.proofs.ListLemmas.{in_head, in_tail, in_cases}
 use Rattle.sparse_complex.proofs.ThreadLemmas.{member-live, live-member}
+use Rattle.f2_algebra.proofs.Chains.Tables.{same_test}
 
 -- ---- images of lists
 pub among-map : (f : ℕ → ℕ) (is : List ℕ) (i : ℕ) → among i is ≡ true → among (f i) (map f is) ≡ true

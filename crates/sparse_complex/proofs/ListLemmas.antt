@@ -4,20 +4,12 @@ use Rattle.std.specs.List.{filter}
 use Rattle.std.proofs.lemmas.Bool.{eqb-true, eq-eqb, false≢true}
 use Rattle.f2_algebra.proofs.Chains.Sets.{any-filter}
 use Rattle.sparse_complex.specs.Inner.Lists.{no_id, among, AreDistinct, IsList, ids_from}
+use Rattle.f2_algebra.proofs.Chains.Tables.{eqb_comm}
 
 -- ---- tests
 cond_same : {A : Type 0} (b : Bool) (x : A) → cond b x x ≡ x
 cond_same true x = refl
 cond_same false x = refl
-
-pub eqb_comm : (a b : ℕ) → eqb a b ≡ eqb b a
-eqb_comm a b = grind arith
-
--- two tests that imply each other are equal
-pub same_test : (a b : Bool) → (a ≡ true → b ≡ true) → (b ≡ true → a ≡ true) → a ≡ b
-same_test true b f g = sym (f refl)
-same_test false true f g = g refl
-same_test false false f g = refl
 
 -- the list without an id
 abbrev pub leave_out : ℕ → List ℕ → List ℕ

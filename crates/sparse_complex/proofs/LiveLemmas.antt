@@ -1,6 +1,5 @@
 -- The cells of live codes, found place by place: a cell is live where its code has its place as key.
-use Rattle.std.proofs.Common.{◌≡◌, ◌≢◌, ℕ, ℤ, ◌+◌, ◌<◌, Bool, true, false, cond, List, [], ◌∷◌, ◌++◌, length, get_or, Option, Some, None, is_some, Contains, inl, inr, refl, sym, ap, subst, ◌∙◌, arith}
-use Rattle.std.proofs.lemmas.Bool.{false≢true}
+use Rattle.std.proofs.Common.{◌≡◌, ◌≢◌, ℕ, ◌+◌, ◌<◌, List, [], ◌∷◌, ◌++◌, length, get_or, Some, Contains, inl, inr, sym, ap, subst, ◌∙◌, arith}
 use Rattle.std.proofs.lemmas.List.Elements.{Contains-get_or, Contains-append_left, Contains-append_right, Contains-append_cases}
 use Rattle.std.proofs.lemmas.List.Quantifiers.{all_pairs_push}
 use Rattle.f2_algebra.specs.Slice.{slice_complex}
@@ -12,15 +11,7 @@ use Rattle.sparse_complex.specs.Inner.Graph.{no_cell, code_at}
 use Rattle.sparse_complex.specs.Inner.Stored.{key_of, is_live, maslov_at, slice_of, IsStoredByKey, ListsLive}
 use Rattle.sparse_complex.proofs.ArrowChangeLemmas.{lt_or_eq}
 use Rattle.sparse_complex.proofs.StoredLemmas.{live_is, degree-live, degree-slice_of}
-
--- an optional value that is there, under a test
-some_if : (b : Bool) (m n : ℤ) → cond b (Some m) None ≡ Some n → (b ≡ true) × (m ≡ n)
-some_if true m n e = (refl, ap (λ (o : Option ℤ). value o) e)
-  where
-    value : Option ℤ → ℤ
-    value None = m
-    value (Some k) = k
-some_if false m n e = absurd (false≢true (ap (λ (o : Option ℤ). is_some o) e))
+use Rattle.f2_algebra.proofs.Ranks.Bigraded.{some_if}
 
 module _ (keys : List ℕ) (cells : List Cell) where
   -- before the first place there is none

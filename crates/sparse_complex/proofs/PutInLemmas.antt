@@ -5,9 +5,9 @@ use Rattle.std.proofs.lemmas.Bool.{eqb-true, ne_eqb, eq-eqb, true≢false}
 use Rattle.node_pool.specs.declared.Node.{Node}
 use Rattle.sparse_complex.specs.declared.links.Head.{Head}
 use Rattle.sparse_complex.specs.Inner.Lists.{Nodes, no_id, node_at, is_node, head_at, outs_from, ins_from, outs, ins, AreLists, AreInLists, with_prev_out, with_prev_in, with_first_out, new_node, linked_nodes, linked_heads}
-use Rattle.sparse_complex.proofs.ListLemmas.{eqb_comm}
 use Rattle.sparse_complex.proofs.ThreadLemmas.{head-live, thread-linked, AreLists-lists}
 use Rattle.sparse_complex.proofs.LinkLemmas.{ap-cond, field-same, field-with_node, first-same, first-with, is_node-insert, is_node-with_node, length-with, node_at-insert, thread-ids_from}
+use Rattle.f2_algebra.proofs.Chains.Tables.{eqb_comm}
 
 module _ (nodes : Nodes) (heads : List Head) (t : AreInLists nodes heads) (id : ℕ) (fresh : is_node nodes id ≡ false)
     (is_id : eqb id no_id ≡ false) (p q : ℕ) (p_in : p < length heads) (q_in : q < length heads)

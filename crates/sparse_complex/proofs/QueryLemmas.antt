@@ -15,9 +15,10 @@ use Rattle.sparse_complex.specs.Slices.{ListsOnce, ListsSome}
 use Rattle.sparse_complex.specs.Inner.Lists.{among, AreDistinct}
 use Rattle.sparse_complex.specs.Inner.Graph.{width, targets, sources, has_arrow, code_at, IsPrefix}
 use Rattle.sparse_complex.specs.Inner.Stored.{key_of, is_live, slice_of, IsStoredByKey, IsFirst}
-use Rattle.sparse_complex.proofs.ListLemmas.{same_test, in_head, in_tail, in_cases}
+use Rattle.sparse_complex.proofs.ListLemmas.{in_head, in_tail, in_cases}
 use Rattle.sparse_complex.proofs.GraphLemmas.{among-map, among-of_map, AreDistinct-map, has_arrow-targets, has_arrow-sources, has_arrow-from, distinct-targets, distinct-sources}
 use Rattle.sparse_complex.proofs.StoredLemmas.{arrow-keys, ends-live}
+use Rattle.f2_algebra.proofs.Chains.Tables.{same_test}
 
 -- ---- membership in two spellings
 pub Contains-among : (xs : List ℕ) (c : ℕ) → among c xs ≡ true → Contains xs c

@@ -13,9 +13,9 @@ use Rattle.sparse_complex.specs.declared.slices.Cell.{Cell}
 use Rattle.sparse_complex.specs.Inner.Lists.{no_id, among, node_at, head_at, outs}
 use Rattle.sparse_complex.specs.Inner.Graph.{width, targets, has_arrow, no_cell, code_at}
 use Rattle.sparse_complex.specs.Inner.Stored.{no_key, most_keys, key_of, is_live, maslov_at, target_codes, entry_of, entries_below, slice_of, IsLiveKey, IsStoredByKey, IsStored}
-use Rattle.sparse_complex.proofs.ListLemmas.{same_test}
 use Rattle.sparse_complex.proofs.WriteLemmas.{AreInLists-same}
 use Rattle.sparse_complex.proofs.GraphLemmas.{among-map, among-of_map, has_arrow-targets, has_arrow-from, has_arrow-to}
+use Rattle.f2_algebra.proofs.Chains.Tables.{same_test}
 
 -- ---- the entries of live codes
 find-below : (keys : List ℕ) (cells : List Cell) (links : Links) (n c : ℕ)
@@ -119,10 +119,6 @@ module _ (keys : List ℕ) (cells : List Cell) (links : Links) where
           ≡ (b && among d (map (code_at cells) (targets links (key_of keys c))))
       by true = holds-of_codes (map (code_at cells) (targets links (key_of keys c))) d
       by false = holds-nothing d
-
-not-false : (b : Bool) → not b ≡ true → b ≡ false
-not-false true h = sym h
-not-false false h = refl
 
 -- ---- what is kept
 module _ (keys : List ℕ) (cells : List Cell) (links : Links) (s : IsStoredByKey keys cells links) where

@@ -63,12 +63,3 @@ xor_cases true b c h = inl refl
 xor_cases false true true h = inr (refl, refl)
 xor_cases false true false h = absurd (false≢true h)
 xor_cases false false c h = absurd (false≢true h)
-
-pub or_none : (a b : Bool) → not (a || b) ≡ true → (a ≡ false) × (b ≡ false)
-or_none true b h = absurd (false≢true h)
-or_none false true h = absurd (false≢true h)
-or_none false false h = (refl, refl)
-
-pub not-true : (b : Bool) → not b ≡ true → b ≡ false
-not-true true h = sym h
-not-true false h = refl

@@ -3,7 +3,8 @@ use Rattle.std.proofs.Common.{◌≡◌, ℕ, ◌<◌, Bool, true, false, not, c
 use Rattle.std.proofs.lemmas.Bool.{eqb-true, ne_eqb, eq-eqb, true≢false, and_parts, and_from}
 use Rattle.f2_algebra.proofs.Chains.Sets.{any-filter}
 use Rattle.sparse_complex.specs.Inner.Lists.{no_id, among, AreDistinct, IsList, AreLists}
-use Rattle.sparse_complex.proofs.ListLemmas.{AreDistinct-filter, IsList-at, eqb_comm, follows, leads, leave_out, list-linked, list-same, list-unlinked, precedes, same_test}
+use Rattle.sparse_complex.proofs.ListLemmas.{AreDistinct-filter, IsList-at, follows, leads, leave_out, list-linked, list-same, list-unlinked, precedes}
+use Rattle.f2_algebra.proofs.Chains.Tables.{same_test, eqb_comm}
 
 module _ (live : ℕ → Bool) (key next prev : ℕ → ℕ) (width : ℕ) (head : ℕ → ℕ) (lists : ℕ → List ℕ)
     (t : AreLists live key next prev width head lists) (ids : (i : ℕ) → live i ≡ true → eqb i no_id ≡ false) where

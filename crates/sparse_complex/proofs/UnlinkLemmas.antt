@@ -41,8 +41,8 @@ module _ (nodes : Nodes) (heads : List Head) (t : AreInLists nodes heads) (id : 
   unfolding unlinked_nodes
   is_node-unlinked i = is_node-remove step_4 id i ∙ ap (λ b. b && not (eqb i id)) (live-4 i)
 
-  pub was : (i : ℕ) → is_node (unlinked_nodes nodes id) i ≡ true → (is_node nodes i ≡ true) × (eqb i id ≡ false)
-  was i l =
+  pub was_node : (i : ℕ) → is_node (unlinked_nodes nodes id) i ≡ true → (is_node nodes i ≡ true) × (eqb i id ≡ false)
+  was_node i l =
       let p = and_parts (is_node nodes i) (not (eqb i id)) (sym (is_node-unlinked i) ∙ l) in
       (p.0, not-true (eqb i id) p.1)
     where
@@ -52,11 +52,11 @@ module _ (nodes : Nodes) (heads : List Head) (t : AreInLists nodes heads) (id : 
 
   module _ (i : ℕ) (left : is_node (unlinked_nodes nodes id) i ≡ true) where
     ne : eqb i no_id ≡ false
-    ne = t.ids i (was i left).0
+    ne = t.ids i (was_node i left).0
 
     gone : node_at (unlinked_nodes nodes id) i ≡ node_at step_4 i
     unfolding unlinked_nodes
-    gone = node_at-remove step_4 id i (was i left).1
+    gone = node_at-remove step_4 id i (was_node i left).1
 
     same_4 : (f : Node → ℕ)
         → f (record (node_at step_3 n.next_in) { prev_in = n.prev_in }) ≡ f (node_at step_3 n.next_in)
@@ -157,7 +157,7 @@ module _ (nodes : Nodes) (heads : List Head) (t : AreInLists nodes heads) (id : 
       (λ h. h.first_in) refl k)
 
   ids' : (i : ℕ) → is_node (unlinked_nodes nodes id) i ≡ true → eqb i no_id ≡ false
-  ids' i l = t.ids i (was i l).0
+  ids' i l = t.ids i (was_node i l).0
 
   out_lists' : AreLists (is_node (unlinked_nodes nodes id)) (λ i. (node_at (unlinked_nodes nodes id) i).from)
       (λ i. (node_at (unlinked_nodes nodes id) i).next_out) (λ i. (node_at (unlinked_nodes nodes id) i).prev_out)
@@ -191,6 +191,6 @@ module _ (nodes : Nodes) (heads : List Head) (t : AreInLists nodes heads) (id : 
     ids = ids';
     out_lists = AreLists-lists _ _ _ _ _ _ _ _ _ (sym length-unlinked) outs-unlinked out_lists';
     in_lists = AreLists-lists _ _ _ _ _ _ _ _ _ (sym length-unlinked) ins-unlinked in_lists';
-    simple = λ i j l m p q. t.simple i j (was i l).0 (was j m).0 (sym (from-unlinked i l) ∙ p ∙ from-unlinked j m)
+    simple = λ i j l m p q. t.simple i j (was_node i l).0 (was_node j m).0 (sym (from-unlinked i l) ∙ p ∙ from-unlinked j m)
         (sym (to-unlinked i l) ∙ q ∙ to-unlinked j m);
   }

@@ -12,6 +12,7 @@ use Rattle.sparse_complex.proofs.ListLemmas.{in_head, ids_from-list, IsList-at}
 use Rattle.sparse_complex.proofs.ThreadLemmas.{members-ids}
 use Rattle.sparse_complex.proofs.LinkLemmas.{distinct_length, node_is}
 use Rattle.sparse_complex.proofs.GraphLemmas.{out_member, in_member, has_arrow-ends}
+use Rattle.std.proofs.Math.Bool.{or-true}
 
 -- the first of a list of ids
 abbrev pub first : List ℕ → ℕ
@@ -33,10 +34,6 @@ list-rest : (next prev : ℕ → ℕ) (done is : List ℕ) (p h : ℕ) → IsLis
     → (q : ℕ) × IsList next prev q (first is) is
 list-rest next prev [] is p h l = (p, IsList-at next prev is p p h (first is) refl (list-first next prev is p h l) l)
 list-rest next prev (x ∷ done) is p h l = list-rest next prev done is x (next x) l.2
-
-or_true : (b : Bool) → (b || true) ≡ true
-or_true true = refl
-or_true false = refl
 
 module _ (next prev : ℕ → ℕ) (ahead : ℕ → List ℕ) (list : List ℕ) (h : ℕ) (l : IsList next prev no_id h list)
     (gives : (done is : List ℕ) → list ≡ done ++ is → ahead (first is) ≡ is) where
@@ -72,7 +69,7 @@ module _ (next prev : ℕ → ℕ) (ahead : ℕ → List ℕ) (list : List ℕ) 
             },
             ap (among i) whole ∙ any-append i on.passed (x ∷ is)
                 ∙ ap (λ b. among i on.passed || b) (ap (λ j. among j (x ∷ is)) i_is ∙ in_head x is)
-                ∙ or_true (among i on.passed),
+                ∙ or-true (among i on.passed),
           )
 
   -- a place in a list that is the same elsewhere
@@ -101,7 +98,7 @@ ids_from-gives nodes key next prev width head lists t ids k done is e =
     let some : length (lists k) ≡ length done + length is = ap length e ∙ length-append done is in
     ids_from-list next prev is rest.0 (first is) (fin.len nodes) rest.1
     (λ i m. members-ids (is_node nodes) key next prev width head lists t ids k i
-    (ap (among i) e ∙ any-append i done is ∙ ap (λ b. among i done || b) m ∙ or_true (among i done)))
+    (ap (among i) e ∙ any-append i done is ∙ ap (λ b. among i done || b) m ∙ or-true (among i done)))
     (omega arith)
   where
     live : (i : ℕ) → among i (lists k) ≡ true → is_node nodes i ≡ true

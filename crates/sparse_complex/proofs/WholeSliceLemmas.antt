@@ -9,10 +9,10 @@ use Rattle.sparse_complex.specs.declared.slices.Cell.{Cell}
 use Rattle.sparse_complex.specs.Inner.Graph.{code_at}
 use Rattle.sparse_complex.specs.Inner.Stored.{most_keys, key_of, is_live, maslov_at, slice_of, IsStoredByKey}
 use Rattle.sparse_complex.specs.Inner.Built.{AreCells, AreKeys, AreLinksBelow}
-use Rattle.sparse_complex.proofs.ListLemmas.{same_test}
 use Rattle.sparse_complex.proofs.GraphLemmas.{has_arrow-from, has_arrow-to}
 use Rattle.sparse_complex.proofs.StoredLemmas.{degree-slice_of, arrow-stored, live_is}
 use Rattle.sparse_complex.proofs.BuildLemmas.{degree-at, every}
+use Rattle.f2_algebra.proofs.Chains.Tables.{same_test}
 
 module _ (D : Complex ℤ) (n : ℕ) (rules : IsComplex D) (up : D.up ≡ (λ m. m +ℤ pos 1))
     (past : (c : ℕ) → n ≤ c → D.degree c ≡ None) (cells : List Cell) (s : AreCells D n cells) (keys : List ℕ)

@@ -145,9 +145,9 @@ is_node-put nodes id n i l = is_node-insert nodes id n i ∙ ap (λ b. eqb i id 
     either true = refl
     either false = refl
 
--- the nodes when the node of the heads h and g is put in
-abbrev pub put : Nodes → ℕ → Head → Head → ℕ → ℕ → Nodes
-put nodes id h g p q =
+-- the nodes when the node of the heads h and g is put_in in
+abbrev pub put_in : Nodes → ℕ → Head → Head → ℕ → ℕ → Nodes
+put_in nodes id h g p q =
     fin.insert nodes id (record {
       from = p;
       to = q;
@@ -158,9 +158,9 @@ put nodes id h g p q =
     })
 
 pub record CanLink (nodes : Nodes) (id p q : ℕ) (h g : Head) : Type 0 where
-  pub write_1 : eqb h.first_out no_id ≡ false → is_node (put nodes id h g p q) h.first_out ≡ true
+  pub write_1 : eqb h.first_out no_id ≡ false → is_node (put_in nodes id h g p q) h.first_out ≡ true
   pub write_2 : eqb g.first_in no_id ≡ false
-      → is_node (with_prev_out (put nodes id h g p q) h.first_out id) g.first_in ≡ true
+      → is_node (with_prev_out (put_in nodes id h g p q) h.first_out id) g.first_in ≡ true
 
 pub can_link : (nodes : Nodes) (heads : List Head) (t : AreInLists nodes heads) (id p q : ℕ) (h g : Head)
     → head_at heads p ≡ h → head_at heads q ≡ g → CanLink nodes id p q h g
@@ -179,10 +179,10 @@ can_link nodes heads t id p q h g e f =
 
 pub linked_nodes-is : (nodes : Nodes) (heads : List Head) (id p q : ℕ) (h g : Head) → head_at heads p ≡ h
     → head_at heads q ≡ g
-    → with_prev_in (with_prev_out (put nodes id h g p q) h.first_out id) g.first_in id ≡ linked_nodes nodes heads id p q
+    → with_prev_in (with_prev_out (put_in nodes id h g p q) h.first_out id) g.first_in id ≡ linked_nodes nodes heads id p q
 unfolding linked_nodes
 linked_nodes-is nodes heads id p q h g e f =
-    λ i. with_prev_in (with_prev_out (put nodes id (sym e i) (sym f i) p q) (sym e i).first_out id)
+    λ i. with_prev_in (with_prev_out (put_in nodes id (sym e i) (sym f i) p q) (sym e i).first_out id)
     (sym f i).first_in id
 
 pub linked_heads-is : (heads : List Head) (id p q : ℕ)

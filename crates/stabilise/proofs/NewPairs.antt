@@ -1,6 +1,6 @@
 -- What a new column with a new row changes of the pairs of points of two bijections that both get it there, and
 -- of the Maslov degree; and of the columns where one is above the other.
-use Rattle.std.proofs.Common.{◌≡◌, ◌≢◌, ◌⊎◌, ℕ, suc, ◌+◌, ◌<◌, false, not, ◌&&◌, ap, ap₂, ◌∙◌, sym, ltb, arith, inl, inr}
+use Rattle.std.proofs.Common.{◌≡◌, ◌≢◌, ◌⊎◌, ℕ, suc, ◌+◌, ◌<◌, not, ◌&&◌, ap, ap₂, ◌∙◌, sym, ltb, arith, inl, inr}
 use Rattle.std.proofs.Math.IntN.{ℤ, pos, ◌+ℤ◌}
 use Rattle.std.proofs.lemmas.Int.{ints}
 use Rattle.std.proofs.lemmas.Bool.{cases_eq, le-ltb}

@@ -11,7 +11,7 @@ use Rattle.state_rank.proofs.Pigeonhole.{onto}
 use Rattle.state_rank.proofs.SwapLemmas.{slice_index-swap_first, slice_index-swap_second, slice_index-swap_other, IsBijection-swap, take-swap}
 use Rattle.state_rank.proofs.StoredLemmas.{IsStoredByPlace, length-stored}
 use Rattle.state_rank.proofs.RankLemmas.{IsBijection-unrank, rank-unrank, rank-below, unrank-rank, rank_order}
-use Rattle.state_rank.proofs.StepLemmas.{FirstDiffer, before-differ, differ}
+use Rattle.state_rank.proofs.StepLemmas.{FirstDiffer, before-differ, first_difference}
 
 -- where two states agree before the place q, the row of one there is a row of the other from q on
 row_from : (n : ℕ) (x z : List ℕ) → IsBijection n x → IsBijection n z → (q : ℕ) → q < n
@@ -24,7 +24,7 @@ row_from n x z s t q l same =
       | inr m ↦ (h.0, (m, h.1), h.2)
     ]
 
--- x and a later state do not first differ where the rows of x fall
+-- x and a later state do not first first_difference where the rows of x fall
 not_where_falling : (n : ℕ) (x z : List ℕ) → IsBijection n x → IsBijection n z → (a q : ℕ) → FallsFrom a x → a ≤ q
     → q < n → FirstDiffer x z q → ⊥
 not_where_falling n x z s t a q falls l m d =
@@ -44,7 +44,7 @@ pub record IsStep (n : ℕ) (x y : List ℕ) (p : ℕ) : Type 0 where
   pub rises : (i j : ℕ) → p < i → i < j → j < n → slice_index y i ≤ slice_index y j
   pub least : (i : ℕ) → p < i → i < n → slice_index x p < slice_index x i → slice_index y p ≤ slice_index x i
 
--- an earlier state and y do not first differ behind p
+-- an earlier state and y do not first first_difference behind p
 not_where_rising : (n : ℕ) (x y z : List ℕ) (p q : ℕ) → IsStep n x y p → IsBijection n y → IsBijection n z → p < q
     → q < n → FirstDiffer z y q → ⊥
 not_where_rising n x y z p q k t u l m d =
@@ -98,7 +98,7 @@ differ_unrank n x s k l m =
     let t : IsBijection n z = IsBijection-unrank n k m in
     let e = rank-unrank n k m in
     let long = s.long in
-    let d = differ x z (s.long ∙ sym t.long) ((rank_order n x z s t).1 (omega arith)) in
+    let d = first_difference x z (s.long ∙ sym t.long) ((rank_order n x z s t).1 (omega arith)) in
     let w = d.1 in
     (d.0, omega arith, d.2)
 
@@ -116,7 +116,7 @@ rank-step n x y p k s t =
           let u : IsBijection n z = IsBijection-unrank n (rank x + 1) m in
           let f = rank-unrank n (rank x + 1) m in
           let d = differ_unrank n x s (rank x + 1) (omega arith) m in
-          let e = differ z y (u.long ∙ sym t.long) ((rank_order n z y u t).1 (omega arith)) in
+          let e = first_difference z y (u.long ∙ sym t.long) ((rank_order n z y u t).1 (omega arith)) in
           let ez = u.long in
           let v = e.1 in
           absurd (none_between n x y z p k s t u d.0 e.0 d.1 (omega arith) d.2 e.2)

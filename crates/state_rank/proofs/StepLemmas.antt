@@ -38,13 +38,13 @@ pub record FirstDiffer (x y : List ℕ) (q : ℕ) : Type 0 where
   pub same : (i : ℕ) → i < q → slice_index x i ≡ slice_index y i
   pub up : slice_index x q < slice_index y q
 
--- the first place in which a state and a later one differ
-pub differ : (x y : List ℕ) → length x ≡ length y → is_before x y ≡ true → (q : ℕ) × (q < length x) × FirstDiffer x y q
-differ [] y e h = absurd (true≢false (sym h))
-differ (r ∷ x) [] e h = absurd (omega arith)
-differ (r ∷ x) (s ∷ y) e h = elim (cases_order r s) [
+-- the first place in which a state and a later one first_difference
+pub first_difference : (x y : List ℕ) → length x ≡ length y → is_before x y ≡ true → (q : ℕ) × (q < length x) × FirstDiffer x y q
+first_difference [] y e h = absurd (true≢false (sym h))
+first_difference (r ∷ x) [] e h = absurd (omega arith)
+first_difference (r ∷ x) (s ∷ y) e h = elim (cases_order r s) [
   | inl i ↦
-      let k = differ x y (omega arith)
+      let k = first_difference x y (omega arith)
       (sym (is_before-equal s x y) ∙ ap (λ t. is_before (t ∷ x) (s ∷ y)) (sym i) ∙ h) in
       let l = k.1 in
       (suc k.0, omega arith, later i k.0 k.2)

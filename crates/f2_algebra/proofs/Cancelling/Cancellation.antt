@@ -9,22 +9,23 @@ use Rattle.std.proofs.lemmas.Bool.{eqb-true, ne_eqb, eq-eqb, true≢false, false
 use Rattle.f2_algebra.specs.Chain.{Chain, holds, nothing, single, ◌⊕◌, sum_over, pairs_oddly}
 use Rattle.f2_algebra.specs.Complex.{Complex, arrow, border, IsComplex, IsAbove}
 use Rattle.f2_algebra.specs.Cancel.{is_one_of, without, cancelled, Entry, IsEntry, rest_of_one, lift_of_one}
-use Rattle.f2_algebra.proofs.Chains.Tables.{◌⊻◌, and-false, and-true, xor-false, xor_self}
+use Rattle.f2_algebra.proofs.Chains.Tables.{◌⊻◌, and-false, and-true, xor-false, xor_self, eqb_comm}
 use Rattle.f2_algebra.proofs.Chains.Sets.{same_chain, holds-nothing, holds-single, holds-add, holds-where_code, weight-xor, weight-same, weight-at, pairs_oddly-weight}
 use Rattle.f2_algebra.proofs.Chains.Sums.{add_assoc, add_self, add-nothing, add_swap, holds-when, when-xor, IsLinear, linear-nothing, linear-when, holds-sum_over, sum_over-add, sum_over-single, sum_over-same, linear-sum_over, where_code-add, pairs_oddly-add}
+use Rattle.std.proofs.Math.Bool.{or-true}
 
 -- the values of two equal options are equal
 pub same_some : {G : Type 0} (m n : G) → Some m ≡ Some n → m ≡ n
 same_some m n e = cc
 
 -- the border of a sum is the sum of the borders
-pub border-add : {G : Type 0} (C : Complex G) (z w : Chain) → border C (z ⊕ w) ≡ border C z ⊕ border C w
-border-add C z w = sum_over-add z w C.targets
+pub complex_border-add : {G : Type 0} (C : Complex G) (z w : Chain) → border C (z ⊕ w) ≡ border C z ⊕ border C w
+complex_border-add C z w = sum_over-add z w C.targets
 
 -- the border of a chain taken once or not at all
 pub border-when : {G : Type 0} (C : Complex G) (b : Bool) (z : Chain)
     → border C (cond b z nothing) ≡ cond b (border C z) nothing
-border-when C b z = linear-when (border C) (border-add C) b z
+border-when C b z = linear-when (border C) (complex_border-add C) b z
 
 -- the border of a single code is its targets
 pub border-single : {G : Type 0} (C : Complex G) (s : ℕ) → border C (single s) ≡ C.targets s
@@ -32,12 +33,12 @@ border-single C s = sum_over-single s C.targets
 
 -- the border of the empty chain is empty
 pub border-nothing : {G : Type 0} (C : Complex G) → border C nothing ≡ nothing
-border-nothing C = linear-nothing (border C) (border-add C)
+border-nothing C = linear-nothing (border C) (complex_border-add C)
 
 -- the border of a border is empty
-pub border-border : {G : Type 0} (C : Complex G) → IsComplex C → (z : Chain) → border C (border C z) ≡ nothing
-border-border C laws z =
-    linear-sum_over (border C) (border-add C) z C.targets
+pub complex_border-border : {G : Type 0} (C : Complex G) → IsComplex C → (z : Chain) → border C (border C z) ≡ nothing
+complex_border-border C laws z =
+    linear-sum_over (border C) (complex_border-add C) z C.targets
     ∙ sum_over-same z _ (λ s. nothing) (λ s _. laws.squares s)
     ∙ sym (linear-sum_over (λ u. nothing) (λ z w. sym (add_self nothing)) z single)
 
@@ -78,8 +79,8 @@ lift_of_one-linear e z w =
 
 module _ {G : Type 0} (C : Complex G) (laws : IsComplex C) (e : Entry) (fits : IsEntry C e) where
   -- x is not y
-  pub differ : e.x ≢ e.y
-  differ same = true≢false (sym fits.arrows ∙ ap (arrow C e.x) (sym same) ∙ no_loop C laws e.x)
+  pub ends_differ : e.x ≢ e.y
+  ends_differ same = true≢false (sym fits.arrows ∙ ap (arrow C e.x) (sym same) ∙ no_loop C laws e.x)
 
   -- a chain without x and y holds its other codes
   pub holds-without : (z : Chain) (q : ℕ) → holds (without e.x e.y z) q ≡ (holds z q && not (is_one_of e.x e.y q))
@@ -91,15 +92,12 @@ module _ {G : Type 0} (C : Complex G) (laws : IsComplex C) (e : Entry) (fits : I
   source_test s false true h e = absurd (false≢true (h e))
   source_test s false false h e = refl
 
-  flipped : (a b : ℕ) → eqb a b ≡ eqb b a
-  flipped a b = grind arith
-
   pairs-sources : (z : Chain) → pairs_oddly z e.sources ≡ (holds (border C z) e.y ⊻ holds z e.x)
   pairs-sources z =
       pairs_oddly-weight z e.sources
       ∙ weight-same _ _ z (λ s _. fits.other_sources s ∙ source_test s (arrow C s e.y) (eqb s e.x)
       (λ same. ap (λ t. arrow C t e.y) (eqb-true s e.x same) ∙ fits.arrows) refl
-      ∙ ap (λ b. arrow C s e.y ⊻ b) (flipped s e.x))
+      ∙ ap (λ b. arrow C s e.y ⊻ b) (eqb_comm s e.x))
       ∙ weight-xor _ _ z
       ∙ ap₂ ◌⊻◌ (sym (holds-sum_over z C.targets e.y)) (weight-at z e.x)
 
@@ -132,10 +130,6 @@ module _ {G : Type 0} (C : Complex G) (laws : IsComplex C) (e : Entry) (fits : I
 
   one_of_x : is_one_of e.x e.y e.x ≡ true
   one_of_x = ap (λ b. b || eqb e.x e.y) (eq-eqb e.x e.x refl)
-
-  or-true : (a : Bool) → (a || true) ≡ true
-  or-true true = refl
-  or-true false = refl
 
   one_of_y : is_one_of e.x e.y e.y ≡ true
   one_of_y = ap (λ b. eqb e.y e.x || b) (eq-eqb e.y e.y refl) ∙ or-true _
@@ -205,7 +199,7 @@ module _ {G : Type 0} (C : Complex G) (laws : IsComplex C) (e : Entry) (fits : I
 
   border-changed : (z : Chain) → border C (changed z) ≡ border C z
   unfolding changed
-  border-changed z = border-add C z _
+  border-changed z = complex_border-add C z _
       ∙ ap (λ c. border C z ⊕ c) (border-when C (holds z e.y) _
       ∙ ap (λ c. cond (holds z e.y) c nothing) (laws.squares e.x) ∙ same_branch (holds z e.y)) ∙ add-nothing _
     where
@@ -215,7 +209,7 @@ module _ {G : Type 0} (C : Complex G) (laws : IsComplex C) (e : Entry) (fits : I
 
   border-split : (z : Chain) → border C z ≡ border C (rest_of_one e z) ⊕ cond (holds z e.x) (C.targets e.x) nothing
   border-split z =
-      sym (border-changed z) ∙ ap (border C) (changed-split z) ∙ border-add C _ _
+      sym (border-changed z) ∙ ap (border C) (changed-split z) ∙ complex_border-add C _ _
       ∙ ap (λ c. border C (rest_of_one e z) ⊕ c)
       (border-when C (holds z e.x) _ ∙ ap (λ c. cond (holds z e.x) c nothing) (border-single C e.x))
 
@@ -270,13 +264,13 @@ module _ {G : Type 0} (C : Complex G) (laws : IsComplex C) (e : Entry) (fits : I
   -- the border of a lift is the lift of the border in the complex without x and y
   pub lift-border : (z : Chain) → Free z → border C (lift_of_one e z) ≡ lift_of_one e (border (cancelled C e.x e.y) z)
   lift-border z free =
-      border-add C z _
+      complex_border-add C z _
       ∙ ap (λ c. border C z ⊕ c) (border-when C _ _ ∙ ap₂ (λ b c. cond b c nothing)
       (pairs-sources z ∙ ap (λ b. holds (border C z) e.y ⊻ b) free.0 ∙ xor-false _) (border-single C e.x))
       ∙ sym (ap (lift_of_one e) (border-free z free)
       ∙ lift-rest (border C z)
       ∙ ap (λ c. (border C z ⊕ cond (holds (border C z) e.y) (C.targets e.x) nothing) ⊕ c)
-      (ap (λ b. cond b (single e.x) nothing) (ap (λ c. holds c e.y) (border-border C laws z) ∙ holds-nothing e.y))
+      (ap (λ b. cond b (single e.x) nothing) (ap (λ c. holds c e.y) (complex_border-border C laws z) ∙ holds-nothing e.y))
       ∙ add-nothing _)
 
   only_x : (a b : Bool) → (a && not (a || b)) ≡ false
@@ -289,7 +283,7 @@ module _ {G : Type 0} (C : Complex G) (laws : IsComplex C) (e : Entry) (fits : I
       (same_chain (without e.x e.y (single e.x)) nothing
       (λ q. holds-without _ q ∙ ap (λ b. b && not (is_one_of e.x e.y q)) (holds-single e.x q)
       ∙ only_x (eqb q e.x) (eqb q e.y) ∙ sym (holds-nothing q)))
-      (ap (λ b. cond b e.targets nothing) (holds-single e.x e.y ∙ ne_eqb e.y e.x (λ s. differ (sym s))))
+      (ap (λ b. cond b e.targets nothing) (holds-single e.x e.y ∙ ne_eqb e.y e.x (λ s. ends_differ (sym s))))
       ∙ add-nothing nothing
 
   -- the rest of a lift is the chain

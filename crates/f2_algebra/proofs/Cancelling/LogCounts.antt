@@ -6,9 +6,9 @@ use Rattle.f2_algebra.specs.Chain.{Chain, holds, where_code}
 use Rattle.f2_algebra.specs.Complex.{Complex, IsComplex}
 use Rattle.f2_algebra.specs.Cancel.{is_one_of, without, cancelled, Entry, IsEntry, IsLog, after}
 use Rattle.f2_algebra.specs.Certificate.{IsAllCells}
-use Rattle.f2_algebra.proofs.Chains.Tables.{and-true}
+use Rattle.f2_algebra.proofs.Chains.Tables.{and-true, same_test}
 use Rattle.f2_algebra.proofs.Chains.Sets.{same_chain, holds-where_code, cardinality, cardinality-without}
-use Rattle.f2_algebra.proofs.Cancelling.Cancellation.{same_some, differ, degree-cancelled, cancelled_IsComplex}
+use Rattle.f2_algebra.proofs.Cancelling.Cancellation.{same_some, ends_differ, degree-cancelled, cancelled_IsComplex}
 use Rattle.f2_algebra.proofs.Cancelling.LogLemmas.{live_code, live_below, not_one}
 use Rattle.f2_algebra.proofs.Certificates.LogCertificate.{IsTest, step_pairs, lifted_pair, own_pair, test_after, x_live}
 
@@ -19,22 +19,17 @@ two_tests false a b = refl
 
 cardinality-two : (z : Chain) (x y : ℕ) → x ≢ y
     → cardinality z ≡ cardinality (without x y z) + (cond (holds z x) 1 0 + cond (holds z y) 1 0)
-cardinality-two z x y differ =
+cardinality-two z x y ends_differ =
     let w = where_code (λ t. not (eqb t x)) z in
     let both : without x y z ≡ where_code (λ t. not (eqb t y)) w =
     same_chain _ _ (λ q. holds-where_code _ z q ∙ two_tests (holds z q) (eqb q x) (eqb q y)
     ∙ sym (holds-where_code _ w q ∙ ap (λ b. b && not (eqb q y)) (holds-where_code _ z q)))
     in
     let y_in : holds w y ≡ holds z y =
-    holds-where_code _ z y ∙ ap (λ b. holds z y && not b) (ne_eqb y x (λ s. differ (sym s))) ∙ and-true (holds z y) in
+    holds-where_code _ z y ∙ ap (λ b. holds z y && not b) (ne_eqb y x (λ s. ends_differ (sym s))) ∙ and-true (holds z y) in
     cardinality-without z x
     ∙ ap (λ n. n + cond (holds z x) 1 0)
     (cardinality-without w y ∙ ap₂ (λ c b. cardinality c + cond b 1 0) (sym both) y_in) ∙ omega arith
-
-same_test : (a b : Bool) → (a ≡ true → b ≡ true) → (b ≡ true → a ≡ true) → a ≡ b
-same_test true b f g = sym (f refl)
-same_test false true f g = g refl
-same_test false false f g = refl
 
 length-cond : {X : Type 0} (b : Bool) (x : X) (xs : List X) → length (cond b (x ∷ xs) xs) ≡ cond b 1 0 + length xs
 length-cond true x xs = omega arith
@@ -81,7 +76,7 @@ count_log C laws (e ∷ log) stands m p pu test test_up z w in_z in_w =
     count_log (cancelled C e.x e.y) (cancelled_IsComplex C laws e fits) log stands.1 m p pu
     (test_after C laws e fits m p test) (test_after C laws e fits (C.up m) pu test_up) (without e.x e.y z) w
     (all_after C laws e fits m p pu test test_up z in_z) in_w in
-    let here = cardinality-two z e.x e.y (differ C laws e fits)
+    let here = cardinality-two z e.x e.y (ends_differ C laws e fits)
     ∙ ap₂ (λ a b. cardinality (without e.x e.y z) + (cond a 1 0 + cond b 1 0))
     (x_in C laws e fits m p pu test test_up z in_z) (y_in C laws e fits m p pu test test_up z in_z) in
     omega (

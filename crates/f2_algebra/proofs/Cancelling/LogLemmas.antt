@@ -7,7 +7,7 @@ use Rattle.f2_algebra.specs.Cancel.{is_one_of, without, cancelled, Entry, IsEntr
 use Rattle.f2_algebra.proofs.Chains.Tables.{◌⊻◌, and_comm}
 use Rattle.f2_algebra.proofs.Chains.Sets.{same_chain, holds-nothing, holds-single, holds-add, holds-where_code, weight, weight-some, weight-add, weight-xor, weight-same, weight-single, weight-where, weight-none, xor-true, pairs_oddly-weight}
 use Rattle.f2_algebra.proofs.Chains.Sums.{add_comm, add_assoc, add_self, add-nothing, holds-when, weight-when, weight-singles, pairs_oddly-single, IsLinear, linear-nothing, linear-when}
-use Rattle.f2_algebra.proofs.Cancelling.Cancellation.{same_some, no_loop, border-add, border-when, border-single, border-nothing, holds-without, rest_of_one-linear, lift_of_one-linear, Free, lift-rest, lift-border, rest-lift, rest-border, degree-cancelled, cancelled_IsComplex}
+use Rattle.f2_algebra.proofs.Cancelling.Cancellation.{same_some, no_loop, complex_border-add, border-when, border-single, border-nothing, holds-without, rest_of_one-linear, lift_of_one-linear, Free, lift-rest, lift-border, rest-lift, rest-border, degree-cancelled, cancelled_IsComplex}
 
 -- the correction, from the first entry on: x where the chain holds y, and the lift of the correction of what is left
 abbrev pub correction_by : List Entry → Chain → Chain
@@ -261,7 +261,7 @@ cycle_law C laws (e ∷ log) stands z cycle =
     in
     moved z _ _ _ (sym toggled ∙ lifted)
     ∙ ap (λ u. lift_of_one e (lift log (rest log r)) ⊕ u)
-    (sym (border-add C (cond (holds z e.y) (single e.x) nothing) (lift_of_one e c)))
+    (sym (complex_border-add C (cond (holds z e.y) (single e.x) nothing) (lift_of_one e c)))
   where
     moved : (z q l p : Chain) → z ⊕ q ≡ l ⊕ p → z ≡ l ⊕ (q ⊕ p)
     moved z q l p same =

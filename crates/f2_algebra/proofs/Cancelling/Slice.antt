@@ -22,7 +22,7 @@ same_complex C D up degrees arrows =
     }
 
 -- a slice in which each arrow is as after the toggle is the one without x and y
-pub toggled : (old new : Slice) → IsSlice old → (e : Entry) → IsEntry (slice_complex old) e
+pub IsSlice-toggled : (old new : Slice) → IsSlice old → (e : Entry) → IsEntry (slice_complex old) e
     → ((s : ℕ) → (slice_complex new).degree s ≡ cond (is_one_of e.x e.y s) None ((slice_complex old).degree s))
     → ((s t : ℕ)
     → arrow (slice_complex new) s t
@@ -30,7 +30,7 @@ pub toggled : (old new : Slice) → IsSlice old → (e : Entry) → IsEntry (sli
     && ((arrow (slice_complex old) s t ⊻ (arrow (slice_complex old) s e.y && arrow (slice_complex old) e.x t))
     && not (is_one_of e.x e.y t))))
     → slice_complex new ≡ cancelled (slice_complex old) e.x e.y
-toggled old new laws e fits degrees arrows =
+IsSlice-toggled old new laws e fits degrees arrows =
     same_complex _ _ refl degrees (λ s t. arrows s t ∙ sym (arrow-cancelled (slice_complex old) laws e fits s t))
 
 -- a slice with no live code keeps the rules

@@ -7,16 +7,16 @@ use Rattle.f2_algebra.specs.Complex.{Complex, border, IsComplex, AllOfDegree, Is
 use Rattle.f2_algebra.specs.Certificate.{IsAllCells, CyclePair, StepPair, AreCyclePairs, AreStepPairs}
 use Rattle.f2_algebra.proofs.Chains.Sets.{weight-nothing, weight-some, pairs_oddly-weight}
 use Rattle.f2_algebra.proofs.Chains.Sums.{holds-sum_over, add_comm, add_assoc, add_self, add-nothing, nothing-add, add_swap, add_back, pairs_oddly-add}
-use Rattle.f2_algebra.proofs.Cancelling.Cancellation.{same_some, border-add, border-nothing, border-border}
+use Rattle.f2_algebra.proofs.Cancelling.Cancellation.{same_some, complex_border-add, border-nothing, complex_border-border}
 use Rattle.f2_algebra.proofs.Ranks.RankLemmas.{degree-add, degree-nothing}
 use Rattle.f2_algebra.proofs.Certificates.Verdict.{even_with_borders}
 use Rattle.f2_algebra.proofs.Certificates.Span.{pick, pick-cons, pick-xor, xor_picks, no_picks, length-xor_picks, same_of_xor, Row, Every, every_all, IsTriangular, vectors, independent, independent_mod, spans, IsInside}
 
 -- ---- lists
 -- what holds of all elements, by recursion
-pub every : {X : Type 0} (P : X → Type 0) (xs : List X) → All P xs → Every P xs
-every P [] h = tt
-every P (x ∷ xs) h = (All-head P x xs h, every P xs (All-tail P x xs h))
+pub Every-All : {X : Type 0} (P : X → Type 0) (xs : List X) → All P xs → Every P xs
+Every-All P [] h = tt
+Every-All P (x ∷ xs) h = (All-head P x xs h, Every-All P xs (All-tail P x xs h))
 
 -- and back
 pub all_from : {X : Type 0} (P : X → Type 0) (xs : List X) → Every P xs → All P xs
@@ -52,7 +52,7 @@ IsTriangular-map : {X : Type 0} (row : X → Row) (xs : List X) → Every (λ x.
 IsTriangular-map row [] own later = tt
 IsTriangular-map row (x ∷ xs) own later = (
   own.0,
-  every_map _ row xs (every (λ y. (row x).test (row y).vector ≡ false) xs
+  every_map _ row xs (Every-All (λ y. (row x).test (row y).vector ≡ false) xs
       (pairs_head (λ x y. (row x).test (row y).vector ≡ false) x xs later)),
   IsTriangular-map row xs own.1 (pairs_tail (λ x y. (row x).test (row y).vector ≡ false) x xs later),
 )
@@ -70,7 +70,7 @@ module _ {G : Type 0} (C : Complex G) where
       record {
         vector = p.step;
         test = λ z. pairs_oddly (border C z) p.probe;
-        linear = λ z w. ap (λ c. pairs_oddly c p.probe) (border-add C z w)
+        linear = λ z w. ap (λ c. pairs_oddly c p.probe) (complex_border-add C z w)
             ∙ pairs_oddly-add (border C z) (border C w) p.probe;
       }
 
@@ -93,7 +93,7 @@ border-pick : {G : Type 0} (C : Complex G) (ps : List Bool) (xs : List StepPair)
     → border C (pick ps (vectors (map (step_row C) xs))) ≡ pick ps (vectors (map (boundary_row C) xs))
 border-pick C [] xs = border-nothing C
 border-pick C (p ∷ ps) [] = border-nothing C
-border-pick C (true ∷ ps) (x ∷ xs) = border-add C x.step _ ∙ ap (λ c. border C x.step ⊕ c) (border-pick C ps xs)
+border-pick C (true ∷ ps) (x ∷ xs) = complex_border-add C x.step _ ∙ ap (λ c. border C x.step ⊕ c) (border-pick C ps xs)
 border-pick C (false ∷ ps) (x ∷ xs) = border-pick C ps xs
 
 vectors-append : (xs ys : List Row) → vectors (xs ++ ys) ≡ vectors xs ++ vectors ys
@@ -136,28 +136,28 @@ module _ {G : Type 0} (C : Complex G) (laws : IsComplex C) (m : G) (cells : Chai
   closed_by p q c = ap (λ z. pairs_oddly z p.probe) c.1 ∙ pairs-nothing p.probe
 
   twice_by : (p q : StepPair) → pairs_oddly (border C (border C q.step)) p.probe ≡ false
-  twice_by p q = ap (λ z. pairs_oddly z p.probe) (border-border C laws q.step) ∙ pairs-nothing p.probe
+  twice_by p q = ap (λ z. pairs_oddly z p.probe) (complex_border-border C laws q.step) ∙ pairs-nothing p.probe
 
   every_cycle : Every (λ (q : CyclePair). IsCycle C m q.cycle) cycles
-  every_cycle = every (λ (q : CyclePair). IsCycle C m q.cycle) cycles cp.cycles
+  every_cycle = Every-All (λ (q : CyclePair). IsCycle C m q.cycle) cycles cp.cycles
 
   every_cocycle : Every (λ (q : CyclePair). (s : ℕ) → pairs_oddly (C.targets s) q.cocycle ≡ false) cycles
-  every_cocycle = every (λ (q : CyclePair). (s : ℕ) → pairs_oddly (C.targets s) q.cocycle ≡ false) cycles cp.cocycles
+  every_cocycle = Every-All (λ (q : CyclePair). (s : ℕ) → pairs_oddly (C.targets s) q.cocycle ≡ false) cycles cp.cocycles
 
   tri_cycles : IsTriangular (map cycle_row cycles)
   tri_cycles =
-      IsTriangular-map cycle_row cycles (every (λ (p : CyclePair). pairs_oddly p.cycle p.cocycle ≡ true) cycles cp.own)
+      IsTriangular-map cycle_row cycles (Every-All (λ (p : CyclePair). pairs_oddly p.cycle p.cocycle ≡ true) cycles cp.own)
       (λ i j d l k. (cp.others i j d l k).1)
 
   tri_boundaries : (m' : G) (xs : List StepPair) → AreStepPairs C m' xs → IsTriangular (map (boundary_row C) xs)
   tri_boundaries m' xs x =
       IsTriangular-map (boundary_row C) xs
-      (every (λ (p : StepPair). pairs_oddly (border C p.step) p.probe ≡ true) xs x.own) x.later
+      (Every-All (λ (p : StepPair). pairs_oddly (border C p.step) p.probe ≡ true) xs x.own) x.later
 
   tri : IsTriangular rows
   tri = IsTriangular-append (map (step_row C) steps) (map cycle_row cycles ++ map (boundary_row C) above)
       (IsTriangular-map (step_row C) steps
-      (every (λ (p : StepPair). pairs_oddly (border C p.step) p.probe ≡ true) steps sp.own) sp.later)
+      (Every-All (λ (p : StepPair). pairs_oddly (border C p.step) p.probe ≡ true) steps sp.own) sp.later)
       (IsTriangular-append (map cycle_row cycles) (map (boundary_row C) above) tri_cycles
       (tri_boundaries (C.up m) above ap')
       (every_map _ cycle_row cycles (every_weaker (λ (q : CyclePair). (s : ℕ)
@@ -178,7 +178,7 @@ module _ {G : Type 0} (C : Complex G) (laws : IsComplex C) (m : G) (cells : Chai
 
   every_step : (m' : G) (xs : List StepPair) → AreStepPairs C m' xs
       → Every (λ (p : StepPair). AllOfDegree C m' p.step) xs
-  every_step m' xs x = every (λ (p : StepPair). AllOfDegree C m' p.step) xs x.steps
+  every_step m' xs x = Every-All (λ (p : StepPair). AllOfDegree C m' p.step) xs x.steps
 
   row_degrees : Every (λ r. AllOfDegree C m r.vector) rows
   row_degrees =
@@ -216,7 +216,7 @@ module _ {G : Type 0} (C : Complex G) (laws : IsComplex C) (m : G) (cells : Chai
       → border C (pick ps (vectors (map cycle_row xs))) ≡ nothing
   closed_pick xs h [] = border-nothing C
   closed_pick [] h (p ∷ ps) = border-nothing C
-  closed_pick (x ∷ xs) h (true ∷ ps) = border-add C x.cycle _ ∙ ap₂ ◌⊕◌ h.0.1 (closed_pick xs h.1 ps) ∙ add_self nothing
+  closed_pick (x ∷ xs) h (true ∷ ps) = complex_border-add C x.cycle _ ∙ ap₂ ◌⊕◌ h.0.1 (closed_pick xs h.1 ps) ∙ add_self nothing
   closed_pick (x ∷ xs) h (false ∷ ps) = closed_pick xs h.1 ps
 
   cancel : (z st h b : Chain) → z ≡ st ⊕ (h ⊕ b) → st ≡ nothing → z ⊕ h ≡ b
@@ -237,12 +237,12 @@ module _ {G : Type 0} (C : Complex G) (laws : IsComplex C) (m : G) (cells : Chai
       let is_b : border C w ≡ sum_b = border-pick C cs above in
       let parts : z ≡ sum_s ⊕ (sum_h ⊕ sum_b) = sym e ∙ e1 ∙ ap (λ u. sum_s ⊕ u) e2 in
       let rest_closed : border C (sum_h ⊕ sum_b) ≡ nothing =
-      border-add C sum_h sum_b
-      ∙ ap₂ ◌⊕◌ (closed_pick cycles every_cycle bs) (ap (border C) (sym is_b) ∙ border-border C laws w)
+      complex_border-add C sum_h sum_b
+      ∙ ap₂ ◌⊕◌ (closed_pick cycles every_cycle bs) (ap (border C) (sym is_b) ∙ complex_border-border C laws w)
       ∙ add_self nothing
       in
       let no_s : border C sum_s ≡ nothing =
-      sym (add-nothing _) ∙ ap (λ u. border C sum_s ⊕ u) (sym rest_closed) ∙ sym (border-add C sum_s _)
+      sym (add-nothing _) ∙ ap (λ u. border C sum_s ⊕ u) (sym rest_closed) ∙ sym (complex_border-add C sum_s _)
       ∙ ap (border C) (sym parts) ∙ c.1
       in
       let none =
@@ -273,7 +273,7 @@ module _ {G : Type 0} (C : Complex G) (laws : IsComplex C) (m : G) (cells : Chai
       let u = border C (bp.0 ⊕ bq.0) in
       let twice : pick (xor_picks ps qs) basis ≡ u =
       pick-xor basis ps qs (to_basis ps lp) (to_basis qs lq)
-      ∙ sym (border-add C bp.0 bq.0 ∙ ap₂ ◌⊕◌ bp.2 bq.2 ∙ add_swap z (pick ps basis) z (pick qs basis)
+      ∙ sym (complex_border-add C bp.0 bq.0 ∙ ap₂ ◌⊕◌ bp.2 bq.2 ∙ add_swap z (pick ps basis) z (pick qs basis)
       ∙ ap (λ c. c ⊕ (pick ps basis ⊕ pick qs basis)) (add_self z) ∙ nothing-add _)
       in
       same_of_xor (map cycle_row cycles) ps qs lp lq

@@ -12,9 +12,9 @@ use Rattle.f2_algebra.proofs.Chains.Sums.{add-nothing}
 use Rattle.f2_algebra.proofs.Cancelling.Cancellation.{border-nothing}
 use Rattle.f2_algebra.proofs.Cancelling.LogLemmas.{none_where, live_at_first}
 use Rattle.f2_algebra.proofs.Ranks.RankLemmas.{degree-nothing}
-use Rattle.f2_algebra.proofs.Ranks.Existence.{IsWithin, has_degree, has_degree-is, cells_of, cells_of-all}
+use Rattle.f2_algebra.proofs.Ranks.Existence.{HasAllCells, has_degree, has_degree-is, cells_of, cells_of-all}
 use Rattle.f2_algebra.proofs.Certificates.Span.{Every}
-use Rattle.f2_algebra.proofs.Certificates.Certificate.{every, all_from, rank_of_certificate}
+use Rattle.f2_algebra.proofs.Certificates.Certificate.{Every-All, all_from, rank_of_certificate}
 use Rattle.f2_algebra.proofs.Certificates.LogCertificate.{IsTest, step_pairs, own_pair, lifted_pair, cycle_pair, step_pairs_pass, cycle_pairs_pass}
 use Rattle.f2_algebra.proofs.Cancelling.LogCounts.{count_log}
 
@@ -72,7 +72,7 @@ module _ {G : Type 0} (eq : G → G → Bool) (eq_is : (m n : G) → (eq m n ≡
       → IsRank C c.at (length c.cycles)
   rank_of_cell cert passes c is =
       let (cells, all, _, count) = is.count in
-      let above = steps_at_pass cert (cell_steps cert cert (every (IsCertCell eq C cert) cert passes.0)) (C.up c.at) in
+      let above = steps_at_pass cert (cell_steps cert cert (Every-All (IsCertCell eq C cert) cert passes.0)) (C.up c.at) in
       rank_of_certificate C laws c.at cells all c.cycles c.steps
       (steps_at eq cert (C.up c.at)) is.cycle_pairs is.step_pairs above (omega (arith, count))
 
@@ -82,7 +82,7 @@ module _ {G : Type 0} (eq : G → G → Bool) (eq_is : (m n : G) → (eq m n ≡
   rank_elsewhere cert passes m none = rank_none C m (λ s is. none (passes.1 s m is))
 
   -- ---- the certificate that a log makes, for a list of degrees
-  module _ (xs : List ℕ) (in_xs : IsWithin C xs) (log : List Entry) (stands : IsLog C log)
+  module _ (xs : List ℕ) (in_xs : HasAllCells C xs) (log : List Entry) (stands : IsLog C log)
       (bare : (s : ℕ) → (after C log).targets s ≡ nothing) where
     abbrev test_of : G → ℕ → Bool
     test_of m s = has_degree eq m (C.degree s)
@@ -103,7 +103,7 @@ module _ {G : Type 0} (eq : G → G → Bool) (eq_is : (m n : G) → (eq m n ≡
     abbrev pub cert_of_log : List G → List (CertCell G)
     cert_of_log ms = map cert_cell_of_log ms
 
-    in_after : IsWithin (after C log) xs
+    in_after : HasAllCells (after C log) xs
     in_after s live = in_xs s (sym (ap is_some (live_at_first C laws log stands s live)) ∙ live)
 
     -- m stands in the list

@@ -8,10 +8,10 @@ use Rattle.f2_algebra.specs.Certificate.{IsAllCells, CyclePair, StepPair, AreCyc
 use Rattle.f2_algebra.proofs.Chains.Tables.{◌⊻◌}
 use Rattle.f2_algebra.proofs.Chains.Sets.{any, IsApart, IsApart-codes, holds-nothing, holds-single, holds-add, holds-codes, weight-some, xor-true, pairs_oddly-weight}
 use Rattle.f2_algebra.proofs.Chains.Sums.{holds-when, pairs_oddly-single, linear-nothing}
-use Rattle.f2_algebra.proofs.Cancelling.Cancellation.{same_some, differ, border-single, border-no_arrow, holds-without, Free, rest-free, border-free, lift-border, rest-lift, rest-border, degree-cancelled, cancelled_IsComplex}
+use Rattle.f2_algebra.proofs.Cancelling.Cancellation.{same_some, ends_differ, border-single, border-no_arrow, holds-without, Free, rest-free, border-free, lift-border, rest-lift, rest-border, degree-cancelled, cancelled_IsComplex}
 use Rattle.f2_algebra.proofs.Cancelling.LogLemmas.{none_where, live_below, cells-free, lift_origin, same_targets, not_one, lift_degrees, pull_degrees, border-lift, rest_border, rest_lift, lift-linear, pairs-rest_of_one, pairs-pull_single, pull_IsPull, lift-push}
 use Rattle.f2_algebra.proofs.Certificates.Span.{Every, every_all}
-use Rattle.f2_algebra.proofs.Certificates.Certificate.{every, all_from, every_map, every_weaker, pairs_head, pairs_tail}
+use Rattle.f2_algebra.proofs.Certificates.Certificate.{Every-All, all_from, every_map, every_weaker, pairs_head, pairs_tail}
 
 -- ---- lists
 -- R holds of each element and each later one, by recursion
@@ -22,7 +22,7 @@ Pairwise R (x ∷ xs) = Every (R x) xs × Pairwise R xs
 -- what holds of all pairs, by recursion
 pub pairwise : {X : Type 0} (R : X → X → Type 0) (xs : List X) → AllPairs R xs → Pairwise R xs
 pairwise R [] h = tt
-pairwise R (x ∷ xs) h = (every (R x) xs (pairs_head R x xs h), pairwise R xs (pairs_tail R x xs h))
+pairwise R (x ∷ xs) h = (Every-All (R x) xs (pairs_head R x xs h), pairwise R xs (pairs_tail R x xs h))
 
 -- and back
 pub pairs_from : {X : Type 0} (R : X → X → Type 0) (xs : List X) → Pairwise R xs → AllPairs R xs
@@ -155,7 +155,7 @@ module _ {G : Type 0} (C : Complex G) (laws : IsComplex C) (e : Entry) (fits : I
       (ap (λ c. holds c e.y) (border-free C laws e fits z free) ∙ (rest-free C laws e fits (border C z)).1)
       (holds-when (pairs_oddly (border D z) e.sources) (single e.x) e.y
       ∙ ap (λ b. pairs_oddly (border D z) e.sources && b)
-      (holds-single e.x e.y ∙ ne_eqb e.y e.x (λ same. differ C laws e fits (sym same)))
+      (holds-single e.x e.y ∙ ne_eqb e.y e.x (λ same. ends_differ C laws e fits (sym same)))
       ∙ never (pairs_oddly (border D z) e.sources))
     where
       never : (b : Bool) → (b && false) ≡ false

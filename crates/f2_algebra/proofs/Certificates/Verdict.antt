@@ -7,9 +7,9 @@ use Rattle.f2_algebra.specs.Cancel.{Entry, IsLog, after, rest, lift, pull}
 use Rattle.f2_algebra.specs.Verdict.{IsNotCycleBy, IsNullBy, IsAliveBy}
 use Rattle.f2_algebra.proofs.Chains.Sets.{any, same_chain, holds-nothing, holds-codes, weight-same, weight-none, pairs_oddly-weight}
 use Rattle.f2_algebra.proofs.Chains.Sums.{weight-sum_over, nothing-add, linear-nothing}
-use Rattle.f2_algebra.proofs.Cancelling.Cancellation.{border-single, border-border, border-no_arrow}
+use Rattle.f2_algebra.proofs.Cancelling.Cancellation.{border-single, complex_border-border, border-no_arrow}
 use Rattle.f2_algebra.proofs.Cancelling.LogLemmas.{correction_by, rest_degrees, correction_degrees, rest_border, cycle_law, lift-linear, pairs-pull_single, pull_IsPull, pull_degrees}
-use Rattle.f2_algebra.proofs.Ranks.Existence.{IsWithin, some_code, reduce}
+use Rattle.f2_algebra.proofs.Ranks.Existence.{HasAllCells, some_code, reduce}
 
 -- ---- no two verdicts
 -- a cochain that pairs evenly with the border of each code pairs evenly with each border
@@ -22,7 +22,7 @@ even_with_borders C f even w = pairs_oddly-weight (border C w) f ∙ weight-sum_
 pub not_cycle-null : {G : Type 0} (C : Complex G) → IsComplex C → (z : Chain) (s : ℕ) (b : Chain) → IsNotCycleBy C z s
     → IsNullBy C z b → ⊥
 not_cycle-null C laws z s b a n =
-    false≢true (sym (holds-nothing s) ∙ ap (λ c. holds c s) (sym (ap (border C) (sym n.0) ∙ border-border C laws b))
+    false≢true (sym (holds-nothing s) ∙ ap (λ c. holds c s) (sym (ap (border C) (sym n.0) ∙ complex_border-border C laws b))
     ∙ a.0)
 
 -- a chain that is alive is a cycle
@@ -117,7 +117,7 @@ module _ {G : Type 0} (C : Complex G) (laws : IsComplex C) (log : List Entry) (s
       }
 
 -- each chain of cells of a finite complex has a verdict
-pub exists_verdict : {G : Type 0} (C : Complex G) → IsComplex C → (xs : List ℕ) → IsWithin C xs → (z : Chain)
+pub exists_verdict : {G : Type 0} (C : Complex G) → IsComplex C → (xs : List ℕ) → HasAllCells C xs → (z : Chain)
     → AllCells C z
     → ((s : ℕ) × IsNotCycleBy C z s) ⊎ (((b : Chain) × IsNullBy C z b) ⊎ ((f : Chain) × IsAliveBy C z f))
 exists_verdict C laws xs in_xs z cells = elim (least (border C z)) [

@@ -9,7 +9,7 @@ use Rattle.f2_algebra.specs.Verdict.{IsNullBy, IsAliveBy}
 use Rattle.f2_algebra.proofs.Chains.Tables.{◌⊻◌}
 use Rattle.f2_algebra.proofs.Chains.Sets.{holds-add, xor-true, weight, weight-some, pairs_oddly-weight}
 use Rattle.f2_algebra.proofs.Chains.Sums.{add_self, sum_over-same, pairs_oddly-add}
-use Rattle.f2_algebra.proofs.Cancelling.Cancellation.{same_some, border-add}
+use Rattle.f2_algebra.proofs.Cancelling.Cancellation.{same_some, complex_border-add}
 use Rattle.f2_algebra.proofs.Cancelling.LogLemmas.{none_where}
 use Rattle.f2_algebra.proofs.Certificates.Verdict.{value_of}
 
@@ -72,7 +72,7 @@ in_second z w apart s h = holds-add z w s ∙ ap₂ ◌⊻◌ (none_where (holds
 pub null_sum : {G : Type 0} (C : Complex G) (z w b c : Chain) → Apart z w → IsNullBy C z b → IsNullBy C w c
     → IsNullBy C (z ⊕ w) (b ⊕ c)
 null_sum C z w b c apart (eb, above_b) (ec, above_c) = (
-  border-add C b c ∙ ap₂ ◌⊕◌ eb ec,
+  complex_border-add C b c ∙ ap₂ ◌⊕◌ eb ec,
   λ s h. elim (xor-true (holds b s) (holds c s) (sym (holds-add b c s) ∙ h)) [
     | inl i ↦ let (t, in_z, up) = above_b s i in (t, in_first z w apart t in_z, up)
     | inr i ↦ let (t, in_w, up) = above_c s i in (t, in_second z w apart t in_w, up)
@@ -85,7 +85,7 @@ pub alive_sum : {G : Type 0} (C : Complex G) (z w f : Chain) → Apart z w → A
 alive_sum C z w f apart apart_f cycle alive =
     let (m, of, (t, in_z, is)) = alive.degree in
     record {
-      cycle = border-add C z w ∙ ap₂ ◌⊕◌ alive.cycle cycle ∙ add_self nothing;
+      cycle = complex_border-add C z w ∙ ap₂ ◌⊕◌ alive.cycle cycle ∙ add_self nothing;
       cocycle = alive.cocycle;
       odd = pairs_oddly-add z w f ∙ ap₂ ◌⊻◌ alive.odd (even_apart w f apart_f);
       degree = (m, of, (t, in_first z w apart t in_z, is));

@@ -10,6 +10,7 @@ use Rattle.f2_algebra.specs.Chain.{Chain, holds, codes, of_codes, single, ◌⊕
 use Rattle.f2_algebra.proofs.Chains.Tables.{◌⊻◌}
 use Rattle.f2_algebra.proofs.Chains.Sets.{keys-units, any, any-append, same_chain, holds-codes, holds-of_codes, holds-single, holds-add}
 use Rattle.f2_algebra.proofs.Chains.Sums.{add_comm}
+use Rattle.std.proofs.lemmas.List.{length-map}
 
 apart_or : (e m : Bool) → (e ≡ true → m ≡ false) → (e || m) ≡ (e ⊻ m)
 apart_or true m h = sym (ap not (h refl))
@@ -171,3 +172,7 @@ any-at (x ∷ xs) (suc k) d l =
 -- what holds of each code that a chain holds
 pub All-codes : (P : ℕ → Type 0) (z : Chain) → ((s : ℕ) → holds z s ≡ true → P s) → All P (codes z)
 All-codes P z h k d l = h (get_or (codes z) k d) (holds-codes z (get_or (codes z) k d) ∙ any-at (codes z) k d l)
+
+-- a place of a list is one of the list of values
+pub below-map : {A B : Type 0} (f : A → B) (xs : List A) (k : ℕ) → k < length xs → k < length (map f xs)
+below-map f xs k l = omega (arith, l, length-map xs f)

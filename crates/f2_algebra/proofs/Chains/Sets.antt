@@ -1,16 +1,17 @@
 -- What a chain holds, and the weight of a test over its codes: whether an odd number of them pass it.
-use Rattle.std.proofs.Common.{◌≡◌, ℕ, zero, suc, ◌+◌, ◌<◌, Bool, true, false, not, cond, T, ◌&&◌, ◌||◌, eqb, List, [], ◌∷◌, ◌++◌, map, length, Option, Some, None, is_some, ◌⊎◌, inl, inr, refl, sym, ap, ap₂, subst, ◌∙◌, arith, nat_cmp, is_lt}
+use Rattle.std.proofs.Common.{◌≡◌, ℕ, zero, suc, ◌+◌, ◌<◌, Bool, true, false, not, cond, T, ◌&&◌, ◌||◌, eqb, List, [], ◌∷◌, ◌++◌, map, length, Option, Some, None, is_some, ◌⊎◌, inl, inr, refl, sym, ap, ap₂, subst, ◌∙◌, arith, nat_cmp, is_lt, All}
 use Rattle.std.proofs.lemmas.Bool.{eqb-true, ne_eqb, eq-eqb, true≢false, false≢true, cases_eq}
 use Rattle.std.specs.List.{filter, list_any}
 use Rattle.std.specs.Ordering.{eq_by_cmp}
 use Rattle.std.specs.Cmp.{nat_cmp_total, unsigned_tied}
 use Rattle.std.specs.FinMap as fin
 use Rattle.std.specs.FinMap.Entries.{is_some-find, below_all, is_sorted}
-use Rattle.std.proofs.Math.Bool.{or_assoc}
+use Rattle.std.proofs.Math.Bool.{or_assoc, or-false}
 use Rattle.f2_algebra.specs.Chain.{Chain, holds, codes, of_codes, nothing, single, ◌⊕◌, is_odd, pairs_oddly, where_code}
 pub use Rattle.f2_algebra.proofs.Chains.ParityLemmas.{parity, parity-xor}
 use Rattle.f2_algebra.proofs.Chains.ParityLemmas.{below, parity_below, parity_below-same, parity_below-one, parity-false, is_odd-filter}
 use Rattle.f2_algebra.proofs.Chains.Tables.{◌⊻◌, and_comm, and_assoc, and-false, xor-false, xor_assoc, xor-and, xor_or}
+use Rattle.std.proofs.lemmas.Map.Views.{Contains-from_any}
 
 -- ---- membership in lists
 -- whether q is an element of the list
@@ -77,10 +78,6 @@ same_chain z w h = fin.same_map nat_cmp_total fin.nat_cmp-IsAntisymmetric z w (�
 -- the empty chain holds nothing
 pub holds-nothing : (q : ℕ) → holds nothing q ≡ false
 holds-nothing q = holds-of_codes [] q
-
-or-false : (a : Bool) → (a || false) ≡ a
-or-false true = refl
-or-false false = refl
 
 -- a single chain holds its code alone
 pub holds-single : (s q : ℕ) → holds (single s) q ≡ eqb q s
@@ -419,3 +416,9 @@ pairs_oddly-list z xs apart =
 pub parity-push : (p : ℕ → Bool) (xs : List ℕ) (x : ℕ) → parity p (xs ++ x ∷ []) ≡ (parity p xs ⊻ p x)
 parity-push p [] x = xor-false (p x)
 parity-push p (y ∷ xs) x = ap (λ b. p y ⊻ b) (parity-push p xs x) ∙ sym (xor_assoc (p y) (parity p xs) (p x))
+
+-- a code that a chain holds has what each of its codes has
+pub each_code : (P : ℕ → Type 0) (z : Chain) → All P (codes z) → (s : ℕ) → holds z s ≡ true → P s
+each_code P z all s held =
+    let (k, within, is) = Contains-from_any (λ a b. eqb-true a b) s (codes z) (sym (holds-codes z s) ∙ held) in
+    subst P is (all k s within)

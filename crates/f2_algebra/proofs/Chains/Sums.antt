@@ -1,5 +1,5 @@
 -- Chains as a vector space over the field of two elements, and sums over the codes of a chain.
-use Rattle.std.proofs.Common.{◌≡◌, ℕ, Bool, true, false, cond, ◌&&◌, eqb, List, [], ◌∷◌, map, refl, sym, ap, ap₂, ◌∙◌, arith}
+use Rattle.std.proofs.Common.{◌≡◌, ℕ, Bool, true, false, cond, ◌&&◌, eqb, List, [], ◌∷◌, map, refl, sym, ap, ap₂, ◌∙◌, arith, ◌++◌}
 use Rattle.std.proofs.lemmas.Simd.{map-map}
 use Rattle.f2_algebra.specs.Chain.{of_codes, Chain, holds, codes, nothing, single, ◌⊕◌, total, sum_over, pairs_oddly, where_code}
 use Rattle.f2_algebra.proofs.Chains.Tables.{◌⊻◌, xor-false, xor_self, xor_comm, xor_assoc, xor-and}
@@ -175,3 +175,8 @@ sum_over-list xs apart f =
     holds-sum_over (of_codes xs) f q ∙ weight-of_codes (λ s. holds (f s) q) xs apart
     ∙ sym (sym (weight-at (total (map f xs)) q) ∙ weight-total (λ s. eqb q s) f xs
     ∙ parity-same _ _ xs (λ s _. weight-at (f s) q)))
+
+-- the sum of a list with one more chain
+pub total-push : (zs : List Chain) (z : Chain) → total (zs ++ z ∷ []) ≡ total zs ⊕ z
+total-push [] z = add-nothing z ∙ sym (nothing-add z)
+total-push (w ∷ zs) z = ap (λ u. w ⊕ u) (total-push zs z) ∙ sym (add_assoc w (total zs) z)

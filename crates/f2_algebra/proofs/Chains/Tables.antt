@@ -1,7 +1,7 @@
 -- Boolean identities: the exclusive or of two tests, and identities proved by a table. Two Boolean
 -- functions of n tests that agree in each of the 2^n rows are equal at any n tests.
-use Rattle.std.proofs.Common.{◌≡◌, ℕ, zero, suc, Bool, true, false, not, ◌&&◌, ◌||◌, refl, sym, arith}
-use Rattle.std.proofs.lemmas.Bool.{and_parts, false≢true}
+use Rattle.std.proofs.Common.{◌≡◌, ℕ, zero, suc, Bool, true, false, not, ◌&&◌, ◌||◌, refl, sym, arith, eqb}
+use Rattle.std.proofs.lemmas.Bool.{and_parts, false≢true, or_parts, not-true}
 use mathlib.Core.Bool.{beq}
 
 infixl 30 ◌⊻◌
@@ -113,3 +113,17 @@ implies false b = true
 pub given : (a b : Bool) → a ≡ true → implies a b ≡ true → b ≡ true
 given true b h i = i
 given false b h i = absurd (false≢true h)
+
+-- two tests that imply each other are equal
+pub same_test : (a b : Bool) → (a ≡ true → b ≡ true) → (b ≡ true → a ≡ true) → a ≡ b
+same_test true b f g = sym (f refl)
+same_test false true f g = g refl
+same_test false false f g = refl
+
+-- equality of numbers is symmetric
+pub eqb_comm : (a b : ℕ) → eqb a b ≡ eqb b a
+eqb_comm a b = grind arith
+
+-- two tests of which neither holds
+pub neither : (a b : Bool) → not (a || b) ≡ true → (a ≡ false) × (b ≡ false)
+neither a b h = or_parts a b (not-true (a || b) h)

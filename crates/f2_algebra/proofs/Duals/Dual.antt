@@ -8,11 +8,11 @@ use Rattle.f2_algebra.specs.Dual.{IsDualOf}
 use Rattle.f2_algebra.proofs.Chains.Sets.{same_chain, holds-nothing, weight, weight-same, pairs_oddly-weight, pairs_oddly-comm, cardinality-length}
 use Rattle.f2_algebra.proofs.Chains.Sums.{holds-sum_over, weight-sum_over}
 use Rattle.f2_algebra.proofs.Certificates.Span.{Every}
-use Rattle.f2_algebra.proofs.Certificates.Certificate.{every, all_from, every_map, every_weaker, every_append, rank_of_certificate}
+use Rattle.f2_algebra.proofs.Certificates.Certificate.{Every-All, all_from, every_map, every_weaker, every_append, rank_of_certificate}
 use Rattle.f2_algebra.specs.Cancel.{after}
 use Rattle.f2_algebra.proofs.Cancelling.LogLemmas.{live_at_first}
 use Rattle.f2_algebra.proofs.Ranks.RankLemmas.{one_rank}
-use Rattle.f2_algebra.proofs.Ranks.Existence.{IsWithin, reduce, has_degree, has_degree-is, cells_of, cells_of-all}
+use Rattle.f2_algebra.proofs.Ranks.Existence.{HasAllCells, reduce, has_degree, has_degree-is, cells_of, cells_of-all}
 use Rattle.f2_algebra.proofs.Cancelling.LogCounts.{count_log}
 use Rattle.f2_algebra.proofs.Certificates.LogCertificate.{IsTest, step_pairs, cycle_pair, step_pairs_pass, cycle_pairs_pass, Pairwise, pairwise, pairs_from, every_both, pairwise_map}
 
@@ -78,10 +78,10 @@ module _ {G H : Type 0} (C : Complex G) (flip : G → H) (D : Complex H) (dual :
   dual_cycle_pairs : (m : G) (ps : List CyclePair) → AreCyclePairs C m ps → AreCyclePairs D (flip m) (map swap_cycle ps)
   dual_cycle_pairs m ps a =
       let qs = map swap_cycle ps in
-      let cyc = every (λ (p : CyclePair). IsCycle C m p.cycle) ps a.cycles in
-      let deg = every (λ (p : CyclePair). AllOfDegree C m p.cocycle) ps a.cocycle_degrees in
-      let coc = every (λ (p : CyclePair). (s : ℕ) → pairs_oddly (C.targets s) p.cocycle ≡ false) ps a.cocycles in
-      let own = every (λ (p : CyclePair). pairs_oddly p.cycle p.cocycle ≡ true) ps a.own in
+      let cyc = Every-All (λ (p : CyclePair). IsCycle C m p.cycle) ps a.cycles in
+      let deg = Every-All (λ (p : CyclePair). AllOfDegree C m p.cocycle) ps a.cocycle_degrees in
+      let coc = Every-All (λ (p : CyclePair). (s : ℕ) → pairs_oddly (C.targets s) p.cocycle ≡ false) ps a.cocycles in
+      let own = Every-All (λ (p : CyclePair). pairs_oddly p.cycle p.cocycle ≡ true) ps a.own in
       let others =
       pairwise (λ (p q : CyclePair). (pairs_oddly p.cycle q.cocycle ≡ false) × (pairs_oddly q.cycle p.cocycle ≡ false))
       ps a.others in
@@ -119,15 +119,15 @@ module _ {G H : Type 0} (C : Complex G) (flip : G → H) (D : Complex H) (dual :
       let qs = map swap_step rs in
       let steps =
       reversed-every (λ (p : StepPair). AllOfDegree C n p.step) ps
-      (every (λ (p : StepPair). AllOfDegree C n p.step) ps a.steps) in
+      (Every-All (λ (p : StepPair). AllOfDegree C n p.step) ps a.steps) in
       let probes =
       reversed-every (λ (p : StepPair). (s : ℕ) → holds p.probe s ≡ true
       → (i : G) × (C.degree s ≡ Some i) × (C.up i ≡ n)) ps
-      (every (λ (p : StepPair). (s : ℕ) → holds p.probe s ≡ true → (i : G) × (C.degree s ≡ Some i) × (C.up i ≡ n)) ps
+      (Every-All (λ (p : StepPair). (s : ℕ) → holds p.probe s ≡ true → (i : G) × (C.degree s ≡ Some i) × (C.up i ≡ n)) ps
       a.probe_degrees) in
       let own =
       reversed-every (λ (p : StepPair). pairs_oddly (border C p.step) p.probe ≡ true) ps
-      (every (λ (p : StepPair). pairs_oddly (border C p.step) p.probe ≡ true) ps a.own) in
+      (Every-All (λ (p : StepPair). pairs_oddly (border C p.step) p.probe ≡ true) ps a.own) in
       let later =
       reversed-pairwise (λ (p q : StepPair). pairs_oddly (border C q.step) p.probe ≡ false) ps
       (pairwise (λ (p q : StepPair). pairs_oddly (border C q.step) p.probe ≡ false) ps a.later) in
@@ -182,12 +182,12 @@ module _ {G H : Type 0} (C : Complex G) (flip : G → H) (D : Complex H) (dual :
 
 -- a finite complex and its dual have the same ranks
 pub ranks_of_dual : {G H : Type 0} (eq : G → G → Bool) (eq_is : (m n : G) → (eq m n ≡ true) ↔ (m ≡ n)) (C : Complex G)
-    → IsComplex C → (xs : List ℕ) → IsWithin C xs
+    → IsComplex C → (xs : List ℕ) → HasAllCells C xs
     → (flip : G → H) (D : Complex H) → IsDualOf C flip D → IsComplex D → (m : G) (d : ℕ) → IsRank C m d
     → IsRank D (flip m) d
 ranks_of_dual eq eq_is C laws xs in_xs flip D dual laws_d m d rank =
     let (log, stands, bare) = reduce C laws xs in_xs in
-    let in_after : IsWithin (after C log) xs =
+    let in_after : HasAllCells (after C log) xs =
     λ s live. in_xs s (sym (ap is_some (live_at_first C laws log stands s live)) ∙ live) in
     let z = cells_of eq eq_is C xs m in
     let w = cells_of eq eq_is (after C log) xs m in

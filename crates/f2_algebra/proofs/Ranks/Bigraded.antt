@@ -33,7 +33,7 @@ up_m_other d h = int_up_other d.0 (ap (λ p. p.0) h)
 abbrev pub with_second : ℤ → ℤ → ℤ × ℤ
 with_second a m = (m, a)
 
-some_if : (b : Bool) (m n : ℤ) → cond b (Some m) None ≡ Some n → (b ≡ true) × (m ≡ n)
+pub some_if : (b : Bool) (m n : ℤ) → cond b (Some m) None ≡ Some n → (b ≡ true) × (m ≡ n)
 some_if true m n e = (refl, same_some m n e)
 some_if false m n e = absurd (false≢true (ap is_some e))
 

@@ -13,8 +13,8 @@ use Rattle.f2_algebra.proofs.Ranks.RankLemmas.{rank_of_log}
 use Rattle.f2_algebra.specs.Certificate.{IsAllCells}
 
 -- each cell stands in the list
-abbrev pub IsWithin : {G : Type 0} → Complex G → List ℕ → Type 0
-IsWithin C xs = (s : ℕ) → is_some (C.degree s) ≡ true → any s xs ≡ true
+abbrev pub HasAllCells : {G : Type 0} → Complex G → List ℕ → Type 0
+HasAllCells C xs = (s : ℕ) → is_some (C.degree s) ≡ true → any s xs ≡ true
 
 -- a chain has a code, or is empty
 pub some_code : (z : Chain) → ((y : ℕ) × (holds z y ≡ true)) ⊎ (z ≡ nothing)
@@ -45,7 +45,7 @@ find_arrow C (x ∷ xs) =
     at_head s true e none bare i = ap C.targets (eqb-true s x e) ∙ none
     at_head s false e none bare i = bare s i
 
-no_arrow_within : {G : Type 0} (C : Complex G) → IsComplex C → (xs : List ℕ) → IsWithin C xs
+no_arrow_within : {G : Type 0} (C : Complex G) → IsComplex C → (xs : List ℕ) → HasAllCells C xs
     → ((s : ℕ) → any s xs ≡ true → C.targets s ≡ nothing) → (s : ℕ) → C.targets s ≡ nothing
 no_arrow_within C laws xs in_xs bare s =
     same_chain _ _ (λ t. none_where (arrow C s t) (λ a. let (m, above, _) = laws.lowers s t a in
@@ -66,7 +66,7 @@ when_in true b m h = ap (λ c. c && b) (h refl)
 when_in false b true h = refl
 when_in false b false h = refl
 
-entry_fits : {G : Type 0} (C : Complex G) → IsComplex C → (xs : List ℕ) → IsWithin C xs → (x y : ℕ) → arrow C x y ≡ true
+entry_fits : {G : Type 0} (C : Complex G) → IsComplex C → (xs : List ℕ) → HasAllCells C xs → (x y : ℕ) → arrow C x y ≡ true
     → IsEntry C (entry_of C xs x y)
 entry_fits C laws xs in_xs x y a = record {
   arrows = a;
@@ -104,7 +104,7 @@ IsBare C = (s : ℕ) → C.targets s ≡ nothing
 abbrev pub Reduced : {G : Type 0} → Complex G → Type 0
 Reduced C = (log : List Entry) × IsLog C log × ((s : ℕ) → (after C log).targets s ≡ nothing)
 
-reduce_by : {G : Type 0} (n : ℕ) (C : Complex G) → IsComplex C → (xs : List ℕ) → length xs ≤ n → IsWithin C xs
+reduce_by : {G : Type 0} (n : ℕ) (C : Complex G) → IsComplex C → (xs : List ℕ) → length xs ≤ n → HasAllCells C xs
     → Reduced C
 reduce_by zero C laws [] l in_xs = ([], tt, no_arrow_within C laws [] in_xs (λ s i. absurd (false≢true i)))
 reduce_by zero C laws (x ∷ xs) l in_xs = absurd (omega arith)
@@ -124,7 +124,7 @@ reduce_by (suc n) C laws xs l in_xs = elim (find_arrow C xs) [
 ]
 
 -- each finite complex has such a log
-pub reduce : {G : Type 0} (C : Complex G) → IsComplex C → (xs : List ℕ) → IsWithin C xs → Reduced C
+pub reduce : {G : Type 0} (C : Complex G) → IsComplex C → (xs : List ℕ) → HasAllCells C xs → Reduced C
 reduce C laws xs in_xs = reduce_by (length xs) C laws xs (omega arith) in_xs
 
 -- ---- a rank in each degree
@@ -144,7 +144,7 @@ module _ {G : Type 0} (eq : G → G → Bool) (eq_is : (m n : G) → (eq m n ≡
   cells_of C xs m = of_codes (filter (λ s. has_degree eq m (C.degree s)) xs)
 
   -- the codes that pass the test are all cells of the degree
-  pub cells_of-all : (C : Complex G) (xs : List ℕ) → IsWithin C xs → (m : G) → IsAllCells C m (cells_of C xs m)
+  pub cells_of-all : (C : Complex G) (xs : List ℕ) → HasAllCells C xs → (m : G) → IsAllCells C m (cells_of C xs m)
   cells_of-all C xs in_xs m s =
       let is : holds (cells_of C xs m) s ≡ (any s xs && has_degree eq m (C.degree s)) =
       holds-of_codes _ s ∙ any-filter s _ xs in (
@@ -153,9 +153,9 @@ module _ {G : Type 0} (eq : G → G → Bool) (eq_is : (m n : G) → (eq m n ≡
       )
 
   -- each finite complex has a rank in each degree
-  pub exists_rank : (C : Complex G) → IsComplex C → (xs : List ℕ) → IsWithin C xs → (m : G) → (d : ℕ) × IsRank C m d
+  pub exists_rank : (C : Complex G) → IsComplex C → (xs : List ℕ) → HasAllCells C xs → (m : G) → (d : ℕ) × IsRank C m d
   exists_rank C laws xs in_xs m =
       let (log, stands, bare) = reduce C laws xs in_xs in
       let D = after C log in
-      let in_D : IsWithin D xs = λ s live. in_xs s (sym (ap is_some (live_at_first C laws log stands s live)) ∙ live) in
+      let in_D : HasAllCells D xs = λ s live. in_xs s (sym (ap is_some (live_at_first C laws log stands s live)) ∙ live) in
       (_, rank_of_log C laws log stands bare m (cells_of D xs m) (cells_of-all D xs in_D m))

@@ -10,7 +10,7 @@ use Rattle.f2_algebra.specs.Dimension.{IsBasis}
 use Rattle.f2_algebra.specs.Maps.{extended, IsChainMap, IsHomotopy}
 use Rattle.f2_algebra.proofs.Chains.Sets.{weight-some}
 use Rattle.f2_algebra.proofs.Chains.Sums.{add_assoc, add_self, add-nothing, add_swap, add_back, IsLinear, linear-nothing, holds-sum_over, sum_over-add, sum_over-same, linear-sum_over, sum_over-singles, sum_over_both}
-use Rattle.f2_algebra.proofs.Cancelling.Cancellation.{border-add}
+use Rattle.f2_algebra.proofs.Cancelling.Cancellation.{complex_border-add}
 use Rattle.f2_algebra.proofs.Ranks.RankLemmas.{cycle-picked, degree-add}
 
 -- the image of a sum is the sum of the images
@@ -29,7 +29,7 @@ module _ {G : Type 0} (C D : Complex G) (f : ℕ → Chain) (is : IsChainMap C D
   extended_border m z of =
       linear-sum_over (extended f) (extended-linear f) z C.targets
       ∙ sum_over-same z _ _ (λ s h. is.commutes s m (of s h))
-      ∙ sym (linear-sum_over (border D) (border-add D) z f)
+      ∙ sym (linear-sum_over (border D) (complex_border-add D) z f)
 
   -- the image of a cycle is a cycle
   pub extended_cycle : (m : G) (z : Chain) → IsCycle C m z → IsCycle D m (extended f z)
@@ -52,7 +52,7 @@ module _ {G : Type 0} (C : Complex G) (f g h : ℕ → Chain) (is : IsHomotopy C
       ∙ sym (sum_over_both z single (λ s. extended g (f s)))
       ∙ sum_over-same z _ _ (λ s i. is.law s m (of s i))
       ∙ sum_over_both z (λ s. border C (h s)) (λ s. extended h (C.targets s))
-      ∙ ap₂ ◌⊕◌ (sym (linear-sum_over (border C) (border-add C) z h))
+      ∙ ap₂ ◌⊕◌ (sym (linear-sum_over (border C) (complex_border-add C) z h))
       (sym (linear-sum_over (extended h) (extended-linear h) z C.targets))
 
   -- a cycle and its image there and back differ by a boundary
@@ -68,7 +68,7 @@ module _ {G : Type 0} (C : Complex G) (f g h : ℕ → Chain) (is : IsHomotopy C
 
 boundary-add : {G : Type 0} (C : Complex G) (m : G) (z w : Chain) → IsBoundary C m z → IsBoundary C m w
     → IsBoundary C m (z ⊕ w)
-boundary-add C m z w a b = (a.0 ⊕ b.0, degree-add C (C.up m) a.0 b.0 a.1 b.1, border-add C a.0 b.0 ∙ ap₂ ◌⊕◌ a.2 b.2)
+boundary-add C m z w a b = (a.0 ⊕ b.0, degree-add C (C.up m) a.0 b.0 a.1 b.1, complex_border-add C a.0 b.0 ∙ ap₂ ◌⊕◌ a.2 b.2)
 
 boundary-same : {G : Type 0} (C : Complex G) (m : G) (z w : Chain) → z ≡ w → IsBoundary C m z → IsBoundary C m w
 boundary-same C m z w e b = (b.0, b.1, b.2 ∙ e)

@@ -106,7 +106,7 @@ bits_pigeonhole d e f into one = pow_le d e (pigeonhole (2 ^ d) (2 ^ e) (λ k. n
     ∙ ap number (one _ _ (length-bits d i) (length-bits d j)
     (number_one _ _ (into _ (length-bits d i) ∙ sym (into _ (length-bits d j))) same)) ∙ number-bits d j q))
 
--- ---- an injective map from a finite set to itself is onto
+-- ---- an injective map from a finite set to itself is reaches_each
 abbrev Hit : (ℕ → ℕ) → ℕ → ℕ → Type 0
 Hit f n k = ((i : ℕ) × (i < n) × (f i ≡ k)) ⊎ ((i : ℕ) → i < n → f i ≡ k → ⊥)
 
@@ -147,9 +147,9 @@ moved-one f m k one none i j p q e = elim (avoids (f i) m k) [
 ]
 
 -- a map of the numbers below n to different ones reaches each
-pub onto : (n : ℕ) (f : ℕ → ℕ) → Into f n n → OneToOne f n → (k : ℕ) → k < n → (i : ℕ) × (i < n) × (f i ≡ k)
-onto zero f into one k l = absurd (omega arith)
-onto (suc m) f into one k l = elim (hit f (suc m) k) [
+pub reaches_each : (n : ℕ) (f : ℕ → ℕ) → Into f n n → OneToOne f n → (k : ℕ) → k < n → (i : ℕ) × (i < n) × (f i ≡ k)
+reaches_each zero f into one k l = absurd (omega arith)
+reaches_each (suc m) f into one k l = elim (hit f (suc m) k) [
   | inl h ↦ h
   | inr none ↦
       absurd (let b = pigeonhole (suc m) m (moved f m k) (moved-into f m k into l none) (moved-one f m k one none) in
@@ -162,7 +162,7 @@ pub bits_onto : (d : ℕ) (f : List Bool → List Bool)
     → ((bs cs : List Bool) → length bs ≡ d → length cs ≡ d → f bs ≡ f cs → bs ≡ cs)
     → (bs : List Bool) → length bs ≡ d → (cs : List Bool) × (length cs ≡ d) × (f cs ≡ bs)
 bits_onto d f into one bs l =
-    let (i, p, e) = onto (2 ^ d) (λ k. number (f (bits d k)))
+    let (i, p, e) = reaches_each (2 ^ d) (λ k. number (f (bits d k)))
     (λ i p. subst (λ n. number (f (bits d i)) < 2 ^ n) (into (bits d i) (length-bits d i))
     (number-below (f (bits d i))))
     (λ i j p q same. sym (number-bits d i p)

@@ -12,7 +12,7 @@ use Rattle.f2_algebra.specs.Cancel.{Entry, IsLog, after, rest, lift}
 use Rattle.f2_algebra.proofs.Chains.Tables.{◌⊻◌}
 use Rattle.f2_algebra.proofs.Chains.Sets.{any, IsApart, IsApart-codes, same_chain, holds-nothing, holds-single, holds-add, holds-codes, xor-true}
 use Rattle.f2_algebra.proofs.Chains.Sums.{add_comm, add_self, nothing-add, add_back, same_of_sum, holds-when, linear-nothing}
-use Rattle.f2_algebra.proofs.Cancelling.Cancellation.{same_some, border-add, border-nothing, border-no_arrow}
+use Rattle.f2_algebra.proofs.Cancelling.Cancellation.{same_some, complex_border-add, border-nothing, border-no_arrow}
 use Rattle.f2_algebra.proofs.Cancelling.LogLemmas.{correction_by, lift-linear, rest-linear, lift_degrees, rest_degrees, correction_degrees, border-lift, rest_border, rest_lift, cycle_law}
 use Rattle.f2_algebra.proofs.Ranks.Pigeonhole.{bits_pigeonhole}
 
@@ -28,7 +28,7 @@ pub degree-nothing : {G : Type 0} (C : Complex G) (m : G) → AllOfDegree C m no
 degree-nothing C m s h = absurd (false≢true (sym (holds-nothing s) ∙ h))
 
 cycle-add : {G : Type 0} (C : Complex G) (m : G) (z w : Chain) → IsCycle C m z → IsCycle C m w → IsCycle C m (z ⊕ w)
-cycle-add C m z w a b = (degree-add C m z w a.0 b.0, border-add C z w ∙ ap₂ ◌⊕◌ a.1 b.1 ∙ add_self nothing)
+cycle-add C m z w a b = (degree-add C m z w a.0 b.0, complex_border-add C z w ∙ ap₂ ◌⊕◌ a.1 b.1 ∙ add_self nothing)
 
 cycle-nothing : {G : Type 0} (C : Complex G) (m : G) → IsCycle C m nothing
 cycle-nothing C m = (degree-nothing C m, border-nothing C)

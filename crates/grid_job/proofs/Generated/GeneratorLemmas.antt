@@ -4,13 +4,13 @@ use Rattle.std.specs.List.{swap}
 use Rattle.state_rank.specs.Bijection.{IsSize, IsBijection, tabulate, ascending, column_of}
 use Rattle.state_rank.specs.States.{IsState, transpose}
 use Rattle.state_rank.proofs.BijectionLemmas.{one_to_one, column_of-one_to_one, column_of-is}
-use Rattle.state_rank.proofs.OrderLemmas.{length-tabulate, get_or-tabulate}
+use Rattle.state_rank.proofs.OrderLemmas.{length-tabulate, get_or-tabulate, length-ascending}
 use Rattle.state_rank.proofs.SwapLemmas.{IsBijection-swap}
 use Rattle.std.proofs.lemmas.List.{get_or-take, length-take-le}
 use Rattle.front_data.proofs.FilledRows.{IsFilled}
 use Rattle.torus_geom.specs.Marks.{Marks, IsGrid}
 use Rattle.torus_geom.specs.Range.{one_up, one_down}
-use Rattle.torus_geom.proofs.Circles.TurnLemmas.{one_up_below, one_down_below, one_up-one_down, one_down-one_up, one_down-above, one_down-first}
+use Rattle.torus_geom.proofs.Circles.TurnLemmas.{one_up_below, one_down_below, one_up-one_down, one_down-one_up, one_down-other}
 use Rattle.grid_text.specs.Script.{GridScript, with_command}
 use Rattle.grid_text.specs.declared.commands.Command.TheVariants.{Front, Hat, Class}
 use Rattle.grid_text.specs.declared.commands.Sign.TheVariants.{Plus, Minus}
@@ -25,8 +25,6 @@ pub record IsShuffling (n first i number : ℕ) (state : List ℕ) : Type 0 wher
   pub small : number < 2 ^ 31
 
 -- ---- the numbers below n
-length-ascending : (n : ℕ) → length (ascending n) ≡ n
-length-ascending n = length-tabulate n (λ (c : ℕ). c)
 
 pub IsBijection-ascending : (n : ℕ) → IsBijection n (ascending n)
 IsBijection-ascending n =
@@ -94,13 +92,6 @@ pub IsShuffling-number : (n first i number : ℕ) (state : List ℕ) → i ≡ 0
 IsShuffling-number n first i number state none h = ap (λ k. number_after k number) (sym none) ∙ h.last
 
 -- ---- grids
-one_down_other : (n c : ℕ) → 2 ≤ n → c < n → one_down n c ≢ c
-one_down_other zero c two l e = absurd (omega (arith, two))
-one_down_other (suc m) zero two l e = omega (arith, two, one_down-first m, e)
-one_down_other (suc m) (suc c) two l e =
-    let same : suc c ≡ c + 1 = omega arith in
-    let down : one_down (suc m) (suc c) ≡ c = ap (one_down (suc m)) same ∙ one_down-above m c (omega (arith, l)) in
-    omega (arith, down, e)
 
 one_down_apart : (n b c : ℕ) → b < n → c < n → b ≢ c → one_down n b ≢ one_down n c
 one_down_apart n b c lb lc p e = p (sym (one_up-one_down n b lb) ∙ ap (one_up n) e ∙ one_up-one_down n c lc)
@@ -155,7 +146,7 @@ module _ (cs rs places o x : List ℕ) (n : ℕ) (size : IsSize n) (in_cs : IsBi
   marks_apart : (c : ℕ) → c < n → slice_index (take n o) c ≢ slice_index (take n x) c
   marks_apart c l e =
       in_rs.apart (one_down n (slice_index places c)) (slice_index places c) (before_below c l) (place_below c l)
-      (one_down_other n (slice_index places c) size.least (place_below c l))
+      (one_down-other n (slice_index places c) size.least (place_below c l))
       (sym (o_at c l) ∙ e ∙ x_at c l)
 
   pub IsGrid-put : IsGrid put

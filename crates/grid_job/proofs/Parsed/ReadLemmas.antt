@@ -2,7 +2,6 @@
 use Rattle.std.proofs.Common.{◌≡◌, ◌⊎◌, ℕ, Bool, true, false, not, List, [], ◌∷◌, ◌++◌, Some, None, Option, refl, sym, ap, subst, ◌∙◌, inl, inr, arith, suc, append-nil}
 use Rattle.std.specs.Prelude.{fold, if◌then◌else◌, ◌==◌, ◌+◌}
 use Rattle.clap.proofs.FaultLemmas.{leaf_fault}
-use Rattle.clap.specs.declared.parser.matches.ValueSource.TheVariants.{CommandLine}
 use Rattle.clap.specs.Walk.{Row, Text, walked, settled_rows, used, has_row, nothing_held, walk_from, with_default}
 use Rattle.clap.specs.Simple.{built, matches_of}
 use Rattle.clap.specs.Faults.{fault_of, walk_fault, settle_fault, option_fault, level_fault}

@@ -5,7 +5,7 @@ use Rattle.std.specs.Prelude.{slice_get}
 use Rattle.std.proofs.lemmas.Slice.Eq.{bytes_eq-Decides}
 use Rattle.std.proofs.lemmas.Bool.{cases_Bool}
 use Rattle.clap.specs.Walk.{Rule, Row, Text, Held, Walk, Waiting, idle, option, walked, arg_by_long, bundle_met, bundle, long_or_other, short_or_plain, after_flag, Outcome, plain, refused, after_step, plain_word}
-use Rattle.clap.specs.Simple.{Shape, built, is_simple}
+use Rattle.clap.specs.Simple.{Shape, built}
 use Rattle.clap.specs.Faults.{is_simple_and_free, turn_fault, long_fault, option_fault, flag_word_fault, step_fault}
 use Rattle.clap.specs.Kinds.{Kinds, or_else}
 use Rattle.clap.specs.Lexer.{long_of, short_of}

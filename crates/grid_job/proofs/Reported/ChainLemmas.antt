@@ -4,15 +4,15 @@ use Rattle.std.specs.List.{AllPairs, Contains}
 use Rattle.std.proofs.lemmas.Bool.{cases_Bool, eqb-true, true≢false}
 use Rattle.std.proofs.lemmas.List.{take_more, take_all, length-map, get_or-map}
 use Rattle.std.proofs.lemmas.List.Elements.{All-contains, All-head, All-map, All-tail}
-use Rattle.f2_algebra.specs.Chain.{nothing, of_codes, single, ◌⊕◌}
+use Rattle.f2_algebra.specs.Chain.{of_codes, single, ◌⊕◌}
 use Rattle.f2_algebra.proofs.Chains.Lists.{All-codes}
-use Rattle.f2_algebra.proofs.Chains.Sets.{any, any-append, holds-add, holds-nothing, holds-of_codes, holds-single, same_chain}
+use Rattle.f2_algebra.proofs.Chains.Sets.{any, any-append, holds-add, holds-of_codes, holds-single, same_chain}
 use Rattle.f2_algebra.proofs.Chains.Tables.{◌⊻◌}
 use Rattle.state_rank.specs.Bijection.{IsBijection}
 use Rattle.state_rank.specs.States.{IsState, rank, factorial}
 use Rattle.state_rank.proofs.MemberLemmas.{member_cases, pairs_head, pairs_tail}
 use Rattle.state_rank.proofs.RankLemmas.{rank-below, ranks_rise}
-use Rattle.torus_geom.specs.Marks.{Marks, size, IsGrid}
+use Rattle.torus_geom.specs.Marks.{Marks, size}
 use Rattle.grid_text.specs.Commands.{IsAllowed, IsStateOf}
 use Rattle.grid_text.specs.States.{AreStates}
 use Rattle.grid_text.specs.declared.commands.Command.{Command}

@@ -3,7 +3,7 @@ use Rattle.std.proofs.Common.{◌≡◌, ℕ, ◌<◌, ◌≤◌, List, [], ◌�
 use Rattle.std.specs.Prelude.{◌<ℤ◌}
 use Rattle.std.specs.Prelude.{MatchOption}
 use Rattle.std.proofs.lemmas.Int.{ints}
-use Rattle.std.proofs.lemmas.List.{get_or-map, length-map}
+use Rattle.std.proofs.lemmas.List.{get_or-map}
 use Rattle.std.proofs.lemmas.List.Elements.{Contains-get_or}
 use Rattle.std.proofs.lemmas.List.Sums.{length-filter, count_by-le-length}
 use Rattle.state_rank.specs.Bijection.{ascending}
@@ -22,6 +22,7 @@ use Rattle.torus_geom.specs.Homology.{Row, StandsBefore}
 use Rattle.torus_geom.specs.Marks.{Marks, size, IsGrid}
 use Rattle.grid_job.specs.Hat.{hat_exponent, IsHat, IsHatText}
 use Rattle.grid_job.specs.Report.{IsTableText}
+use Rattle.f2_algebra.proofs.Chains.Lists.{below-map}
 
 -- ---- each grid has a table
 table_row : Row → TableRow
@@ -71,12 +72,9 @@ module _ (g : Marks) (rows : List TableRow) (table : IsHomologyTable g (map homo
       → get_or (map homology_row rows) k (homology_row d) ≡ homology_row (get_or rows k d)
   at_row k d l = get_or-map homology_row rows k d (homology_row d) l
 
-  longer : (k : ℕ) → k < length rows → k < length (map homology_row rows)
-  longer k l = omega (arith, l, length-map rows homology_row)
-
   in_order : AreOrdered rows
   in_order i j d l within =
-      let pair = table.ordered i j (homology_row d) l (longer j within) in
+      let pair = table.ordered i j (homology_row d) l (below-map homology_row rows j within) in
       let first =
       subst (λ r. StandsBefore r (get_or (map homology_row rows) j (homology_row d)))
       (at_row i d (omega (arith, l, within))) pair in
@@ -88,7 +86,7 @@ module _ (g : Marks) (rows : List TableRow) (table : IsHomologyTable g (map homo
       let row = get_or rows k d in
       let inside : Contains (map homology_row rows) (homology_row row) =
       subst (Contains (map homology_row rows)) (at_row k d l)
-      (Contains-get_or (map homology_row rows) k (homology_row d) (longer k l)) in
+      (Contains-get_or (map homology_row rows) k (homology_row d) (below-map homology_row rows k l)) in
       omega (arith, ((table.complete row.m row.a row.rank).0 inside).0)
 
   ArePositive-homology : ArePositive rows

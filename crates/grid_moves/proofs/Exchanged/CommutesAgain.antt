@@ -3,7 +3,7 @@
 use Rattle.std.proofs.Common.{Bool, ap, ap₂, arith, eqb, false, inl, inr, leb, length, ltb, not, slice_index, swap, sym, true, true≢false, ℕ, ◌&&◌, ◌<◌, ◌||◌, ◌∙◌, ◌≡◌, ◌≢◌, refl}
 use Rattle.std.proofs.lemmas.Bool.{and_from, and_parts, cases_lt, eq-eqb, ne_eqb}
 use Rattle.std.proofs.lemmas.List.Edits.{length-swap}
-use Rattle.f2_algebra.proofs.Chains.Tables.{same, ◌⊻◌}
+use Rattle.f2_algebra.proofs.Chains.Tables.{same, ◌⊻◌, neither}
 use Rattle.state_rank.proofs.SwapLemmas.{slice_index-swap_first, slice_index-swap_second}
 use Rattle.torus_geom.proofs.Circles.BetweenLemmas.{between}
 use Rattle.torus_geom.proofs.Circles.RangeLemmas.{in_range-across, in_range-plain}
@@ -44,11 +44,6 @@ separate_alike p q r s pr ps qr qs =
 abbrev commute_by : ℕ → ℕ → ℕ → ℕ → ℕ → Bool
 commute_by n p q r s =
     (not (eqb r p || eqb r q) && not (eqb s p || eqb s q)) && are_same (in_range n p q r) (in_range n p q s)
-
-neither : (u v : Bool) → not (u || v) ≡ true → (u ≡ false) × (v ≡ false)
-neither true v h = absurd (true≢false (sym h))
-neither false true h = absurd (true≢false (sym h))
-neither false false h = (refl, refl)
 
 apart_of : (a b : ℕ) → eqb a b ≡ false → a ≢ b
 apart_of a b e i = true≢false (sym (eq-eqb a b i) ∙ e)

@@ -5,15 +5,13 @@
 -- Route: a code moves to the rank of the image of its state, and a number that is the rank of no state stays,
 -- so that the map of codes has an inverse on all numbers; such a map may be taken into each sum.
 use Rattle.std.proofs.Common.{Bool, List, [], ap, ap₂, arith, cond, eqb, false, inl, inr, map, refl, sym, true, ℕ, ◌<◌, ◌||◌, ◌∙◌, ◌∷◌, ◌≡◌, ◌≤◌}
-use Rattle.std.proofs.Math.ListN.{get_or-eq_default}
 use Rattle.std.proofs.lemmas.Bool.{cases_lt, false_from_ne_true, le-ltb, lt-ltb}
 use Rattle.f2_algebra.proofs.Chains.Sets.{any, holds-codes, holds-nothing, holds-of_codes, holds-single, same_chain, weight, weight-at, weight-same, weight-single}
 use Rattle.f2_algebra.proofs.Chains.Sums.{holds-sum_over, weight-sum_over}
 use Rattle.f2_algebra.specs.Chain.{Chain, codes, holds, nothing, of_codes, single, sum_over}
-use Rattle.state_rank.proofs.OrderLemmas.{length-states}
-use Rattle.state_rank.proofs.RankLemmas.{IsBijection-unrank, rank-below, rank-unrank, unrank-rank}
+use Rattle.state_rank.proofs.RankLemmas.{IsBijection-unrank, rank-below, rank-unrank, unrank-rank, unrank-past}
 use Rattle.state_rank.specs.Bijection.{IsBijection}
-use Rattle.state_rank.specs.States.{factorial, rank, states, unrank}
+use Rattle.state_rank.specs.States.{factorial, rank, unrank}
 use Rattle.grid_moves.specs.Inner.CodeCarried.{carried, moved}
 
 -- equations that imply each other are tested alike
@@ -58,11 +56,6 @@ pub record AreInverse (n : ℕ) (f b : List ℕ → List ℕ) : Type 0 where
 -- and the other way round
 pub AreInverse-back : (n : ℕ) (f b : List ℕ → List ℕ) → AreInverse n f b → AreInverse n b f
 AreInverse-back n f b is = record { kept = is.kept_back; kept_back = is.kept; undone = is.redone; redone = is.undone }
-
--- a code past the ranks of the states has the empty list
-pub unrank-past : (n k : ℕ) → factorial n ≤ k → unrank n k ≡ []
-unfolding unrank
-unrank-past n k l = get_or-eq_default (states n) [] (let e = length-states n in omega arith)
 
 module _ (n : ℕ) (f : List ℕ → List ℕ) where
   -- the rank of a state moves

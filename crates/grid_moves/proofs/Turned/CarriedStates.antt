@@ -17,7 +17,7 @@ use Rattle.torus_geom.proofs.TransposeLemmas.{IsBijection-transposed}
 use Rattle.grid_moves.proofs.Turned.TurnedStates.{IsBijection-turned_state}
 use Rattle.torus_geom.specs.Chains.{Chain, IsChain, members, carried}
 use Rattle.torus_geom.specs.Codes.{states_of}
-use Rattle.torus_geom.proofs.Chains.StateTests.{same_test, is_same-is, is_same-true, any-member, member_of_any, Contains-codes, holds-member}
+use Rattle.torus_geom.proofs.Chains.StateTests.{is_same-is, is_same-true, any-member, member_of_any, Contains-codes, holds-member}
 use Rattle.torus_geom.proofs.Chains.ChainLemmas.{Contains-members, member_of_members}
 use Rattle.torus_geom.proofs.Chains.CodesLemmas.{AreRanks, states_of-at, in_states_of, is_states_of}
 use Rattle.grid_moves.specs.Carried.{turned_state, turned_chain, transposed_chain}
@@ -33,10 +33,11 @@ use Rattle.torus_geom.specs.Chains.{Chain, IsChain, members, carried}
 use Rattle.torus_geom.specs.Codes.{states_of}
 use Rattle.torus_geom.specs.Inner.CodeBorder as code_border
 use Rattle.torus_geom.specs.Rectangle.{is_same}
-use Rattle.torus_geom.proofs.Chains.StateTests.{same_test, is_same-is, is_same-true, any-member, member_of_any, Contains-codes, holds-member}
+use Rattle.torus_geom.proofs.Chains.StateTests.{is_same-is, is_same-true, any-member, member_of_any, Contains-codes, holds-member}
 use Rattle.torus_geom.proofs.Chains.ChainLemmas.{Contains-members, member_of_members}
 use Rattle.torus_geom.proofs.Chains.CodesLemmas.{AreRanks, by_ranks, states_of-at, in_states_of, is_states_of}
 use Rattle.torus_geom.proofs.Chains.ReachedLemmas.{AreRanks-border, states_of-border, states_of-border_at}
+use Rattle.f2_algebra.proofs.Chains.Tables.{same_test}
 
 -- ---- chains carried along a map of states
 module _ (n : ℕ) (f : List ℕ → List ℕ) (keeps : (x : List ℕ) → IsBijection n x → IsBijection n (f x)) where

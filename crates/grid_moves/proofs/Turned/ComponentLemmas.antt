@@ -1,49 +1,20 @@
 -- The number of components of a grid whose columns are renamed, and when a state of another grid has the same
 -- degrees.
-use Rattle.std.proofs.Common.{◌≡◌, ℕ, zero, suc, ◌<◌, List, slice_index, refl, ap, subst, ◌∙◌, sym, arith}
+use Rattle.std.proofs.Common.{◌≡◌, ℕ, ◌<◌, List, slice_index, ap, subst, ◌∙◌, sym, arith}
 use Rattle.std.proofs.Math.IntN.{pos, ◌-ℤ◌}
 use Rattle.std.proofs.lemmas.Int.{ints}
-use Rattle.std.proofs.lemmas.Bool.{leb-true, le-leb}
-use Rattle.std.specs.Prelude.{nat_le, int_div}
+use Rattle.std.specs.Prelude.{int_div}
 use Rattle.state_rank.specs.Bijection.{column_of}
-use Rattle.state_rank.proofs.BijectionLemmas.{IsOneToOne, one_to_one, column_of-is, column_of-one_to_one, row-column_of}
+use Rattle.state_rank.proofs.BijectionLemmas.{IsOneToOne, one_to_one, column_of-is, row-column_of}
 use Rattle.torus_geom.specs.Counts.{count_below}
 use Rattle.torus_geom.specs.Marks.{Marks, size, IsGrid}
-use Rattle.torus_geom.specs.Components.{column_after, walk, is_first, components}
+use Rattle.torus_geom.specs.Components.{column_after, is_first, components}
 use Rattle.torus_geom.specs.Degrees.{maslov_o, maslov_x, alexander}
-use Rattle.torus_geom.proofs.Sums.AllBelowLemmas.{at_all_below, all_below-true}
-use Rattle.torus_geom.proofs.Sums.TabulateLemmas.{pos-length-filter-ascending}
-use Rattle.torus_geom.proofs.Cycles.CycleLemmas.{after, PicksOne, picks_first}
+use Rattle.torus_geom.proofs.Cycles.CycleLemmas.{PicksOne}
 use Rattle.grid_moves.proofs.Turned.CycleCounts.{same_cycles, same_cycles_along}
+use Rattle.torus_geom.proofs.Cycles.ComponentLemmas.{column_after_one, is_first_picks, components-count}
 
 module _ (g : Marks) (grid : IsGrid g) where
-  -- the step of the walk is a bijection
-  column_after_one : IsOneToOne (size g) (column_after g)
-  column_after_one =
-      let columns = column_of-one_to_one (size g) (slice_index g.o) (one_to_one (size g) g.o grid.o) in
-      record {
-        small = λ c l. columns.small (slice_index g.x c) (grid.x.small c l);
-        apart = λ b c lb lc p. columns.apart (slice_index g.x b) (slice_index g.x c) (grid.x.small b lb)
-            (grid.x.small c lc) (grid.x.apart b c lb lc p);
-      }
-
-  walk-after : (k c : ℕ) → walk g k c ≡ after (column_after g) k c
-  walk-after zero c = refl
-  walk-after (suc k) c = ap (column_after g) (walk-after k c)
-
-  -- the first columns are one of each cycle
-  is_first_picks : PicksOne (size g) (column_after g) (is_first g)
-  is_first_picks = picks_first (size g) (column_after g) column_after_one (is_first g)
-      (λ c first k l. let e = walk-after k c in
-      let low = leb-true c (walk g k c) (at_all_below (size g) (λ i. nat_le c (walk g i c)) first k l) in omega arith)
-      (λ c low. all_below-true (size g) (λ k. nat_le c (walk g k c))
-      (λ k l. let e = walk-after k c in let least = low k l in le-leb c (walk g k c) (omega arith)))
-
-  -- the components are the first columns
-  components-count : pos (components g) ≡ count_below (size g) (is_first g)
-  unfolding components
-  components-count = pos-length-filter-ascending (is_first g) (size g)
-
   -- the O of the next column is in the row of the X
   pub row-column_after : (c : ℕ) → c < size g → slice_index g.o (column_after g c) ≡ slice_index g.x c
   row-column_after c l =
@@ -70,12 +41,12 @@ module _ (g h : Marks) (sg : IsGrid g) (sh : IsGrid h) (e : size h ≡ size g) (
       → components h ≡ components g
   components-along meet =
       let of_h : pos (components h) ≡ pos (components g) =
-      components-count h sh ∙ ap (λ m. count_below m (is_first h)) e
+      components-count h ∙ ap (λ m. count_below m (is_first h)) e
       ∙ sym (same_cycles_along (size g) (column_after g) (column_after h) r (column_after_one g sg) step_one one
       (λ c l. step_is (r c) (r (column_after g c)) (one.small (column_after g c) ((column_after_one g sg).small c l))
       (meet c l))
       (is_first g) (is_first h) (is_first_picks g sg) picks)
-      ∙ sym (components-count g sg) in
+      ∙ sym (components-count g) in
       omega (arith, ints)
 
   -- The same where the walk of h goes round the cycles of g the other way.
@@ -83,11 +54,11 @@ module _ (g h : Marks) (sg : IsGrid g) (sh : IsGrid h) (e : size h ≡ size g) (
       → components h ≡ components g
   components-back meet =
       let of_h : pos (components h) ≡ pos (components g) =
-      components-count h sh ∙ ap (λ m. count_below m (is_first h)) e
+      components-count h ∙ ap (λ m. count_below m (is_first h)) e
       ∙ sym (same_cycles (size g) (column_after g) (column_after h) r (column_after_one g sg) step_one one
       (λ c l. step_is (r (column_after g c)) (r c) (one.small c l) (meet c l))
       (is_first g) (is_first h) (is_first_picks g sg) picks)
-      ∙ sym (components-count g sg) in
+      ∙ sym (components-count g) in
       omega (arith, ints)
 
 -- where size, components and both Maslov degrees agree, so does the Alexander degree

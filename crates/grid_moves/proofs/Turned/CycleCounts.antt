@@ -3,7 +3,7 @@
 -- one cycle) are counted by c and by d.
 use Rattle.std.proofs.Common.{◌≡◌, ℕ, zero, suc, ◌+◌, ◌<◌, Bool, true, false, not, ◌&&◌, refl, ap, ◌∙◌, sym, eqb, arith, inl, inr, cond}
 use Rattle.std.proofs.Math.IntN.{pos}
-use Rattle.std.proofs.lemmas.Bool.{cases_eq, cases_Bool, eqb-true, eq-eqb, ne_eqb, and_from, and_parts, false_from_ne_true, false≢true}
+use Rattle.std.proofs.lemmas.Bool.{cases_eq, cases_Bool, eqb-true, eq-eqb, ne_eqb, and_from, and_parts, false_from_ne_true, false≢true, not-true, not-false}
 use Rattle.state_rank.proofs.BijectionLemmas.{IsOneToOne}
 use Rattle.state_rank.proofs.Pigeonhole.{onto}
 use Rattle.torus_geom.specs.Counts.{one_if, count_below, all_below}
@@ -29,18 +29,10 @@ module _ (n : ℕ) (s : ℕ → ℕ) (one : IsOneToOne n s) where
     | inr h ↦ (m, omega arith, h)
   ]
 
-  not-false : (b : Bool) → not b ≡ true → b ≡ false
-  not-false true e = absurd (false≢true e)
-  not-false false e = refl
-
-  not-true : (b : Bool) → not b ≡ false → b ≡ true
-  not-true true e = refl
-  not-true false e = absurd (false≢true (sym e))
-
   comes_to-meets : (d c : ℕ) → comes_to d c ≡ true → Meets s d c
   comes_to-meets d c h =
-      let (k, l, e) = found_below n (λ k. not (eqb (after s k d) c)) (not-false _ h) in
-      (k, eqb-true (after s k d) c (not-true _ e))
+      let (k, l, e) = found_below n (λ k. not (eqb (after s k d) c)) (not-true _ h) in
+      (k, eqb-true (after s k d) c (not-false _ e))
 
   meets_on : (c d e : ℕ) → Meets s c d → Meets s d e → Meets s c e
   meets_on c d e (j, i) (k, h) = (k + j, after-add s k j c ∙ ap (after s k) i ∙ h)

@@ -1,12 +1,11 @@
 -- A turn carries the border of a chain to the border of the turned chain.
-use Rattle.std.proofs.Common.{[], List, ap, refl, subst, sym, ℕ, ◌<◌, ◌∙◌, ◌≡◌}
-use Rattle.std.proofs.lemmas.Bool.{and_parts, eqb-true}
-use Rattle.f2_algebra.specs.Chain.{Chain, holds, is_odd, nothing, sum_over}
+use Rattle.std.proofs.Common.{List, ap, refl, subst, sym, ℕ, ◌<◌, ◌∙◌, ◌≡◌}
+use Rattle.f2_algebra.specs.Chain.{Chain, holds, is_odd, sum_over}
 use Rattle.state_rank.specs.Bijection.{IsBijection}
 use Rattle.state_rank.specs.States.{factorial, rank, unrank}
 use Rattle.std.specs.List.{filter}
 use Rattle.std.proofs.Common.{length}
-use Rattle.torus_geom.proofs.Circles.RectangleLemmas.{border_of_state-no_step}
+use Rattle.torus_geom.proofs.Circles.RectangleLemmas.{border_of_state-nil}
 use Rattle.torus_geom.specs.Inner.CodeBorder.{border, border_of_state}
 use Rattle.torus_geom.specs.Border.{is_step}
 use Rattle.torus_geom.specs.Marks.{IsGrid, Marks, size}
@@ -21,19 +20,11 @@ use Rattle.grid_moves.specs.Carried.{turned_state}
 use Rattle.grid_moves.specs.Moves.{turned}
 use Rattle.grid_moves.specs.declared.turns.Side.{Side}
 
--- no rectangle leaves the empty list
-border_of_nil : (g : Marks) → border_of_state g [] ≡ nothing
-border_of_nil g = border_of_state-no_step g [] (λ y r proper step.
-    let led = (and_parts _ _ step).0 in
-    let low = and_parts _ _ led in
-    let high = and_parts _ _ low.1 in
-    proper.rows (sym (eqb-true 0 r.low low.0) ∙ eqb-true 0 r.high high.0))
-
 -- the border of a state has ranks of states, and the empty list has none
 pub border_IsOfStates : (h : Marks) (n : ℕ) → size h ≡ n → IsOfStates n (border_of_state h)
 unfolding border_of_state
 border_IsOfStates h n e = record {
-  of_nil = border_of_nil h;
+  of_nil = border_of_state-nil h;
   below = λ x c sx k. subst (λ m. c < factorial m) e
       (states_where-below (size h) (λ y. is_odd (length (filter (is_step h x y) (rectangles (size h))))) c k);
 }

@@ -1,7 +1,6 @@
 -- A turn keeps the Maslov and the Alexander degree of each state, and the number of components.
 -- Route: a turn to the left changes pairs by the rows of the first points alone, which cancel in the degree; to the
--- right
--- it is undone; up and down are turns of the columns of rows.
+-- right it is undone; up and down are turns of the columns of rows.
 use Rattle.std.proofs.Common.{List, ap, arith, length, refl, slice_index, subst, suc, sym, zero, ℕ, ◌<◌, ◌∙◌, ◌≡◌}
 use Rattle.std.proofs.lemmas.Int.{ints}
 use Rattle.state_rank.proofs.BijectionLemmas.{IsOneToOne, column_of-below, column_of-one_to_one, one_to_one}

@@ -1,16 +1,15 @@
 -- A turn carries each step of the border to a step: each test of a rectangle is that of the turned one, since
 -- tests of all columns may be taken in another order; and the rectangles are turned to all rectangles.
-use Rattle.std.proofs.Common.{Bool, Contains, List, [], ◌∷◌, ap, ap₂, arith, eqb, length, map, not, refl, slice_index, suc, swap, sym, zero, ℕ, ◌&&◌, ◌<◌, ◌||◌, ◌∙◌, ◌≡◌, ◌≢◌}
+use Rattle.std.proofs.Common.{Bool, Contains, List, [], ◌∷◌, ap, ap₂, arith, eqb, length, map, not, refl, slice_index, swap, sym, ℕ, ◌&&◌, ◌<◌, ◌||◌, ◌∙◌, ◌≡◌, ◌≢◌}
 use Rattle.std.specs.List.{filter}
-use Rattle.f2_algebra.proofs.Chains.ParityLemmas.{Each, is_odd-filter, parity, parity-ext, parity-filter, parity-flat_map, parity-map, parity-same_on, parity_below, parity_below-first, parity_below-same}
-use Rattle.f2_algebra.proofs.Chains.Tables.{◌⊻◌}
+use Rattle.f2_algebra.proofs.Chains.ParityLemmas.{Each, is_odd-filter, parity, parity-ext, parity-filter, parity-flat_map, parity-map, parity-same_on, parity_below, parity_below-same}
 use Rattle.f2_algebra.specs.Chain.{is_odd}
 use Rattle.state_rank.proofs.BijectionLemmas.{IsOneToOne, same_list}
 use Rattle.state_rank.proofs.MemberLemmas.{member_head, member_tail}
 use Rattle.state_rank.proofs.Pigeonhole.{onto}
 use Rattle.state_rank.proofs.SwapLemmas.{IsBijection-swap, exchanged, exchanged_below, slice_index-swap}
-use Rattle.state_rank.specs.Bijection.{IsBijection, ascending, tabulate}
-use Rattle.torus_geom.proofs.Circles.RectangleLemmas.{member_of_pairs_apart}
+use Rattle.state_rank.specs.Bijection.{IsBijection, ascending}
+use Rattle.torus_geom.proofs.Circles.RectangleLemmas.{member_of_pairs_apart, corners}
 use Rattle.torus_geom.specs.Border.{is_step}
 use Rattle.torus_geom.specs.Counts.{all_below}
 use Rattle.torus_geom.specs.Marks.{IsGrid, Marks, size}
@@ -24,10 +23,8 @@ use Rattle.grid_moves.proofs.Turned.TurnedStates.{IsBijection-turned_state, sour
 use Rattle.grid_moves.specs.Carried.{target_column, turned_state}
 use Rattle.grid_moves.specs.Moves.{moved_row, turned, turned_rows}
 use Rattle.grid_moves.specs.declared.turns.Side.{Side}
-
--- the rectangle with these circles
-abbrev pub corners : ℕ → ℕ → ℕ → ℕ → Rect
-corners a b j k = record { left = a; right = b; low = j; high = k }
+use Rattle.torus_geom.proofs.Sums.AllBelowLemmas.{all_below-same}
+use Rattle.torus_geom.proofs.Sums.TabulateLemmas.{parity-tabulate}
 
 -- ---- sums over rectangles
 -- what holds of each member
@@ -35,22 +32,16 @@ each_member : {A : Type 0} (P : A → Type 0) (xs : List A) → ((x : A) → Con
 each_member P [] h = tt
 each_member P (x ∷ xs) h = (h x (member_head x xs), each_member P xs (λ y m. h y (member_tail x xs y m)))
 
-parity_tabulate : {A : Type 0} (p : A → Bool) (n : ℕ) (f : ℕ → A)
-    → parity p (tabulate n f) ≡ parity_below n (λ c. p (f c))
-parity_tabulate p zero f = refl
-parity_tabulate p (suc n) f =
-    ap (λ b. p (f 0) ⊻ b) (parity_tabulate p n (λ c. f (suc c))) ∙ sym (parity_below-first n (λ c. p (f c)))
-
 -- over the ordered pairs of different numbers
 parity_pairs : (p : ℕ × ℕ → Bool) (n : ℕ)
     → parity p (pairs_apart n) ≡ parity_below n (λ a. parity_below n (λ b. not (eqb a b) && p (a, b)))
 parity_pairs p n =
     parity-flat_map p (λ a. map (λ b. (a, b)) (filter (λ b. not (eqb a b)) (ascending n))) (ascending n)
-    ∙ parity_tabulate (λ a. parity p (map (λ b. (a, b)) (filter (λ b. not (eqb a b)) (ascending n)))) n (λ c. c)
+    ∙ parity-tabulate (λ a. parity p (map (λ b. (a, b)) (filter (λ b. not (eqb a b)) (ascending n)))) n (λ c. c)
     ∙ parity_below-same n _ (λ a. parity_below n (λ b. not (eqb a b) && p (a, b))) (λ a l.
     parity-map p (λ b. (a, b)) (filter (λ b. not (eqb a b)) (ascending n))
     ∙ parity-filter (λ b. p (a, b)) (λ b. not (eqb a b)) (ascending n)
-    ∙ parity_tabulate (λ b. not (eqb a b) && p (a, b)) n (λ c. c))
+    ∙ parity-tabulate (λ b. not (eqb a b) && p (a, b)) n (λ c. c))
 
 -- a renaming of the numbers keeps the sum
 pairs_renamed : (n : ℕ) (f : ℕ → ℕ) → IsOneToOne n f → (p : ℕ × ℕ → Bool)
@@ -92,10 +83,6 @@ rectangles_renamed n f h of oh p p' same =
     ∙ sym (parity_rectangles p n)
 
 -- ---- rectangles of turned states
--- tests that agree
-all_below_same : (n : ℕ) (p q : ℕ → Bool) → ((t : ℕ) → t < n → p t ≡ q t) → all_below n p ≡ all_below n q
-all_below_same zero p q h = refl
-all_below_same (suc n) p q h = ap₂ (λ a b. a && b) (h n (omega arith)) (all_below_same n p q (λ t l. h t (omega arith)))
 
 inside-shift : (n : ℕ) (k : ℕ → ℕ) → IsShift n k → (a b t : ℕ) → a < n → b < n → t < n
     → is_inside n (k a) (k b) (k t) ≡ is_inside n a b t
@@ -156,7 +143,7 @@ module _ (side : Side) (n : ℕ) where
       ap₂ (λ p q. eqb p q && all_below p (λ c. eqb (slice_index (T x) c) (slice_index (T y) c))) tx.long ty.long
       ∙ ap (λ b. eqb n n && b)
       (sym (all_below_reindex n f sf.one (λ c. eqb (slice_index (T x) c) (slice_index (T y) c)))
-      ∙ all_below_same n _ (λ c. eqb (slice_index x c) (slice_index y c)) (λ c l.
+      ∙ all_below-same n _ (λ c. eqb (slice_index x c) (slice_index y c)) (λ c l.
       ap₂ eqb (state-at_target x sx c l) (state-at_target y sy c l)
       ∙ eqb-shift n h sh.one (slice_index x c) (slice_index y c) (sx.small c l) (sy.small c l)))
       ∙ sym (ap₂ (λ p q. eqb p q && all_below p (λ c. eqb (slice_index x c) (slice_index y c))) sx.long sy.long)
@@ -181,7 +168,7 @@ module _ (side : Side) (n : ℕ) where
         (IsBijection-turned_state side n x sx).long
         ∙ sym (all_below_reindex n f sf.one
         (λ c. not (is_inside n (f a) (f b) c && is_inside n (h j) (h k) (slice_index (T x) c))))
-        ∙ all_below_same n _ (λ c. not (is_inside n a b c && is_inside n j k (slice_index x c))) (λ c l.
+        ∙ all_below-same n _ (λ c. not (is_inside n a b c && is_inside n j k (slice_index x c))) (λ c l.
         ap₂ (λ p q. not (p && q)) (inside-shift n f sf a b c la lb l)
         (ap (is_inside n (h j) (h k)) (state-at_target x sx c l)
         ∙ inside-shift n h sh j k (slice_index x c) lj lk (sx.small c l)))
@@ -203,7 +190,7 @@ module _ (side : Side) (n : ℕ) where
         sym (all_below_reindex n f sf.one
         (λ c. not (in_range n (f a) (f b) c && (in_range n (h j) (h k) (slice_index (turned_rows side n g.o) c)
         || in_range n (h j) (h k) (slice_index (turned_rows side n g.x) c)))))
-        ∙ all_below_same n _ (λ c. not (in_range n a b c && (in_range n j k (slice_index g.o c)
+        ∙ all_below-same n _ (λ c. not (in_range n a b c && (in_range n j k (slice_index g.o c)
         || in_range n j k (slice_index g.x c)))) (λ c l.
         λ i. not (sf.range a b c la lb l i && (mark-turned g.o so c l i || mark-turned g.x sx c l i)))
 

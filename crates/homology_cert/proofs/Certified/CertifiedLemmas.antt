@@ -17,7 +17,7 @@ use Rattle.f2_algebra.specs.Chain.{Chain, holds, codes, nothing, pairs_oddly}
 use Rattle.f2_algebra.specs.Complex.{Complex, AllOfDegree, IsCycle, IsComplex, IsRank, border as border_in}
 use Rattle.f2_algebra.specs.Bigraded.{up_m}
 use Rattle.f2_algebra.specs.Certificate.{CyclePair, StepPair, IsAllCells, AreCyclePairs, AreStepPairs, IsCertCell, Passes, steps_at}
-use Rattle.f2_algebra.proofs.Chains.Sets.{any, IsApart, same_chain, holds-codes, holds-nothing, pairs_oddly-weight, weight-nothing, cardinality-length, cardinality-of_codes}
+use Rattle.f2_algebra.proofs.Chains.Sets.{any, IsApart, same_chain, holds-codes, holds-nothing, pairs_oddly-weight, weight-nothing, cardinality-length, cardinality-of_codes, each_code}
 use Rattle.f2_algebra.proofs.Cancelling.Cancellation.{same_some}
 use Rattle.f2_algebra.proofs.Ranks.Existence.{cells_of, cells_of-all, has_degree as has_degree_in}
 use Rattle.f2_algebra.proofs.Ranks.RankLemmas.{one_rank}
@@ -59,12 +59,6 @@ same_degree-is d e = (
       ((Decides-int_eq d.1 e.1).1 (ap (λ (t : ℤ × ℤ). t.1) e_is)),
 )
 
--- a code that a chain holds has what each of its codes has
-pub at_code : (P : ℕ → Type 0) (z : Chain) → All P (codes z) → (s : ℕ) → holds z s ≡ true → P s
-at_code P z all s held =
-    let (k, within, is) = Contains-from_any (λ a b. eqb-true a b) s (codes z) (sym (holds-codes z s) ∙ held) in
-    subst P is (all k s within)
-
 pub tested_code : (p : ℕ → Bool) (z : Chain) → list_all p (codes z) ≡ true → (s : ℕ) → holds z s ≡ true → p s ≡ true
 tested_code p z all s held =
     member_of_all p (codes z) all s (Contains-from_any (λ a b. eqb-true a b) s (codes z) (sym (holds-codes z s) ∙ held))
@@ -99,7 +93,7 @@ module _ (g : Marks) (grid : IsGrid g) where
 
   pub all_of_degree : (d : ℤ × ℤ) (z : Chain) → AreStates g z → all_have g d z ≡ true → AllOfDegree G d z
   all_of_degree d z states h s held =
-      degree_of_test d s (at_code (λ code. code < factorial (size g)) z states s held)
+      degree_of_test d s (each_code (λ code. code < factorial (size g)) z states s held)
       (tested_code (has_bidegree g d) z h s held)
 
   -- ---- pairs

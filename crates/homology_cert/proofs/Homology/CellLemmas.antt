@@ -20,8 +20,8 @@ use Rattle.torus_geom.specs.Inner.CodeHomology.{IsHomologyRank}
 use Rattle.sparse_complex.specs.declared.slices.Cell.{Cell}
 use Rattle.sparse_complex.specs.Slices.{ListsCells}
 use Rattle.sparse_complex.specs.Inner.Graph.{no_cell}
-use Rattle.sparse_complex.proofs.BuildLemmas.{factorial_fits}
-use Rattle.cancel.proofs.ListLemmas.{any-member}
+use Rattle.sparse_complex.proofs.BuildLemmas.{states_fit_keys}
+use Rattle.cancel.proofs.ListLemmas.{any-Contains}
 use Rattle.cancel.proofs.MapLemmas.{IsApart-pairs}
 use Rattle.homology_cert.specs.Inner.Ranks.{degree_count, HasRanks}
 use Rattle.homology_cert.proofs.Homology.SliceRanks.{IsReduction, left-below, rank_of_reduction}
@@ -52,7 +52,7 @@ module _ (C : Complex ℤ) (cells : List Cell) (listed : ListsCells C cells) whe
   all_cells m s = (
     λ h. is_cell m s (Contains-from_any (λ a b. eqb-true a b) s (codes_at m cells)
         (sym (holds-of_codes (codes_at m cells) s) ∙ h)),
-    λ e. holds-of_codes (codes_at m cells) s ∙ any-member (codes_at m cells) s (has_cell m s e),
+    λ e. holds-of_codes (codes_at m cells) s ∙ any-Contains (codes_at m cells) s (has_cell m s e),
   )
 
   -- the chain of these cells has as many codes as the list has cells of the degree
@@ -89,6 +89,6 @@ ranks_of_cells g grid a left log cells reduced listed = record {
       (rank_of_reduction g grid a left log reduced m (of_codes (codes_at m cells)) (all_cells left cells listed m));
   few =
       let most = few_cells left cells listed (factorial (size g)) (left-below g grid a left log reduced) in
-      let states = factorial_fits (size g) grid.is_size.greatest in
+      let states = states_fit_keys (size g) grid.is_size.greatest in
       omega arith;
 }

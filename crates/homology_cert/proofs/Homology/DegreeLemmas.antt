@@ -1,19 +1,17 @@
 -- The Alexander degrees of the states that were visited.
-use Rattle.std.proofs.Common.{◌≡◌, ℕ, ◌+◌, ◌<◌, ℤ, Bool, true, false, cond, refl, ap, subst, ◌∙◌, arith, below_more}
-use Rattle.std.specs.Ordering.{int_cmp, is_eq}
+use Rattle.std.proofs.Common.{◌≡◌, ℕ, ◌<◌, ℤ, true, refl, arith}
+use Rattle.std.specs.Ordering.{int_cmp}
 use Rattle.std.specs.BTreeSet as sorted
 use Rattle.std.specs.BTreeSet.{BTreeSet}
-use Rattle.std.proofs.lemmas.Cmp.{int_cmp_total, tied_itself}
 use Rattle.state_rank.specs.States.{factorial, unrank}
 use Rattle.torus_geom.specs.Marks.{Marks, size, IsGrid}
-use Rattle.torus_geom.specs.Degrees.{maslov_o, alexander}
-use Rattle.gradings.specs.Degrees.{IsSmallDegree}
+use Rattle.torus_geom.specs.Degrees.{alexander}
 use Rattle.gradings.specs.Sums.{sum_before}
 use Rattle.gradings.proofs.TableLemmas.{maslov_small, alexander_small}
 use Rattle.gradings.proofs.WeightLemmas.{rest_up_to}
 use Rattle.state_rank.specs.Bijection.{IsBijection}
 use Rattle.state_rank.proofs.RankLemmas.{IsBijection-unrank}
-use Rattle.std.proofs.Math.IntN.{pos, negsuc, ◌+ℤ◌}
+use Rattle.std.proofs.Math.IntN.{pos, negsuc}
 use Rattle.std.proofs.Common.{◌≤ℤ◌, List}
 use Rattle.std.proofs.lemmas.Int.{ints}
 use Rattle.homology_cert.specs.Inner.Ranks.{AreSmall, HasDegrees}

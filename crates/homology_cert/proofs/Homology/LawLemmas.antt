@@ -4,7 +4,7 @@ use Rattle.std.specs.Ordering.{int_eq}
 use Rattle.std.proofs.lemmas.Bool.{ltb-true, and_parts, and_from}
 use Rattle.std.proofs.lemmas.Bool.Decides.{Decides-int_eq}
 use Rattle.std.proofs.lemmas.Int.{ints}
-use Rattle.cancel.proofs.ListLemmas.{any-member}
+use Rattle.cancel.proofs.ListLemmas.{any-Contains}
 use Rattle.state_rank.specs.Bijection.{ascending}
 use Rattle.state_rank.proofs.OrderLemmas.{Contains-ascending}
 use Rattle.f2_algebra.proofs.Ranks.Existence.{exists_rank}
@@ -36,7 +36,7 @@ same_bidegree-is p q = (
 
 -- the rank of a state is among the numbers below the number of states
 pub any-ascending : (n s : ℕ) → s < n → any s (ascending n) ≡ true
-any-ascending n s within = any-member (ascending n) s (Contains-ascending n s within)
+any-ascending n s within = any-Contains (ascending n) s (Contains-ascending n s within)
 
 pub some_homology_rank : (g : Marks) → IsGrid g → (m a : ℤ) → (d : ℕ) × IsHomologyRank g m a d
 some_homology_rank g grid m a =

@@ -41,6 +41,7 @@ use Rattle.homology_cert.specs.Tables.{homology_row, HasSmallDegrees}
 use Rattle.homology_cert.specs.Inner.Ranks.{degree_cmp, Ranks, rank_in, AreSmall, HasHomology, HasDegrees, HasRanks, AreCounted, IsTold, IsDone, AreRows}
 use Rattle.homology_cert.proofs.Homology.CountLemmas.{told-counted, told-other}
 use Rattle.homology_cert.proofs.Homology.SliceRanks.{one_homology_rank}
+use Rattle.f2_algebra.proofs.Chains.Lists.{below-map}
 
 -- ---- degrees that no state has
 no_marks : (ps : List Bool) → length ps ≡ 0 → ps ≡ []
@@ -254,9 +255,6 @@ module _ (g : Marks) (small : AreSmall g) (rows : List TableRow) (all : AreRows 
   shorter : (k : ℕ) → k < length (map homology_row rows) → k < length rows
   shorter k l = omega (arith, l, length-map rows homology_row)
 
-  longer : (k : ℕ) → k < length rows → k < length (map homology_row rows)
-  longer k l = omega (arith, l, length-map rows homology_row)
-
   -- they are the homology table of the grid
   pub rows-homology : IsHomologyTable g (map homology_row rows)
   unfolding table_row
@@ -282,6 +280,6 @@ module _ (g : Marks) (small : AreSmall g) (rows : List TableRow) (all : AreRows 
           let row = table_row (m, a, d) in
           let held : HasHomology g row = record { positive = told.0; rank = told.1 } in
           let inside = (all.complete row).1 held in
-          (inside.0, longer inside.0 inside.1, at_map inside.0 (m, a, d) inside.1 ∙ ap homology_row inside.2),
+          (inside.0, below-map homology_row rows inside.0 inside.1, at_map inside.0 (m, a, d) inside.1 ∙ ap homology_row inside.2),
     );
   }

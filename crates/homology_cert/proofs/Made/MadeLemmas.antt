@@ -23,9 +23,9 @@ use Rattle.f2_algebra.proofs.Cancelling.Cancellation.{same_some}
 use Rattle.f2_algebra.proofs.Cancelling.LogLemmas.{none_where}
 use Rattle.f2_algebra.proofs.Ranks.Bigraded.{at_alexander_IsComplex, at_alexander_IsPartOf}
 use Rattle.f2_algebra.proofs.Certificates.Span.{Every}
-use Rattle.f2_algebra.proofs.Certificates.Certificate.{every, all_from, every_weaker}
+use Rattle.f2_algebra.proofs.Certificates.Certificate.{Every-All, all_from, every_weaker}
 use Rattle.f2_algebra.proofs.Certificates.LogCertificate.{IsTest, step_pairs, step_pairs_after, step_pairs-after, step_pairs_pass, cycle_pairs_pass}
-use Rattle.cancel.proofs.ListLemmas.{any-member}
+use Rattle.cancel.proofs.ListLemmas.{any-Contains}
 use Rattle.state_rank.specs.Bijection.{ascending}
 use Rattle.state_rank.specs.States.{factorial, unrank}
 use Rattle.state_rank.proofs.MemberLemmas.{no_member, Contains-filter, pairs_filter}
@@ -150,7 +150,7 @@ module _ (g : Marks) (grid : IsGrid g) (a : ℤ) where
         (ascending (factorial (size g))) in (
           λ h. (degree_is-is m (left.degree s)).0 ((and_parts (any s (ascending (factorial (size g)))) _
               (sym is ∙ h)).1),
-          λ e. is ∙ ap₂ ◌&&◌ (any-member (ascending (factorial (size g))) s
+          λ e. is ∙ ap₂ ◌&&◌ (any-Contains (ascending (factorial (size g))) s
               (Contains-ascending (factorial (size g)) s (left-below g grid a left log reduced s (ap is_some e))))
               ((degree_is-is m (left.degree s)).1 e),
         )
@@ -314,7 +314,7 @@ module _ (g : Marks) (grid : IsGrid g) (cells : List Cell) (made : AreMade g cel
 
   -- each cell is made
   abbrev each_made : Every (IsMadeCell g) cells
-  each_made = every (IsMadeCell g) cells made.each
+  each_made = Every-All (IsMadeCell g) cells made.each
 
   -- the steps of the cell above, if there is one
   above : (cell : Cell) (is : IsMadeCell g cell) → length (steps_at same_degree cells (up_m cell.at)) ≡ steps_here g grid

@@ -12,8 +12,8 @@ use Rattle.f2_algebra.specs.Cancel.{after}
 use Rattle.f2_algebra.proofs.Ranks.Existence.{Reduced, reduce}
 use Rattle.f2_algebra.proofs.Ranks.Bigraded.{at_alexander_IsComplex}
 use Rattle.f2_algebra.proofs.Certificates.Span.{Every}
-use Rattle.f2_algebra.proofs.Certificates.Certificate.{every, all_from, every_weaker}
-use Rattle.cancel.proofs.ListLemmas.{any-member}
+use Rattle.f2_algebra.proofs.Certificates.Certificate.{Every-All, all_from, every_weaker}
+use Rattle.cancel.proofs.ListLemmas.{any-Contains}
 use Rattle.state_rank.specs.Bijection.{ascending}
 use Rattle.state_rank.specs.States.{factorial, unrank}
 use Rattle.state_rank.proofs.MemberLemmas.{no_member, member_head, member_cases, Contains-flat_map, member_of_flat_map, member_of_filter, Contains-filter, pairs_flat_map}
@@ -46,7 +46,7 @@ module _ (g : Marks) (grid : IsGrid g) (small : size g ≤ 6) (cells : List Cell
 
   -- each cell is made
   each_made : Every (IsMadeCell g) cells
-  each_made = every (IsMadeCell g) cells made.each
+  each_made = Every-All (IsMadeCell g) cells made.each
 
   -- the bidegrees are small
   small_degrees : Every (λ (cell : Cell). AreSmallDegrees cell.at) cells
@@ -88,7 +88,7 @@ module _ (g : Marks) (grid : IsGrid g) where
   reduced : (a : ℤ) → Reduced (slice_of g a)
   reduced a = reduce (slice_of g a) (at_alexander_IsComplex a (grid_complex g) refl (grid_complex_rules g grid))
       (ascending (factorial (size g)))
-      (λ s live. any-member (ascending (factorial (size g))) s
+      (λ s live. any-Contains (ascending (factorial (size g))) s
       (Contains-ascending (factorial (size g)) s (slice-below g a s live)))
 
   -- the cell of a bidegree, by this log

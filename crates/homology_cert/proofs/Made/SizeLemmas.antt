@@ -18,7 +18,7 @@ use Rattle.f2_algebra.specs.Chain.{Chain, codes as ranks}
 use Rattle.f2_algebra.specs.Certificate.{CyclePair, StepPair}
 use Rattle.f2_algebra.proofs.Chains.Lists.{rising-codes, rises}
 use Rattle.f2_algebra.proofs.Certificates.Span.{Every}
-use Rattle.f2_algebra.proofs.Certificates.Certificate.{every, every_weaker}
+use Rattle.f2_algebra.proofs.Certificates.Certificate.{Every-All, every_weaker}
 use Rattle.f2_algebra.proofs.Certificates.LogCertificate.{Pairwise, pairwise, every_both}
 use Rattle.f2_algebra.proofs.Ranks.Pigeonhole.{pigeonhole}
 use Rattle.state_rank.specs.Bijection.{ascending, IsBijection}
@@ -29,7 +29,6 @@ use Rattle.state_rank.proofs.RankLemmas.{length-unrank}
 use Rattle.torus_geom.specs.Marks.{Marks, size, IsGrid}
 use Rattle.torus_geom.specs.Degrees.{bidegree}
 use Rattle.gradings.specs.Degrees.{IsSmallDegree}
-use Rattle.rectangles.proofs.Sweep.PushLemmas.{length-ascending}
 use Rattle.homology_cert.specs.CertificateCodes.{Cell, Certificate}
 use Rattle.homology_cert.specs.Inner.CodeCertificates.{comes_first, AreStates, HasCycleStates, HasStepStates, HasPairStates, entry_count}
 use Rattle.homology_cert.specs.Certificates.{AreSmallDegrees}
@@ -40,6 +39,7 @@ use Rattle.homology_cert.specs.Inner.CodeText.{cycle_lines, step_lines, cell_lin
 use Rattle.text_lines.specs.Lines.{set_line}
 use Rattle.homology_cert.proofs.Texts.TextLemmas.{text_of_lines-append, certificate_text-parts}
 use Rattle.homology_cert.proofs.Certified.CertifiedLemmas.{same_degree-is}
+use Rattle.state_rank.proofs.OrderLemmas.{length-ascending}
 
 -- ---- states and cells
 -- the sum of numbers of cells
@@ -259,14 +259,14 @@ cell-bound g cell small degrees states =
     (λ p s. two_lines (set_line (codes "cycle") (size g) p.cycle) (set_line (codes "cocycle") (size g) p.cocycle)
     (set_line-bound g (codes "cycle") p.cycle small (omega arith) s.cycle)
     (set_line-bound g (codes "cocycle") p.cocycle small (omega arith) s.cocycle))
-    (every (HasCycleStates g) cell.cycles states.cycles)) in
+    (Every-All (HasCycleStates g) cell.cycles states.cycles)) in
     let steps = lines_bound (step_lines (size g)) 10096 cell.steps
     (every_weaker (HasStepStates g) (λ (p : StepPair). length (text_of_lines (step_lines (size g) p)) ≤ 10096)
     cell.steps
     (λ p s. two_lines (set_line (codes "step") (size g) p.step) (set_line (codes "probe") (size g) p.probe)
     (set_line-bound g (codes "step") p.step small (omega arith) s.step)
     (set_line-bound g (codes "probe") p.probe small (omega arith) s.probe))
-    (every (HasStepStates g) cell.steps states.steps)) in
+    (Every-All (HasStepStates g) cell.steps states.steps)) in
     let first = length-append (degree_line cell.at ++ 10 ∷ [])
     (text_of_lines (flat_map (cycle_lines (size g)) cell.cycles ++ flat_map (step_lines (size g)) cell.steps)) in
     let one = length-append (degree_line cell.at) (10 ∷ []) in

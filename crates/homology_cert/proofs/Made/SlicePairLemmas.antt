@@ -16,7 +16,7 @@ use Rattle.f2_algebra.proofs.Cancelling.LogLemmas.{none_where}
 use Rattle.f2_algebra.proofs.Ranks.Bigraded.{at_alexander_IsPartOf, with_second}
 use Rattle.f2_algebra.proofs.Ranks.Part.{of_part, border-part, cycle_of_part}
 use Rattle.f2_algebra.proofs.Certificates.Span.{Every}
-use Rattle.f2_algebra.proofs.Certificates.Certificate.{every}
+use Rattle.f2_algebra.proofs.Certificates.Certificate.{Every-All}
 use Rattle.f2_algebra.proofs.Certificates.LogCertificate.{IsTest, pairwise, Pairwise, every_both}
 use Rattle.state_rank.specs.States.{factorial, unrank}
 use Rattle.torus_geom.specs.Marks.{Marks, size, IsGrid}
@@ -148,7 +148,7 @@ module _ (g : Marks) (grid : IsGrid g) (m a : ℤ) where
         (λ (p : CyclePair). (s : ℕ) → pairs_oddly (S.targets s) p.cocycle ≡ false)
         (λ (p : CyclePair). pairs_oddly p.cycle p.cocycle ≡ true)
         (PassesCycle g d) pairs one
-        (every _ pairs h.cycles) (every _ pairs h.cocycle_degrees) (every _ pairs h.cocycles) (every _ pairs h.own)
+        (Every-All _ pairs h.cycles) (Every-All _ pairs h.cocycle_degrees) (Every-All _ pairs h.cocycles) (Every-All _ pairs h.own)
       where
         one : (p : CyclePair) → IsCycle S m p.cycle → AllOfDegree S m p.cocycle
             → ((s : ℕ) → pairs_oddly (S.targets s) p.cocycle ≡ false) → pairs_oddly p.cycle p.cocycle ≡ true
@@ -176,7 +176,7 @@ module _ (g : Marks) (grid : IsGrid g) (m a : ℤ) where
           cocycle =
               are_states d p.cocycle (in_grid p.cocycle of);
         })
-        (every _ pairs h.cycles) (every _ pairs h.cocycle_degrees)
+        (Every-All _ pairs h.cycles) (Every-All _ pairs h.cocycle_degrees)
 
   -- ---- step pairs
   module _ (pairs : List StepPair) (h : AreStepPairs S m pairs) where
@@ -208,14 +208,14 @@ module _ (g : Marks) (grid : IsGrid g) (m a : ℤ) where
           probe_degree = have_degree (one_below d) p.probe (below p is);
           own = ap (λ z. pairs_oddly z p.probe) (same_border p.step of) ∙ odd;
         })
-        (every _ pairs h.steps) (every _ pairs h.probe_degrees) (every _ pairs h.own)
+        (Every-All _ pairs h.steps) (Every-All _ pairs h.probe_degrees) (Every-All _ pairs h.own)
 
     -- a probe pairs evenly with the borders of later steps
     pub steps_apart : Pairwise (λ (p q : StepPair). pairs_oddly (border g q.step) p.probe ≡ false) pairs
     steps_apart = pairwise_with (λ (p : StepPair). AllOfDegree S m p.step)
         (λ (p q : StepPair). pairs_oddly (border_in S q.step) p.probe ≡ false)
         (λ (p q : StepPair). pairs_oddly (border g q.step) p.probe ≡ false) pairs
-        (λ p q of even. ap (λ z. pairs_oddly z p.probe) (same_border q.step of) ∙ even) (every _ pairs h.steps)
+        (λ p q of even. ap (λ z. pairs_oddly z p.probe) (same_border q.step of) ∙ even) (Every-All _ pairs h.steps)
         (pairwise _ pairs h.later)
 
     -- their sets are sets of states
@@ -227,4 +227,4 @@ module _ (g : Marks) (grid : IsGrid g) (m a : ℤ) where
           probe =
               are_states (one_below d) p.probe (below p is);
         })
-        (every _ pairs h.steps) (every _ pairs h.probe_degrees)
+        (Every-All _ pairs h.steps) (Every-All _ pairs h.probe_degrees)

@@ -20,7 +20,6 @@ use Rattle.torus_geom.specs.Inner.CodeBorder.{border_of_state}
 use Rattle.torus_geom.specs.Homology.{Row}
 use Rattle.torus_geom.specs.Marks.{Marks, size}
 use Rattle.rectangles.proofs.Square.BorderLemmas.{border-below}
-use Rattle.rectangles.proofs.Square.ColumnTests.{all_below-same}
 use Rattle.homology_cert.specs.CertificateCodes as kept
 use Rattle.homology_cert.specs.Inner.CodeCertificates as code_certificates
 use Rattle.homology_cert.specs.Inner.CodeTests as over_codes
@@ -36,6 +35,7 @@ use Rattle.homology_cert.specs.CertificateCodes.{cycle_pair_of, step_pair_of, ce
 use Rattle.torus_geom.proofs.Chains.CodesLemmas.{AreRanks, pairs_oddly-states_of, ranks_from_All}
 use Rattle.torus_geom.proofs.Chains.ReachedLemmas.{states_of-border, states_of-border_of_state, AreRanks-border_of_state}
 use Rattle.torus_geom.proofs.Chains.OrderedMembers.{states-unranked, members-states_of}
+use Rattle.torus_geom.proofs.Sums.AllBelowLemmas.{all_below-same}
 
 -- ---- lists
 list_all-members : {A : Type 0} (p q : A → Bool) (xs : List A) → ((x : A) → Contains xs x → p x ≡ q x)

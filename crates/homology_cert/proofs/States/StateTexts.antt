@@ -16,7 +16,6 @@ use Rattle.std.specs.List.{All, Contains, flat_map}
 use Rattle.std.proofs.lemmas.List.Elements.{All-contains, All-map}
 use Rattle.f2_algebra.specs.Chain.{Chain as Codes}
 use Rattle.f2_algebra.specs.Certificate as code_pairs
-use Rattle.state_rank.specs.States.{state_word}
 use Rattle.state_rank.proofs.MemberLemmas.{member_head, member_tail, pairs_map}
 use Rattle.torus_geom.specs.Marks.{size, Marks, IsGrid}
 use Rattle.homology_cert.specs.CertificateCodes as kept
@@ -31,7 +30,7 @@ use Rattle.homology_cert.specs.CertificateCodes.{cycle_pair_of, step_pair_of, ce
 use Rattle.text_lines.specs.Lines.{chain_line, set_line}
 use Rattle.homology_cert.specs.CertificateText.{cycle_lines, step_lines, cell_lines, certificate_lines, certificate_text, HasFirstLines, IsFirstBadLine}
 use Rattle.torus_geom.proofs.Chains.CodesLemmas.{AreRanks, AreRanks-codes_of, IsChain-states_of, states_of-codes_of}
-use Rattle.torus_geom.proofs.Chains.OrderedMembers.{states_text, flat_map-map}
+use Rattle.torus_geom.proofs.Chains.OrderedMembers.{flat_map-map}
 use Rattle.torus_geom.proofs.Chains.CodesLemmas.{All_from_ranks}
 use Rattle.homology_cert.proofs.States.CertificateLemmas.{HasCycleRanks, HasStepRanks, HasCellRanks, ranks_of_certificate, entry_count-states, verdict_of-states, certified_rows-states}
 

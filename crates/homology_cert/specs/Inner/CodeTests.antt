@@ -10,7 +10,7 @@
 --                                the tests and the entries of the parts of a certificate
 --     verdict_of c               the verdict of a certificate
 --     certified_rows cells       the table that the certificate claims
-use Rattle.std.specs.Prelude.{ℕ, ◌+◌, Bool, not, ◌&&◌, ◌==◌, List, [], ◌∷◌, ◌++◌, length, ℤ, pos, ◌-ℤ◌, map, if◌then◌else◌}
+use Rattle.std.specs.Prelude.{ℕ, ◌+◌, Bool, not, ◌&&◌, ◌==◌, List, [], ◌∷◌, ◌++◌, length, ℤ, map}
 use Rattle.std.specs.List.{filter, flat_map, list_all, list_any}
 use Rattle.f2_algebra.specs.Chain.{Chain, codes, pairs_oddly}
 use Rattle.f2_algebra.specs.Bigraded.{up_m}

@@ -7,10 +7,10 @@
 --     HasFirstLines text k       the text begins with the first k lines of some certificate
 --     IsFirstBadLine text number the text is no certificate; it begins with the lines before this one of some
 --                                certificate, but not with this one too
-use Rattle.std.specs.Prelude.{◌≡◌, ℕ, ◌+◌, ◌≤◌, ℤ, List, [], ◌∷◌, ◌++◌, length, take, codes}
+use Rattle.std.specs.Prelude.{◌≡◌, ℕ, ◌+◌, ◌≤◌, List, [], ◌∷◌, ◌++◌, length, take, codes}
 use Rattle.std.specs.List.{flat_map}
 use Rattle.f2_algebra.specs.Certificate.{CyclePair, StepPair}
-use Rattle.torus_geom.specs.Marks.{Marks, size}
+use Rattle.torus_geom.specs.Marks.{size}
 use Rattle.text_lines.specs.Lines.{set_line}
 use Rattle.homology_cert.specs.CertificateCodes.{Cell, Certificate}
 use Rattle.homology_cert.specs.CertificateText.{degree_line, head_lines, text_of_lines}

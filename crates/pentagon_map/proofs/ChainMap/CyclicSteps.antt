@@ -111,10 +111,3 @@ one_up-other n s two l e = elim (one_up_cases n s l) [
   | inl h ↦ let f = h.1 in absurd (omega arith)
   | inr h ↦ let f = h.1 in let k = h.0 in absurd (omega arith)
 ]
-
--- and so the number before
-pub one_down-other : (n s : ℕ) → 2 ≤ n → s < n → one_down n s ≢ s
-one_down-other n s two l e = elim (one_down_cases n s l) [
-  | inl h ↦ let f = h.1 in let k = h.0 in absurd (omega arith)
-  | inr h ↦ let f = h.1 in let k = h.0 in absurd (omega arith)
-]

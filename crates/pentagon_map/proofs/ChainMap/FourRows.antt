@@ -4,13 +4,13 @@ use Rattle.std.proofs.Common.{Bool, ap, eqb, false, inl, inr, not, refl, slice_i
 use Rattle.std.proofs.lemmas.Bool.{and_parts, cases_eq, eq-eqb}
 use Rattle.f2_algebra.proofs.Chains.Tables.{same}
 use Rattle.state_rank.proofs.Pigeonhole.{onto}
-use Rattle.torus_geom.proofs.Circles.TurnLemmas.{one_down_below, one_up-one_down, one_up_below}
+use Rattle.torus_geom.proofs.Circles.TurnLemmas.{one_down_below, one_up-one_down, one_up_below, one_down-other}
 use Rattle.torus_geom.specs.Range.{one_down, one_up}
 use Rattle.torus_geom.specs.Marks.{IsGrid, Marks, size}
 use Rattle.torus_geom.specs.Range.{in_range}
 use Rattle.rectangles.proofs.Square.CyclicOrder.{between}
 use Rattle.grid_moves.specs.Moves.{are_commuting_columns, is_marked_row}
-use Rattle.pentagon_map.proofs.ChainMap.CyclicSteps.{between-from, between-one_down, between-thin, one_down-other, one_up-other}
+use Rattle.pentagon_map.proofs.ChainMap.CyclicSteps.{between-from, between-one_down, between-thin, one_up-other}
 use Rattle.pentagon_map.proofs.ChainMap.Pentagons.{AreSides}
 use Rattle.pentagon_map.proofs.ChainMap.ThinAnnuli.{AreBusy, IsThin}
 

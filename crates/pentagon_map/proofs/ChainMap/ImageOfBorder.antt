@@ -1,9 +1,9 @@
--- The chain map for columns: the image of the border of a chain is the border, in the exchanged grid, of its
+-- The chain map for columns: the image of the border of a chain is the border, in the with_exchanged grid, of its
 -- image, for every place, the seam too, and for both crossings.
 -- Route: for a state, both sides are sums over two steps, a rectangle and then a pentagon, or a pentagon and
--- then a rectangle of the exchanged grid; together they vanish (ThinAnnuli). The image of a chain is a sum over
+-- then a rectangle of the with_exchanged grid; together they vanish (ThinAnnuli). The image of a chain is a sum over
 -- its states, and a code that is the rank of no state has the empty list for its state, which no pentagon leaves.
-use Rattle.std.proofs.Common.{Bool, List, [], ap, ap₂, arith, cond, eqb, false, inl, inr, length, map, not, refl, slice_index, subst, swap, sym, ℕ, ◌&&◌, ◌<◌, ◌∙◌, ◌∷◌, ◌≡◌}
+use Rattle.std.proofs.Common.{Bool, List, [], ap, ap₂, arith, eqb, false, inl, inr, length, map, not, refl, slice_index, subst, swap, sym, ℕ, ◌&&◌, ◌<◌, ◌∙◌, ◌≡◌}
 use Rattle.std.proofs.lemmas.Bool.{cases_lt}
 use Rattle.std.proofs.lemmas.List.Edits.{length-swap}
 use Rattle.std.specs.List.{filter}
@@ -13,23 +13,21 @@ use Rattle.f2_algebra.proofs.Chains.Sums.{holds-sum_over, weight-sum_over}
 use Rattle.f2_algebra.proofs.Chains.Tables.{same, xor_zero, ◌⊻◌}
 use Rattle.f2_algebra.specs.Chain.{Chain, holds, is_odd, nothing, of_codes, sum_over}
 use Rattle.state_rank.proofs.BijectionLemmas.{one_to_one}
-use Rattle.state_rank.proofs.RankLemmas.{IsBijection-unrank, unrank-rank}
+use Rattle.state_rank.proofs.RankLemmas.{IsBijection-unrank, unrank-rank, unrank-past}
 use Rattle.state_rank.proofs.SwapLemmas.{IsBijection-swap}
 use Rattle.state_rank.specs.Bijection.{IsBijection, tabulate}
 use Rattle.state_rank.specs.States.{factorial, rank, states, unrank}
 use Rattle.torus_geom.proofs.Circles.TurnLemmas.{one_down_below}
 use Rattle.torus_geom.specs.Inner.CodeBorder.{border, border_of_state}
-use Rattle.torus_geom.specs.Border.{is_step}
 use Rattle.torus_geom.specs.Range.{one_down, one_up}
 use Rattle.torus_geom.specs.Marks.{IsGrid, Marks, size}
-use Rattle.torus_geom.specs.Rectangle.{is_empty, is_same, is_unmarked, leads, rectangles}
+use Rattle.torus_geom.specs.Rectangle.{is_empty, is_same, leads, rectangles}
 use Rattle.torus_geom.specs.declared.rects.Rect.{Rect}
-use Rattle.rectangles.proofs.Square.Exchanges.{exchanged}
+use Rattle.rectangles.proofs.Square.Exchanges.{with_exchanged}
 use Rattle.rectangles.proofs.Square.OpenRectangles.{is_open}
 use Rattle.rectangles.proofs.Square.RectangleSums.{parity-rectangles, weight-border_of_state}
-use Rattle.rectangles.proofs.Square.RectangleTests.{corners, slice_index-swap}
+use Rattle.rectangles.proofs.Square.RectangleTests.{swap-with_exchanged}
 use Rattle.rectangles.proofs.Square.TwoSteps.{differ}
-use Rattle.grid_moves.proofs.Turned.CarriedChains.{unrank-past}
 use Rattle.grid_moves.proofs.Exchanged.SwapGridLemmas.{IsGrid-swapped_columns}
 use Rattle.grid_moves.specs.Moves.{swapped_columns}
 use Rattle.pentagon_map.proofs.ChainMap.FourRows.{AreBusy-rows, AreSides-rows, HasFourRows, IsThin-rows}
@@ -38,6 +36,8 @@ use Rattle.pentagon_map.proofs.ChainMap.ThinAnnuli.{pairs_none}
 use Rattle.pentagon_map.specs.Inner.CodeImages.{column_image}
 use Rattle.pentagon_map.specs.Pentagon.{crossing_row, is_pentagon, is_pentagonal}
 use Rattle.pentagon_map.specs.declared.Corner.{Corner}
+use Rattle.torus_geom.proofs.Circles.RectangleLemmas.{corners, border_of_state-nil}
+use Rattle.torus_geom.proofs.Sums.TabulateLemmas.{filter-none, tabulate-slice_index}
 
 -- the sum of two terms, over two steps
 sum4_xor : (n : ℕ) (f h : ℕ → ℕ → ℕ → ℕ → Bool)
@@ -57,11 +57,6 @@ sum4_xor n f h =
     ∙ parity-xor (λ a. parity_below n (λ b. parity_below n (λ c. parity_below n (f a b c))))
     (λ a. parity_below n (λ b. parity_below n (λ c. parity_below n (h a b c)))) (below n)
 
--- a list is that of its values
-pub tabulate-slice_index : (x : List ℕ) → tabulate (length x) (slice_index x) ≡ x
-tabulate-slice_index [] = refl
-tabulate-slice_index (r ∷ x) = ap (λ z. r ∷ z) (tabulate-slice_index x)
-
 -- a first step and a second one: the weight of the second is a sum for each first one
 module _ (n : ℕ) (x : List ℕ) (sx : IsBijection n x) (first second : (ℕ → ℕ) → ℕ → ℕ → Bool) (q : ℕ) where
   -- the state of f has the rank q
@@ -69,11 +64,11 @@ module _ (n : ℕ) (x : List ℕ) (sx : IsBijection n x) (first second : (ℕ �
   has_rank f = eqb q (rank (tabulate n f))
 
   swap-exchanged : (y : List ℕ) → IsBijection n y → (a b : ℕ) → a < n → b < n
-      → slice_index (swap y a b) ≡ exchanged (slice_index y) a b
-  swap-exchanged y sy a b la lb = let e = sy.long in slice_index-swap y a b (omega arith) (omega arith)
+      → slice_index (swap y a b) ≡ with_exchanged (slice_index y) a b
+  swap-exchanged y sy a b la lb = let e = sy.long in swap-with_exchanged y a b (omega arith) (omega arith)
 
   swap-tabulate : (y : List ℕ) → IsBijection n y → (a b : ℕ) → a < n → b < n
-      → swap y a b ≡ tabulate n (exchanged (slice_index y) a b)
+      → swap y a b ≡ tabulate n (with_exchanged (slice_index y) a b)
   swap-tabulate y sy a b la lb =
       let st = IsBijection-swap n y a b la lb sy in
       sym (tabulate-slice_index (swap y a b)) ∙ ap₂ (λ m f. tabulate m f) st.long (swap-exchanged y sy a b la lb)
@@ -84,7 +79,7 @@ module _ (n : ℕ) (x : List ℕ) (sx : IsBijection n x) (first second : (ℕ �
       → parity_below n (λ a. parity_below n (λ b. first (slice_index x) a b && W (unrank n (rank (swap x a b)))))
       ≡ parity_below n (λ a. parity_below n (λ b. parity_below n (λ c. parity_below n (λ d.
       first (slice_index x) a b
-      && (second (exchanged (slice_index x) a b) c d && has_rank (exchanged (exchanged (slice_index x) a b) c d))))))
+      && (second (with_exchanged (slice_index x) a b) c d && has_rank (with_exchanged (with_exchanged (slice_index x) a b) c d))))))
   two_step_sum W is =
       let f : ℕ → ℕ = slice_index x in
       parity_below-same n _ _ (λ a la. parity_below-same n _ _ (λ b lb.
@@ -93,17 +88,17 @@ module _ (n : ℕ) (x : List ℕ) (sx : IsBijection n x) (first second : (ℕ �
       ap (λ y. first f a b && W y) (unrank-rank n u su)
       ∙ ap (λ t. first f a b && t) (is u su
       ∙ parity_below-same n _ (λ c. parity_below n (λ d. second (slice_index u) c d
-      && has_rank (exchanged (slice_index u) c d)))
-      (λ c lc. parity_below-same n _ (λ d. second (slice_index u) c d && has_rank (exchanged (slice_index u) c d))
+      && has_rank (with_exchanged (slice_index u) c d)))
+      (λ c lc. parity_below-same n _ (λ d. second (slice_index u) c d && has_rank (with_exchanged (slice_index u) c d))
       (λ d ld.
       ap (λ y. second (slice_index u) c d && eqb q (rank y)) (swap-tabulate u su c d lc ld))))
-      ∙ ap (λ h. first f a b && parity_below n (λ c. parity_below n (λ d. second h c d && has_rank (exchanged h c d))))
+      ∙ ap (λ h. first f a b && parity_below n (λ c. parity_below n (λ d. second h c d && has_rank (with_exchanged h c d))))
       (swap-exchanged x sx a b la lb)
       ∙ sym (parity-and (first f a b)
-      (λ c. parity_below n (λ d. second (exchanged f a b) c d && has_rank (exchanged (exchanged f a b) c d)))
+      (λ c. parity_below n (λ d. second (with_exchanged f a b) c d && has_rank (with_exchanged (with_exchanged f a b) c d)))
       (below n))
       ∙ parity_below-same n _ _ (λ c lc.
-      sym (parity-and (first f a b) (λ d. second (exchanged f a b) c d && has_rank (exchanged (exchanged f a b) c d))
+      sym (parity-and (first f a b) (λ d. second (with_exchanged f a b) c d && has_rank (with_exchanged (with_exchanged f a b) c d))
       (below n)))))
 
 -- the border of a state of a grid of size n
@@ -119,9 +114,6 @@ border_weight h n e s =
     subst P e (λ x sx p. weight-border_of_state h s x sx p)
 
 -- ---- codes that are ranks of no state
-filter-none : {A : Type 0} (test : A → Bool) (xs : List A) → ((x : A) → test x ≡ false) → filter test xs ≡ []
-filter-none test [] h = refl
-filter-none test (x ∷ xs) h = ap (λ b. cond b (x ∷ filter test xs) (filter test xs)) (h x) ∙ filter-none test xs h
 
 leads_nowhere : (j k : ℕ) (s t : Bool) → (differ j k && ((eqb 0 j && (eqb 0 k && s)) && t)) ≡ false
 leads_nowhere j k s t = by j k s t
@@ -147,14 +139,6 @@ column_image-nil g c corner =
     (rectangles (size g))))) (states (size g))
     (none_leads (size g) (λ r. is_empty [] r && is_pentagonal g c (crossing_row g c corner) r)))
 
--- nor does a rectangle
-pub border_of_state-nil : (g : Marks) → border_of_state g [] ≡ nothing
-unfolding border_of_state
-border_of_state-nil g =
-    ap (λ ys. of_codes (map rank ys))
-    (filter-none (λ y. is_odd (length (filter (is_step g [] y) (rectangles (size g))))) (states (size g))
-    (none_leads (size g) (λ r. is_empty [] r && is_unmarked g r)))
-
 -- the image of a chain across columns
 unfoldable pub image_by_columns : Marks → ℕ → Corner → Chain → Chain
 image_by_columns g c corner z = sum_over z (λ code. column_image g c corner (unrank (size g) code))
@@ -169,7 +153,7 @@ module _ (g : Marks) (s : IsGrid g) (c : ℕ) (d : HasFourRows g c) (corner : Co
   lw : w < n
   lw = crossing_row-below g s c d.below corner
 
-  -- the exchanged grid
+  -- the with_exchanged grid
   abbrev there : Marks
   there = swapped_columns g c
 
@@ -183,9 +167,9 @@ module _ (g : Marks) (s : IsGrid g) (c : ℕ) (d : HasFourRows g c) (corner : Co
   lb = one_down_below n c d.below
 
   rows_exchanged : (rows : List ℕ) → IsBijection n rows
-      → slice_index (swap rows (one_down n c) c) ≡ exchanged (slice_index rows) (one_down n c) c
+      → slice_index (swap rows (one_down n c) c) ≡ with_exchanged (slice_index rows) (one_down n c) c
   rows_exchanged rows b = let e = b.long in let l = d.below in let k = lb in
-      slice_index-swap rows (one_down n c) c (omega arith) (omega arith)
+      swap-with_exchanged rows (one_down n c) c (omega arith) (omega arith)
 
   abbrev rectangle : (ℕ → ℕ) → ℕ → ℕ → Bool
   rectangle f a b = is_open n (slice_index g.o) (slice_index g.x) f a b
@@ -220,18 +204,18 @@ module _ (g : Marks) (s : IsGrid g) (c : ℕ) (d : HasFourRows g c) (corner : Co
       let o_there = rows_exchanged g.o s.o in
       let x_there = rows_exchanged g.x s.x in
       let there_is : rectangle_there
-      ≡ (λ f a b. is_open n (exchanged (slice_index g.o) (one_down n c) c)
-      (exchanged (slice_index g.x) (one_down n c) c) f a b) =
+      ≡ (λ f a b. is_open n (with_exchanged (slice_index g.o) (one_down n c) c)
+      (with_exchanged (slice_index g.x) (one_down n c) c) f a b) =
       λ i f a b. is_open n (o_there i) (x_there i) f a b in
       let one : Bool =
       parity_below n (λ a. parity_below n (λ b. parity_below n
-      (λ k. parity_below n (λ e. rectangle f a b && (pentagon (exchanged f a b) k e
-      && T (exchanged (exchanged f a b) k e)))))) in
+      (λ k. parity_below n (λ e. rectangle f a b && (pentagon (with_exchanged f a b) k e
+      && T (with_exchanged (with_exchanged f a b) k e)))))) in
       let other : Bool =
       parity_below n (λ a. parity_below n (λ b. parity_below n
-      (λ k. parity_below n (λ e. pentagon f a b && (is_open n (exchanged (slice_index g.o) (one_down n c) c)
-      (exchanged (slice_index g.x) (one_down n c) c) (exchanged f a b) k e
-      && T (exchanged (exchanged f a b) k e)))))) in
+      (λ k. parity_below n (λ e. pentagon f a b && (is_open n (with_exchanged (slice_index g.o) (one_down n c) c)
+      (with_exchanged (slice_index g.x) (one_down n c) c) (with_exchanged f a b) k e
+      && T (with_exchanged (with_exchanged f a b) k e)))))) in
       let left : weight (λ t. holds (column_image g c corner (unrank n t)) q) (border_of_state g x) ≡ one =
       border_weight g n refl s x sx (λ t. holds (column_image g c corner (unrank n t)) q)
       ∙ two_step_sum n x sx rectangle pentagon q (λ y. holds (column_image g c corner y) q)
@@ -241,8 +225,8 @@ module _ (g : Marks) (s : IsGrid g) (c : ℕ) (d : HasFourRows g c) (corner : Co
       ∙ two_step_sum n x sx pentagon rectangle_there q (λ y. holds (border_of_state there y) q)
       (λ y sy. holds_border y sy q)
       ∙ ap (λ R. parity_below n (λ a. parity_below n (λ b. parity_below n
-      (λ k. parity_below n (λ e. pentagon f a b && (R (exchanged f a b) k e
-      && T (exchanged (exchanged f a b) k e))))))) there_is in
+      (λ k. parity_below n (λ e. pentagon f a b && (R (with_exchanged f a b) k e
+      && T (with_exchanged (with_exchanged f a b) k e))))))) there_is in
       left
       ∙ sym (xor_zero other one (sym (sum4_xor n _ _) ∙ pairs_none n (one_down n c) c (one_up n c) w (slice_index g.o)
       (slice_index g.x) sides (IsThin-rows g s c d) (AreBusy-rows g s c d) f (one_to_one n x sx) T))

@@ -4,15 +4,15 @@ use mathlib.Core.Bool.{beq}
 use mathlib.Core.Path.{fun_ext}
 use Rattle.f2_algebra.proofs.Chains.Tables.{Same, Table, and-false, same, xor-false, xor_comm, ◌⊻◌}
 use Rattle.rectangles.proofs.Square.CyclicOrder.{Place, first, next, second, third}
-use Rattle.rectangles.proofs.Square.ThreeColumns.{along, nine, term}
+use Rattle.rectangles.proofs.Square.ThreeColumns.{along, nine, shared_term}
 
 abbrev pub Weight : Type 0
 Weight = Place → Bool → Bool → Bool
 
 abbrev pub weighted : Bool → Bool → (Place → Place → Bool) → Weight → Place → Bool
 weighted u v g S m =
-    ((term u v g m true true && S m true true) ⊻ (term u v g m true false && S m true false))
-    ⊻ ((term u v g m false true && S m false true) ⊻ (term u v g m false false && S m false false))
+    ((shared_term u v g m true true && S m true true) ⊻ (shared_term u v g m true false && S m true false))
+    ⊻ ((shared_term u v g m false true && S m false true) ⊻ (shared_term u v g m false false && S m false false))
 
 -- the signs of the two terms that stay at a place
 abbrev pub sign1 : Bool → Bool → Bool
@@ -27,30 +27,30 @@ IsPaired u v S = (m : Place) → S m (sign1 u v) u ≡ S (next m) u (sign2 u v)
 
 stay : (u v : Bool) (g : Place → Place → Bool) (S : Weight) (m : Place)
     → weighted u v g S m
-    ≡ (term u v g m (sign1 u v) u && S m (sign1 u v) u) ⊻ (term u v g m u (sign2 u v) && S m u (sign2 u v))
+    ≡ (shared_term u v g m (sign1 u v) u && S m (sign1 u v) u) ⊻ (shared_term u v g m u (sign2 u v) && S m u (sign2 u v))
 stay true true g S m = xor-false _
 stay false false g S m =
-    xor_comm (term false false g m false true && S m false true) (term false false g m false false && S m false false)
+    xor_comm (shared_term false false g m false true && S m false true) (shared_term false false g m false false && S m false false)
 stay true false g S m =
-    (λ i. ((term true false g m true true && S m true true) ⊻ (gone true i && S m true false))
-    ⊻ ((term true false g m false true && S m false true) ⊻ (gone false i && S m false false)))
-    ∙ same 2 (λ x y. (x ⊻ false) ⊻ (y ⊻ false)) (λ x y. y ⊻ x) refl (term true false g m true true && S m true true)
-    (term true false g m false true && S m false true)
+    (λ i. ((shared_term true false g m true true && S m true true) ⊻ (gone true i && S m true false))
+    ⊻ ((shared_term true false g m false true && S m false true) ⊻ (gone false i && S m false false)))
+    ∙ same 2 (λ x y. (x ⊻ false) ⊻ (y ⊻ false)) (λ x y. y ⊻ x) refl (shared_term true false g m true true && S m true true)
+    (shared_term true false g m false true && S m false true)
   where
-    gone : (s : Bool) → term true false g m s false ≡ false
+    gone : (s : Bool) → shared_term true false g m s false ≡ false
     gone s = and-false _
 stay false true g S m =
-    (λ i. ((gone true i && S m true true) ⊻ (term false true g m true false && S m true false))
-    ⊻ ((gone false i && S m false true) ⊻ (term false true g m false false && S m false false)))
+    (λ i. ((gone true i && S m true true) ⊻ (shared_term false true g m true false && S m true false))
+    ⊻ ((gone false i && S m false true) ⊻ (shared_term false true g m false false && S m false false)))
   where
-    gone : (s : Bool) → term false true g m s true ≡ false
+    gone : (s : Bool) → shared_term false true g m s true ≡ false
     gone s = and-false _
 
 twin_left : Bool → Bool → Place → Table 9
-twin_left u v m a b c d e f g h i = term u v (nine a b c d e f g h i) m (sign1 u v) u
+twin_left u v m a b c d e f g h i = shared_term u v (nine a b c d e f g h i) m (sign1 u v) u
 
 twin_right : Bool → Bool → Place → Table 9
-twin_right u v m a b c d e f g h i = term u v (nine a b c d e f g h i) (next m) u (sign2 u v)
+twin_right u v m a b c d e f g h i = shared_term u v (nine a b c d e f g h i) (next m) u (sign2 u v)
 
 twins_table : (u v : Bool) (m : Place) → Same 9 (twin_left u v m) (twin_right u v m)
 unfolding twin_left twin_right
@@ -68,7 +68,7 @@ twins_table false false second = same 9 (twin_left false false second) (twin_rig
 twins_table false false third = same 9 (twin_left false false third) (twin_right false false third) refl
 
 twins : (u v : Bool) (g : Place → Place → Bool) (m : Place)
-    → term u v g m (sign1 u v) u ≡ term u v g (next m) u (sign2 u v)
+    → shared_term u v g m (sign1 u v) u ≡ shared_term u v g (next m) u (sign2 u v)
 unfolding twin_left twin_right
 twins u v g first =
     twins_table u v first (g first first) (g first second) (g first third) (g second first) (g second second)
@@ -88,9 +88,9 @@ weighted_cancel u v g S h =
     ∙ same 3 (λ x y z. (x ⊻ z) ⊻ ((y ⊻ x) ⊻ (z ⊻ y))) (λ x y z. false) refl (one first) (one second) (one third)
   where
     one : Place → Bool
-    one m = term u v g m (sign1 u v) u && S m (sign1 u v) u
+    one m = shared_term u v g m (sign1 u v) u && S m (sign1 u v) u
 
-    link : (m : Place) → (term u v g (next m) u (sign2 u v) && S (next m) u (sign2 u v)) ≡ one m
+    link : (m : Place) → (shared_term u v g (next m) u (sign2 u v) && S (next m) u (sign2 u v)) ≡ one m
     link m = sym (ap₂ (λ x y. x && y) (twins u v g m) (h m))
 
 -- ---- the weights of pentagons at the first column of three
@@ -111,9 +111,9 @@ has_corner first = true
 has_corner second = false
 has_corner third = true
 
--- of two arcs that a long range of rows has: the lower one
-abbrev pub lower : Bool → Place → Place
-lower v m = cond v (next m) (next (next m))
+-- of two arcs that a long range of rows has: the lower_arc one
+abbrev pub lower_arc : Bool → Place → Place
+lower_arc v m = cond v (next m) (next (next m))
 
 abbrev pub upper : Bool → Place → Place
 upper v m = cond v (next (next m)) (next m)
@@ -134,8 +134,8 @@ is_same_place third second = false
 abbrev pub pent : Bool → Place → (Place → Bool) → (Place → Bool) → Bool → Bool → Bool → Place → Bool
 pent v y L R rm lp s m =
     cond (beq v s) (is_same_place m y && (rm && lp))
-    (cond (is_same_place (lower v m) y) (rm && (lp && L (upper v m)))
-    (cond (is_same_place (upper v m) y) ((R (lower v m) && rm) && lp) false))
+    (cond (is_same_place (lower_arc v m) y) (rm && (lp && L (upper v m)))
+    (cond (is_same_place (upper v m) y) ((R (lower_arc v m) && rm) && lp) false))
 
 -- the rows of a rectangle, beside a circle that has rows of A on its left and of B on its right
 abbrev pub strip : Bool → Bool → (Place → Bool) → (Place → Bool) → Place → Bool → Bool → Place → Bool

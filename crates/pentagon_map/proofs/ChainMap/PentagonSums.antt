@@ -18,11 +18,10 @@ use Rattle.torus_geom.specs.Range.{one_down, one_up}
 use Rattle.torus_geom.specs.Marks.{IsGrid, Marks, size}
 use Rattle.torus_geom.specs.Range.{in_range, offset}
 use Rattle.torus_geom.specs.Rectangle.{is_empty, rectangles}
-use Rattle.rectangles.proofs.Square.ColumnTests.{all_below-same}
 use Rattle.rectangles.proofs.Square.CyclicOrder.{between, between_end}
 use Rattle.rectangles.proofs.Square.EmptyRectangles.{free}
 use Rattle.rectangles.proofs.Square.OpenRectangles.{marks}
-use Rattle.rectangles.proofs.Square.RectangleTests.{corners, in_range-between, is_empty-corners}
+use Rattle.rectangles.proofs.Square.RectangleTests.{in_range-between, is_empty-corners}
 use Rattle.rectangles.proofs.Square.TwoSteps.{differ, guard}
 use Rattle.pentagon_map.proofs.ChainMap.CyclicSteps.{between-one_up}
 use Rattle.pentagon_map.proofs.ChainMap.Pentagons.{is_open_pentagon, lacks, penta, two}
@@ -32,6 +31,8 @@ use Rattle.pentagon_map.specs.Inner.CodeImages.{column_image}
 use Rattle.pentagon_map.specs.Pentagon.{crossing_row, has_mark_in_rows, is_pentagon, is_pentagonal, is_unmarked_beside}
 use Rattle.pentagon_map.specs.declared.Corner.{Corner}
 use Rattle.pentagon_map.specs.declared.Corner.TheVariants.{Over, Under}
+use Rattle.torus_geom.proofs.Sums.AllBelowLemmas.{all_below-same}
+use Rattle.torus_geom.proofs.Circles.RectangleLemmas.{corners}
 
 module _ (g : Marks) (s : IsGrid g) (c w : ℕ) (lc : c < size g) (lw : w < size g) where
   -- the pentagon that leaves the state f at the circles a and b
@@ -134,9 +135,9 @@ holds-column_image g s c corner lc lw x sx q =
     sym (weight-at (column_image g c corner x) q) ∙ weight-column_image g s c corner lc lw x sx (λ t. eqb q t)
 
 -- a state that a chain of states has
-pub holds-states_where : (n : ℕ) (test : List ℕ → Bool) (c : ℕ) → holds (states_where n test) c ≡ true
+pub state_of-states_where : (n : ℕ) (test : List ℕ → Bool) (c : ℕ) → holds (states_where n test) c ≡ true
     → (y : List ℕ) × IsBijection n y × (rank y ≡ c) × (test y ≡ true)
-holds-states_where n test c h =
+state_of-states_where n test c h =
     let ranks : List ℕ = map rank (filter test (states n)) in
     let in_ranks : Contains ranks c =
     Contains-from_any (λ a b. eqb-true a b) c ranks (sym (holds-of_codes ranks c) ∙ h) in
@@ -150,6 +151,6 @@ pub column_image-below : (g : Marks) (c : ℕ) (corner : Corner) (x : List ℕ) 
 unfolding column_image
 column_image-below g c corner x t h =
     let (y, sy, is, passes) =
-    holds-states_where (size g) (λ y. is_odd (length (filter (is_pentagon g c (crossing_row g c corner) x y)
+    state_of-states_where (size g) (λ y. is_odd (length (filter (is_pentagon g c (crossing_row g c corner) x y)
     (rectangles (size g))))) t h in
     subst (λ k. k < factorial (size g)) is (rank-below (size g) y sy)

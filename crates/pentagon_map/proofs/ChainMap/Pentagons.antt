@@ -5,16 +5,17 @@ use Rattle.std.proofs.lemmas.Bool.{cases_eq, eq-eqb, ne_eqb}
 use Rattle.f2_algebra.proofs.Chains.Tables.{and-false, same, ◌⊻◌}
 use Rattle.state_rank.proofs.BijectionLemmas.{IsOneToOne}
 use Rattle.torus_geom.specs.Counts.{all_below}
-use Rattle.rectangles.proofs.Square.ColumnTests.{all_below-same, all_below-split}
+use Rattle.rectangles.proofs.Square.ColumnTests.{all_below-split}
 use Rattle.rectangles.proofs.Square.CyclicOrder.{Place, between, between_end, between_start, first, next, order_of, second, span, span_third, third}
 use Rattle.rectangles.proofs.Square.EmptyRectangles.{AreFourApart, empty_apart, free, is_clear_of}
-use Rattle.rectangles.proofs.Square.Exchanges.{exchanged, exchanged-first, exchanged-other, exchanged-second, exchanged_apart, exchanged_comm, exchanged_three}
+use Rattle.rectangles.proofs.Square.Exchanges.{with_exchanged, with_exchanged-first, with_exchanged-other, with_exchanged-second, exchanged_apart, exchanged_comm, exchanged_three}
 use Rattle.rectangles.proofs.Square.OpenRectangles.{AreColumns, arc_values, first_end, first_start, first_step-value, is_open, marks, rows_apart, rows_of, second_end, second_start, second_step-value, three, unmarked}
 use Rattle.rectangles.proofs.Square.SquareLemmas.{AreColumns-from, AreFourApart-from, AreFourApart-rows}
-use Rattle.rectangles.proofs.Square.ThreeColumns.{IsAdditive, along, along_is, end_of, rectangle_value, span_is, start_of, start_of-end_of, term}
+use Rattle.rectangles.proofs.Square.ThreeColumns.{IsAdditive, along, along_is, end_of, rectangle_value, span_is, start_of, start_of-end_of, shared_term}
 use Rattle.rectangles.proofs.Square.TwoSteps.{at_three, differ, differ-self, differ-true, four_differ, three_differ, three_differ-next}
 use Rattle.pentagon_map.proofs.ChainMap.PairedTerms.{has_corner, has_left, has_right, pair_weight, pent, strip, weighted, weighted_cancel, weights_paired}
 use Rattle.pentagon_map.proofs.ChainMap.RowArcs.{IsIn, above_of, pent_is, where_is}
+use Rattle.torus_geom.proofs.Sums.AllBelowLemmas.{all_below-same}
 
 -- what is left out: the columns r and s
 abbrev pub two : ℕ → ℕ → ℕ → Bool
@@ -38,12 +39,12 @@ pub record AreSides (n r s : ℕ) : Type 0 where
   pub before : (a b : ℕ) → a < n → b < n → a ≢ b → between a b r ≡ ((between a b s && differ s a) || eqb b s)
 
 module _ (n r s w : ℕ) (O X : ℕ → ℕ) where
-  -- the exchanged grid
+  -- the with_exchanged grid
   abbrev pub O' : ℕ → ℕ
-  O' = exchanged O r s
+  O' = with_exchanged O r s
 
   abbrev pub X' : ℕ → ℕ
-  X' = exchanged X r s
+  X' = with_exchanged X r s
 
   -- what is asked of a pentagon beside emptiness
   abbrev pub penta : ℕ → ℕ → ℕ → ℕ → Bool
@@ -87,8 +88,8 @@ module _ (n r s w : ℕ) (O X : ℕ → ℕ) where
       ∙ ap (λ z. (z || p r) && all_below n (λ t. eqb t r || (eqb t s || p t))) (ne_eqb r s e.apart)
       ∙ ap (λ z. p r && z) (all_below-same n (λ t. eqb t r || (eqb t s || p t)) (λ t. two r s t || p0 t)
       (λ t l. each t (cases_eq t r) (cases_eq t s))))
-      ∙ (λ i. not (between a b s && (Q (exchanged-second O r s e.apart i) || Q (exchanged-second X r s e.apart i)))
-      && (not (between a b r && (Q (exchanged-first O r s i) || Q (exchanged-first X r s i)))
+      ∙ (λ i. not (between a b s && (Q (with_exchanged-second O r s e.apart i) || Q (with_exchanged-second X r s e.apart i)))
+      && (not (between a b r && (Q (with_exchanged-first O r s i) || Q (with_exchanged-first X r s i)))
       && free n (two r s) (between a b) (marks O X Q)))
       ∙ same 5 (λ x a y b z. not (x && a) && (not (y && b) && z))
       (λ x a y b z. not (x && not (not a)) && (not (y && not (not b)) && z)) refl
@@ -109,7 +110,7 @@ module _ (n r s w : ℕ) (O X : ℕ → ℕ) where
           (λ i. eqb t r
           || (eqb t s
           || not (between a b t
-          && (between j k (exchanged-other O r s t p q i) || between j k (exchanged-other X r s t p q i)))))
+          && (between j k (with_exchanged-other O r s t p q i) || between j k (with_exchanged-other X r s t p q i)))))
           ∙ same 3 (λ x y z. x || (y || z)) (λ x y z. (x || y) || z) refl (eqb t r) (eqb t s)
           (not (between a b t && marks O X (between j k) t))
 
@@ -295,15 +296,15 @@ module _ (n r s w : ℕ) (O X : ℕ → ℕ) where
     the_weight : Place → Bool → Bool → Bool
     the_weight = pair_weight (order_of p) (order_of (rows_of f p)) place.0 no_left no_right low_part high_part
 
-    one_term : (m : Place) (s1 s2 : Bool) (t : Bool) → let g : ℕ → ℕ = exchanged f (p m) (p (next m)) in
+    one_term : (m : Place) (s1 s2 : Bool) (t : Bool) → let g : ℕ → ℕ = with_exchanged f (p m) (p (next m)) in
         ((is_open_pentagon f (start_of p s1 m) (end_of p s1 m)
         && (is_open n O' X' g (start_of p s2 (next m)) (end_of p s2 (next m)) && t))
         ⊻ (is_open n O X f (start_of p s1 m) (end_of p s1 m)
         && (is_open_pentagon g (start_of p s2 (next m)) (end_of p s2 (next m)) && t)))
-        ≡ ((term (order_of p) (order_of (rows_of f p)) cells m s1 s2 && the_weight m s1 s2) && t)
+        ≡ ((shared_term (order_of p) (order_of (rows_of f p)) cells m s1 s2 && the_weight m s1 s2) && t)
     unfolding the_weight
     one_term m s1 s2 t =
-        let g : ℕ → ℕ = exchanged f (p m) (p (next m)) in
+        let g : ℕ → ℕ = with_exchanged f (p m) (p (next m)) in
         let q : Place → ℕ = rows_of f p in
         let h1 = first_step-value n O X f (two r s) p one d s1 m in
         let h2 = second_step-value n O X f (two r s) p one d s2 m in
@@ -322,25 +323,25 @@ module _ (n r s w : ℕ) (O X : ℕ → ℕ) where
         (has_corner (next m) && the_pent (not s2) (next (next m))) t
 
   module _ (f : ℕ → ℕ) (T : (ℕ → ℕ) → Bool) where
-    -- a pentagon and then a corner set of the exchanged grid, or a corner set and then a pentagon, to a state that T
+    -- a pentagon and then a corner set of the with_exchanged grid, or a corner set and then a pentagon, to a state that T
     -- passes
     abbrev pub pair_steps : ℕ → ℕ → ℕ → ℕ → Bool
     pair_steps a b c d =
-        (is_open_pentagon f a b && (is_open n O' X' (exchanged f a b) c d && T (exchanged (exchanged f a b) c d)))
-        ⊻ (is_open n O X f a b && (is_open_pentagon (exchanged f a b) c d && T (exchanged (exchanged f a b) c d)))
+        (is_open_pentagon f a b && (is_open n O' X' (with_exchanged f a b) c d && T (with_exchanged (with_exchanged f a b) c d)))
+        ⊻ (is_open n O X f a b && (is_open_pentagon (with_exchanged f a b) c d && T (with_exchanged (with_exchanged f a b) c d)))
 
     module _ (e : AreSides n r s) (one : IsOneToOne n f) where
       three_is : (p : Place → ℕ) (d : AreColumns n p) (at0 : p first ≡ s) (m : Place)
           → at_three n pair_steps (p m) (p (next m)) (p (next (next m)))
           ≡ (weighted (order_of p) (order_of (rows_of f p)) (arc_values n O X f (two r s) p)
           (the_weight e f one p d at0) m
-          && T (exchanged (exchanged f (p m) (p (next m))) (p (next m)) (p (next (next m)))))
+          && T (with_exchanged (with_exchanged f (p m) (p (next m))) (p (next m)) (p (next (next m)))))
       three_is p d at0 m =
           let a : ℕ = p m in
           let b : ℕ = p (next m) in
           let c : ℕ = p (next (next m)) in
-          let g : ℕ → ℕ = exchanged f a b in
-          let t : Bool = T (exchanged g b c) in
+          let g : ℕ → ℕ = with_exchanged f a b in
+          let t : Bool = T (with_exchanged g b c) in
           let u : Bool = order_of p in
           let v : Bool = order_of (rows_of f p) in
           let k : Place → Place → Bool = arc_values n O X f (two r s) p in
@@ -349,13 +350,13 @@ module _ (n r s w : ℕ) (O X : ℕ → ℕ) where
           ⊻ ((is_open_pentagon f a b && (is_open n O' X' g c b && T (exchanged_comm g c b i)))
           ⊻ (is_open n O X f a b && (is_open_pentagon g c b && T (exchanged_comm g c b i)))))
           ⊻ (((is_open_pentagon f b a
-          && (is_open n O' X' (exchanged_comm f b a i) b c && T (exchanged (exchanged_comm f b a i) b c)))
+          && (is_open n O' X' (exchanged_comm f b a i) b c && T (with_exchanged (exchanged_comm f b a i) b c)))
           ⊻ (is_open n O X f b a
-          && (is_open_pentagon (exchanged_comm f b a i) b c && T (exchanged (exchanged_comm f b a i) b c))))
+          && (is_open_pentagon (exchanged_comm f b a i) b c && T (with_exchanged (exchanged_comm f b a i) b c))))
           ⊻ ((is_open_pentagon f b a
-          && (is_open n O' X' (exchanged_comm f b a i) c b && T (exchanged (exchanged_comm f b a i) c b)))
+          && (is_open n O' X' (exchanged_comm f b a i) c b && T (with_exchanged (exchanged_comm f b a i) c b)))
           ⊻ (is_open n O X f b a
-          && (is_open_pentagon (exchanged_comm f b a i) c b && T (exchanged (exchanged_comm f b a i) c b))))))
+          && (is_open_pentagon (exchanged_comm f b a i) c b && T (with_exchanged (exchanged_comm f b a i) c b))))))
           ∙ (λ i. (pair_steps a b b c
           ⊻ ((is_open_pentagon f a b && (is_open n O' X' g c b && t))
           ⊻ (is_open n O X f a b && (is_open_pentagon g c b && t))))
@@ -367,8 +368,8 @@ module _ (n r s w : ℕ) (O X : ℕ → ℕ) where
           ⊻ (one_term e f one p d at0 m false true t i ⊻ one_term e f one p d at0 m false false t i))
           ∙ same 5 (λ x y z w t. ((x && t) ⊻ (y && t)) ⊻ ((z && t) ⊻ (w && t)))
           (λ x y z w t. ((x ⊻ y) ⊻ (z ⊻ w)) && t) refl
-          (term u v k m true true && S m true true) (term u v k m true false && S m true false)
-          (term u v k m false true && S m false true) (term u v k m false false && S m false false) t
+          (shared_term u v k m true true && S m true true) (shared_term u v k m true false && S m true false)
+          (shared_term u v k m false true && S m false true) (shared_term u v k m false false && S m false false) t
 
       three_at : (p : Place → ℕ) (d : AreColumns n p) (at0 : p first ≡ s)
           → at_three n pair_steps (p first) (p second) (p third)
@@ -383,10 +384,10 @@ module _ (n r s w : ℕ) (O X : ℕ → ℕ) where
           let v : Bool = order_of (rows_of f p) in
           let k : Place → Place → Bool = arc_values n O X f (two r s) p in
           let S : Place → Bool → Bool → Bool = the_weight e f one p d at0 in
-          let t : Bool = T (exchanged (exchanged f a b) b c) in
-          let e1 : exchanged (exchanged f b c) c a ≡ exchanged (exchanged f a b) b c =
+          let t : Bool = T (with_exchanged (with_exchanged f a b) b c) in
+          let e1 : with_exchanged (with_exchanged f b c) c a ≡ with_exchanged (with_exchanged f a b) b c =
           sym (exchanged_three f a b c d.apart.ab d.apart.bc d.apart.ca) in
-          let e2 : exchanged (exchanged f c a) a b ≡ exchanged (exchanged f a b) b c =
+          let e2 : with_exchanged (with_exchanged f c a) a b ≡ with_exchanged (with_exchanged f a b) b c =
           exchanged_three f c a b d.apart.ca d.apart.ab d.apart.bc in
           (λ i. three_is p d at0 first i ⊻ (three_is p d at0 second i ⊻ three_is p d at0 third i))
           ∙ (λ i. (weighted u v k S first && t)
@@ -409,8 +410,8 @@ module _ (n r s w : ℕ) (O X : ℕ → ℕ) where
       no_pair : (a b c d : ℕ) → a ≢ s → b ≢ s → c ≢ s → d ≢ s → pair_steps a b c d ≡ false
       no_pair a b c d pa pb pc pd =
           (λ i. (no_penta f a b pa pb i
-          && (is_open n O' X' (exchanged f a b) c d && T (exchanged (exchanged f a b) c d)))
-          ⊻ (is_open n O X f a b && (no_penta (exchanged f a b) c d pc pd i && T (exchanged (exchanged f a b) c d))))
+          && (is_open n O' X' (with_exchanged f a b) c d && T (with_exchanged (with_exchanged f a b) c d)))
+          ⊻ (is_open n O X f a b && (no_penta (with_exchanged f a b) c d pc pd i && T (with_exchanged (with_exchanged f a b) c d))))
           ∙ and-false (is_open n O X f a b)
 
       none_three : (a b c : ℕ) → a ≢ s → b ≢ s → c ≢ s → at_three n pair_steps a b c ≡ false
@@ -486,16 +487,16 @@ module _ (n r s w : ℕ) (O X : ℕ → ℕ) where
             bd = λ e. o.bd (sym e);
             cd = o.ab;
           } in
-          let g : ℕ → ℕ = exchanged f a b in
-          let k : ℕ → ℕ = exchanged f c d in
-          let gc : g c ≡ f c = exchanged-other f a b c (λ e. o.ac (sym e)) (λ e. o.bc (sym e)) in
-          let gd : g d ≡ f d = exchanged-other f a b d (λ e. o.ad (sym e)) (λ e. o.bd (sym e)) in
-          let ka : k a ≡ f a = exchanged-other f c d a o.ac o.ad in
-          let kb : k b ≡ f b = exchanged-other f c d b o.bc o.bd in
+          let g : ℕ → ℕ = with_exchanged f a b in
+          let k : ℕ → ℕ = with_exchanged f c d in
+          let gc : g c ≡ f c = with_exchanged-other f a b c (λ e. o.ac (sym e)) (λ e. o.bc (sym e)) in
+          let gd : g d ≡ f d = with_exchanged-other f a b d (λ e. o.ad (sym e)) (λ e. o.bd (sym e)) in
+          let ka : k a ≡ f a = with_exchanged-other f c d a o.ac o.ad in
+          let kb : k b ≡ f b = with_exchanged-other f c d b o.bc o.bd in
           let ab : Bool = differ a b in
           let cd : Bool = differ c d in
-          let t : Bool = T (exchanged g c d) in
-          let t' : Bool = T (exchanged k a b) in
+          let t : Bool = T (with_exchanged g c d) in
+          let t' : Bool = T (with_exchanged k a b) in
           let clear_ab : Bool = is_clear_of n f a b (f a) (f b) in
           let clear_cd_after : Bool = is_clear_of n g c d (f c) (f d) in
           let clear_cd : Bool = is_clear_of n f c d (f c) (f d) in

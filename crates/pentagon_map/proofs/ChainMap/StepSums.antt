@@ -13,8 +13,8 @@ use Rattle.torus_geom.specs.Inner.CodeBorder.{states_where}
 use Rattle.torus_geom.specs.Rectangle.{is_same, leads, rectangles}
 use Rattle.torus_geom.specs.declared.rects.Rect.{Rect}
 use Rattle.rectangles.proofs.Square.RectangleSums.{parity-corners, parity-rectangles, parity-states_one, weight-states_where}
-use Rattle.rectangles.proofs.Square.RectangleTests.{corners}
 use Rattle.rectangles.proofs.Square.TwoSteps.{differ, differ-true, differ_apart, guard}
+use Rattle.torus_geom.proofs.Circles.RectangleLemmas.{corners}
 
 module _ (n : ℕ) (x : List ℕ) (sx : IsBijection n x) (ok : Rect → Bool) where
   -- the rectangle that leaves x at the circles a and b passes

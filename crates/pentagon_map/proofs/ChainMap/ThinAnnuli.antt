@@ -6,15 +6,16 @@ use mathlib.Core.Path.{fun_ext}
 use Rattle.f2_algebra.proofs.Chains.ParityLemmas.{below, parity-and, parity-xor, parity_below, parity_below-one, parity_below-same}
 use Rattle.f2_algebra.proofs.Chains.Tables.{and-false, same, xor-false, xor_self, ◌⊻◌}
 use Rattle.state_rank.proofs.BijectionLemmas.{IsOneToOne}
-use Rattle.torus_geom.proofs.Sums.AllBelowLemmas.{at_all_below}
-use Rattle.rectangles.proofs.Square.ColumnTests.{all_below-always, all_below-same}
+use Rattle.torus_geom.proofs.Sums.AllBelowLemmas.{at_all_below, all_below-same}
+use Rattle.rectangles.proofs.Square.ColumnTests.{all_below-always}
 use Rattle.rectangles.proofs.Square.CyclicOrder.{between, between_back, between_end, between_start}
-use Rattle.rectangles.proofs.Square.EmptyRectangles.{free, is_between, is_clear_of}
-use Rattle.rectangles.proofs.Square.Exchanges.{exchanged, exchanged-exchanged, exchanged-first, exchanged-second, not_both}
+use Rattle.rectangles.proofs.Square.EmptyRectangles.{free, is_clear_of}
+use Rattle.rectangles.proofs.Square.Exchanges.{with_exchanged, exchanged-exchanged, with_exchanged-first, with_exchanged-second, not_both}
 use Rattle.rectangles.proofs.Square.OpenRectangles.{is_open, marks, unmarked}
 use Rattle.rectangles.proofs.Square.TwoSteps.{at_two, differ, differ-self, differ-true, over_two_steps, steps_cancel}
 use Rattle.pentagon_map.proofs.ChainMap.Pentagons.{AreSides, O', X', exchanged_is, four_none, is_open_pentagon, lacks, lacks_add, pair_steps, penta, three_none, two, unmarked_is}
 use Rattle.pentagon_map.proofs.ChainMap.RowArcs.{above_of, rest_below, rest_outside, rest_turned}
+use Rattle.torus_geom.proofs.Circles.BetweenLemmas.{is_between}
 
 -- the column e after s, and what is between the columns side by side
 pub record IsThin (n r s e : ℕ) : Type 0 where
@@ -243,14 +244,14 @@ module _ (n r s e w : ℕ) (O X : ℕ → ℕ) (d : AreSides n r s) (thin : IsTh
     -- the two steps, without emptiness
     across : (a b : ℕ) → a < n → b < n → a ≢ b → steps a b b a ≡ false
     across a b la lb p =
-        let g : ℕ → ℕ = exchanged f a b in
-        let ga : g a ≡ f b = exchanged-first f a b in
-        let gb : g b ≡ f a = exchanged-second f a b p in
+        let g : ℕ → ℕ = with_exchanged f a b in
+        let ga : g a ≡ f b = with_exchanged-first f a b in
+        let gb : g b ≡ f a = with_exchanged-second f a b p in
         let clear_ab : Bool = is_clear_of n f a b (f a) (f b) in
         let clear_ba : Bool = is_clear_of n g b a (g b) (g a) in
         let penta_ab : Bool = penta n r s w O X a b (f a) (f b) in
         let unmarked_ab : Bool = unmarked n O X a b (f a) (f b) in
-        let t : Bool = T (exchanged g b a) in
+        let t : Bool = T (with_exchanged g b a) in
         (λ i. ((differ a b && (clear_ab && penta_ab))
         && ((differ b a && (clear_ba && unmarked n (O' n r s w O X) (X' n r s w O X) b a (gb i) (ga i))) && t))
         ⊻ ((differ a b && (clear_ab && unmarked_ab))
@@ -266,12 +267,12 @@ module _ (n r s e w : ℕ) (O X : ℕ → ℕ) (d : AreSides n r s) (thin : IsTh
 
     along_twice : (a b : ℕ) → a ≢ b
         → steps a b a b
-        ≡ ((is_clear_of n f a b (f a) (f b) && is_clear_of n (exchanged f a b) a b (f b) (f a))
+        ≡ ((is_clear_of n f a b (f a) (f b) && is_clear_of n (with_exchanged f a b) a b (f b) (f a))
         && (T f && up_twice a b (f a) (f b)))
     along_twice a b p =
-        let g : ℕ → ℕ = exchanged f a b in
-        let ga : g a ≡ f b = exchanged-first f a b in
-        let gb : g b ≡ f a = exchanged-second f a b p in
+        let g : ℕ → ℕ = with_exchanged f a b in
+        let ga : g a ≡ f b = with_exchanged-first f a b in
+        let gb : g b ≡ f a = with_exchanged-second f a b p in
         let clear_ab : Bool = is_clear_of n f a b (f a) (f b) in
         let penta_ab : Bool = penta n r s w O X a b (f a) (f b) in
         let unmarked_ab : Bool = unmarked n O X a b (f a) (f b) in
@@ -297,16 +298,16 @@ module _ (n r s e w : ℕ) (O X : ℕ → ℕ) (d : AreSides n r s) (thin : IsTh
     at_thin a b la lb p o h =
         (λ i. differ-true a b p i && (along_twice a b p i ⊻ across a b la lb p i))
         ∙ xor-false _
-        ∙ (λ i. (clear_thin n f a b (f a) (f b) o i && clear_thin n (exchanged f a b) a b (f b) (f a) o i)
+        ∙ (λ i. (clear_thin n f a b (f a) (f b) o i && clear_thin n (with_exchanged f a b) a b (f b) (f a) o i)
         && (T f && h i))
 
     at_none : (a b : ℕ) → a < n → b < n → (p : a ≢ b) → up_twice a b (f a) (f b) ≡ false → at_two n steps a b ≡ false
     at_none a b la lb p h =
         (λ i. differ-true a b p i && (along_twice a b p i ⊻ across a b la lb p i))
         ∙ xor-false _
-        ∙ ap (λ z. (is_clear_of n f a b (f a) (f b) && is_clear_of n (exchanged f a b) a b (f b) (f a)) && (T f && z)) h
+        ∙ ap (λ z. (is_clear_of n f a b (f a) (f b) && is_clear_of n (with_exchanged f a b) a b (f b) (f a)) && (T f && z)) h
         ∙ same 2 (λ x y. x && (y && false)) (λ x y. false) refl
-        (is_clear_of n f a b (f a) (f b) && is_clear_of n (exchanged f a b) a b (f b) (f a)) (T f)
+        (is_clear_of n f a b (f a) (f b) && is_clear_of n (with_exchanged f a b) a b (f b) (f a)) (T f)
 
     no_corner : (a b j k : ℕ) → a ≢ s → b ≢ s → up_twice a b j k ≡ false
     no_corner a b j k p q =
@@ -400,17 +401,17 @@ module _ (n r s e w : ℕ) (O X : ℕ → ℕ) (d : AreSides n r s) (thin : IsTh
         steps_cancel n steps
         (λ a c d. let no : differ a a ≡ false = differ-self a in
         λ v. ((no v && (is_clear_of n f a a (f a) (f a) && penta n r s w O X a a (f a) (f a)))
-        && (is_open n (O' n r s w O X) (X' n r s w O X) (exchanged f a a) c d
-        && T (exchanged (exchanged f a a) c d)))
+        && (is_open n (O' n r s w O X) (X' n r s w O X) (with_exchanged f a a) c d
+        && T (with_exchanged (with_exchanged f a a) c d)))
         ⊻ ((no v && (is_clear_of n f a a (f a) (f a) && unmarked n O X a a (f a) (f a)))
-        && (is_open_pentagon n r s w O X (exchanged f a a) c d && T (exchanged (exchanged f a a) c d))))
-        (λ a b c. let no : differ c c ≡ false = differ-self c in let g : ℕ → ℕ = exchanged f a b in
+        && (is_open_pentagon n r s w O X (with_exchanged f a a) c d && T (with_exchanged (with_exchanged f a a) c d))))
+        (λ a b c. let no : differ c c ≡ false = differ-self c in let g : ℕ → ℕ = with_exchanged f a b in
         (λ v. (is_open_pentagon n r s w O X f a b
         && ((no v
         && (is_clear_of n g c c (g c) (g c) && unmarked n (O' n r s w O X) (X' n r s w O X) c c (g c) (g c)))
-        && T (exchanged g c c)))
+        && T (with_exchanged g c c)))
         ⊻ (is_open n O X f a b
-        && ((no v && (is_clear_of n g c c (g c) (g c) && penta n r s w O X c c (g c) (g c))) && T (exchanged g c c))))
+        && ((no v && (is_clear_of n g c c (g c) (g c) && penta n r s w O X c c (g c) (g c))) && T (with_exchanged g c c))))
         ∙ ap₂ (λ x y. x ⊻ y) (and-false (is_open_pentagon n r s w O X f a b)) (and-false (is_open n O X f a b)))
         (four_none n r s w O X f T d one)
         (three_none n r s w O X f T d one)

@@ -3,7 +3,7 @@
 -- of o and p on the way up from t: from either of them up to t or q there is no other of o and p.
 -- Ranges are linear over F2 in the orders of the numbers, so each fact is a table of twelve orders.
 use Rattle.std.proofs.Common.{Bool, ap, arith, false, ltb, not, refl, sym, true, ℕ, ◌&&◌, ◌∙◌, ◌≡◌, ◌≢◌}
-use Rattle.std.proofs.lemmas.Bool.{and_from, and_parts}
+use Rattle.std.proofs.lemmas.Bool.{and_from, and_parts, not-true}
 use mathlib.Core.Bool.{beq}
 use Rattle.f2_algebra.proofs.Chains.Tables.{Table, given, implies, same, ◌⊻◌}
 use Rattle.rectangles.proofs.Square.CyclicOrder.{between, between_other}
@@ -118,12 +118,8 @@ module _ (o p q t : ℕ) (d : AreFourRows o p q t) where
       ∙ given _ _ orders_hold (last_holds (ltb o p) (ltb p o) (ltb o q) (ltb q o) (ltb o t) (ltb t o) (ltb p q)
       (ltb q p) (ltb p t) (ltb t p) (ltb q t) (ltb t q))
 
-  not_false : (x : Bool) → not x ≡ true → x ≡ false
-  not_false true h = sym h
-  not_false false h = refl
-
   both_false : (x y : Bool) → (not x && not y) ≡ true → (x ≡ false) × (y ≡ false)
-  both_false x y h = let (u, v) = and_parts (not x) (not y) h in (not_false x u, not_false y v)
+  both_false x y h = let (u, v) = and_parts (not x) (not y) h in (not-true x u, not-true y v)
 
   module _ (apart : beq (between o p t) (between o p q) ≡ true) where
     -- on the way up from t, where t is met first

@@ -10,14 +10,14 @@ use Rattle.state_rank.proofs.BijectionLemmas.{IsOneToOne}
 use Rattle.torus_geom.proofs.Pairs.ExchangeLaw.{IsExchange, marks_between, pairs-exchanged_both, pairs-exchanged_left, points_within}
 use Rattle.torus_geom.proofs.Pairs.PairLemmas.{maslov_by_pairs}
 use Rattle.torus_geom.proofs.Sums.SumLemmas.{at_only, sum_below-at_only, sum_below_same, sum_below_vanishes}
-use Rattle.torus_geom.proofs.Circles.TurnLemmas.{one_down_below, one_up-one_down}
+use Rattle.torus_geom.proofs.Circles.TurnLemmas.{one_down_below, one_up-one_down, one_down-other}
 use Rattle.torus_geom.specs.Counts.{one_if}
 use Rattle.torus_geom.specs.Range.{one_down}
 use Rattle.rectangles.proofs.Square.CyclicOrder.{between}
-use Rattle.rectangles.proofs.Square.EmptyRectangles.{is_between}
-use Rattle.rectangles.proofs.Square.Exchanges.{exchanged, exchanged-first, exchanged-other, exchanged-second}
+use Rattle.rectangles.proofs.Square.Exchanges.{with_exchanged, with_exchanged-first, with_exchanged-other, with_exchanged-second}
 use Rattle.rectangles.proofs.Square.TwoSteps.{differ, differ-self}
-use Rattle.pentagon_map.proofs.ChainMap.CyclicSteps.{between-thin, one_down-other, one_down_cases}
+use Rattle.pentagon_map.proofs.ChainMap.CyclicSteps.{between-thin, one_down_cases}
+use Rattle.torus_geom.proofs.Circles.BetweenLemmas.{is_between}
 
 module _ (n : ℕ) (o x : ℕ → ℕ) (oo : IsOneToOne n o) (ox : IsOneToOne n x) (c : ℕ) (lc : c < n) (big : 2 ≤ n) where
   abbrev r : ℕ
@@ -30,7 +30,7 @@ module _ (n : ℕ) (o x : ℕ → ℕ) (oo : IsOneToOne n o) (ox : IsOneToOne n 
   rc = one_down-other n c big lc
 
   abbrev o' : ℕ → ℕ
-  o' = exchanged o (one_down n c) c
+  o' = with_exchanged o (one_down n c) c
 
   -- they are a bijection again
   pub one' : IsOneToOne n o'
@@ -40,31 +40,31 @@ module _ (n : ℕ) (o x : ℕ → ℕ) (oo : IsOneToOne n o) (ox : IsOneToOne n 
   }
     where
       each_small : (d : ℕ) → d < n → (d ≡ r) ⊎ (d ≢ r) → (d ≡ c) ⊎ (d ≢ c) → o' d < n
-      each_small d l (inl i) v = let e = ap o' i ∙ exchanged-first o r c in let k = oo.small c lc in omega arith
-      each_small d l (inr u) (inl i) = let e = ap o' i ∙ exchanged-second o r c rc in let k = oo.small r lr in
+      each_small d l (inl i) v = let e = ap o' i ∙ with_exchanged-first o r c in let k = oo.small c lc in omega arith
+      each_small d l (inr u) (inl i) = let e = ap o' i ∙ with_exchanged-second o r c rc in let k = oo.small r lr in
           omega arith
-      each_small d l (inr u) (inr v) = let e = exchanged-other o r c d u v in let k = oo.small d l in omega arith
+      each_small d l (inr u) (inr v) = let e = with_exchanged-other o r c d u v in let k = oo.small d l in omega arith
 
       apart : (d e : ℕ) → d < n → e < n → d ≢ e → o' d ≡ o' e → (d ≡ r) ⊎ (d ≢ r) → (d ≡ c) ⊎ (d ≢ c)
           → (e ≡ r) ⊎ (e ≢ r) → (e ≡ c) ⊎ (e ≢ c) → ⊥
       apart d e ld le p q (inl i) v (inl j) w = p (i ∙ sym j)
       apart d e ld le p q (inl i) v (inr j) (inl k) =
           oo.apart c r lc lr (λ z. rc (sym z))
-          (sym (ap o' i ∙ exchanged-first o r c) ∙ q ∙ ap o' k ∙ exchanged-second o r c rc)
+          (sym (ap o' i ∙ with_exchanged-first o r c) ∙ q ∙ ap o' k ∙ with_exchanged-second o r c rc)
       apart d e ld le p q (inl i) v (inr j) (inr k) =
-          oo.apart c e lc le (λ z. k (sym z)) (sym (ap o' i ∙ exchanged-first o r c) ∙ q ∙ exchanged-other o r c e j k)
+          oo.apart c e lc le (λ z. k (sym z)) (sym (ap o' i ∙ with_exchanged-first o r c) ∙ q ∙ with_exchanged-other o r c e j k)
       apart d e ld le p q (inr u) (inl i) (inl j) w =
-          oo.apart r c lr lc rc (sym (ap o' i ∙ exchanged-second o r c rc) ∙ q ∙ ap o' j ∙ exchanged-first o r c)
+          oo.apart r c lr lc rc (sym (ap o' i ∙ with_exchanged-second o r c rc) ∙ q ∙ ap o' j ∙ with_exchanged-first o r c)
       apart d e ld le p q (inr u) (inl i) (inr j) (inl k) = p (i ∙ sym k)
       apart d e ld le p q (inr u) (inl i) (inr j) (inr k) =
           oo.apart r e lr le (λ z. j (sym z))
-          (sym (ap o' i ∙ exchanged-second o r c rc) ∙ q ∙ exchanged-other o r c e j k)
+          (sym (ap o' i ∙ with_exchanged-second o r c rc) ∙ q ∙ with_exchanged-other o r c e j k)
       apart d e ld le p q (inr u) (inr v) (inl j) w =
-          oo.apart d c ld lc v (sym (exchanged-other o r c d u v) ∙ q ∙ ap o' j ∙ exchanged-first o r c)
+          oo.apart d c ld lc v (sym (with_exchanged-other o r c d u v) ∙ q ∙ ap o' j ∙ with_exchanged-first o r c)
       apart d e ld le p q (inr u) (inr v) (inr j) (inl k) =
-          oo.apart d r ld lr u (sym (exchanged-other o r c d u v) ∙ q ∙ ap o' k ∙ exchanged-second o r c rc)
+          oo.apart d r ld lr u (sym (with_exchanged-other o r c d u v) ∙ q ∙ ap o' k ∙ with_exchanged-second o r c rc)
       apart d e ld le p q (inr u) (inr v) (inr j) (inr k) =
-          oo.apart d e ld le p (sym (exchanged-other o r c d u v) ∙ q ∙ exchanged-other o r c e j k)
+          oo.apart d e ld le p (sym (with_exchanged-other o r c d u v) ∙ q ∙ with_exchanged-other o r c e j k)
 
   exchange : IsExchange n r c (o r) (o c) o o'
   exchange = record {
@@ -75,9 +75,9 @@ module _ (n : ℕ) (o x : ℕ → ℕ) (oo : IsOneToOne n o) (ox : IsOneToOne n 
     one_after = one';
     from_a = refl;
     from_b = refl;
-    to_a = exchanged-first o r c;
-    to_b = exchanged-second o r c rc;
-    others = λ d l p q. sym (exchanged-other o r c d p q);
+    to_a = with_exchanged-first o r c;
+    to_b = with_exchanged-second o r c rc;
+    others = λ d l p q. sym (with_exchanged-other o r c d p q);
   }
 
   -- no column is strictly between them

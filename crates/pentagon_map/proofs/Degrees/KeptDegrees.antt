@@ -1,15 +1,12 @@
 -- The image of a state has its Maslov and its Alexander degree, in the exchanged grid: for columns by its pentagons,
--- for
--- rows since transposing keeps degrees.
-use Rattle.rectangles.proofs.Square.RectangleTests.{slice_index-swap as slice_index-exchanged}
-use Rattle.std.proofs.Common.{All, Bool, List, ap, arith, eqb, false, get_or, inl, inr, length, map, not, refl, slice_index, subst, suc, swap, sym, true, true≢false, zero, ℕ, ◌&&◌, ◌<◌, ◌||◌, ◌∙◌, ◌≡◌, ◌≢◌, ◌⊎◌}
+-- for rows since transposing keeps degrees.
+use Rattle.rectangles.proofs.Square.RectangleTests.{swap-with_exchanged as slice_index-exchanged}
+use Rattle.std.proofs.Common.{All, Bool, List, ap, arith, eqb, false, get_or, inl, inr, length, map, not, refl, slice_index, subst, swap, sym, true, true≢false, ℕ, ◌&&◌, ◌<◌, ◌||◌, ◌∙◌, ◌≡◌, ◌≢◌, ◌⊎◌}
 use Rattle.std.proofs.Math.IntN.{pos}
-use Rattle.std.proofs.lemmas.Bool.{and_parts, cases_Bool, eqb-true, ne_eqb, or_cases}
+use Rattle.std.proofs.lemmas.Bool.{and_parts, eqb-true, ne_eqb, or_cases, not-true, or_parts}
 use Rattle.std.proofs.lemmas.List.{get_or-map, length-map}
 use Rattle.std.proofs.lemmas.List.Edits.{length-swap}
 use Rattle.f2_algebra.proofs.Chains.Lists.{All-codes}
-use Rattle.f2_algebra.proofs.Chains.ParityLemmas.{parity_below}
-use Rattle.f2_algebra.proofs.Chains.Tables.{◌⊻◌}
 use Rattle.f2_algebra.specs.Chain.{Chain, codes, holds}
 use Rattle.state_rank.proofs.BijectionLemmas.{column_of-below, one_to_one}
 use Rattle.state_rank.proofs.RankLemmas.{rank_one_to_one}
@@ -30,7 +27,7 @@ use Rattle.torus_geom.specs.Range.{one_down}
 use Rattle.torus_geom.specs.Marks.{IsGrid, Marks, size}
 use Rattle.torus_geom.specs.Transposed.{transposed}
 use Rattle.rectangles.proofs.Square.CyclicOrder.{between}
-use Rattle.rectangles.proofs.Square.EmptyRectangles.{free, is_between, is_clear_of}
+use Rattle.rectangles.proofs.Square.EmptyRectangles.{free, is_clear_of}
 use Rattle.rectangles.proofs.Square.OpenRectangles.{marks}
 use Rattle.rectangles.proofs.Square.TwoSteps.{differ, differ_apart}
 use Rattle.grid_moves.proofs.Exchanged.SwappedTwice.{size-swapped}
@@ -48,22 +45,8 @@ use Rattle.grid_moves.proofs.Exchanged.TransposedGrids.{size-transposed, transpo
 use Rattle.pentagon_map.specs.Inner.CodeImages.{column_image, image_of_state}
 use Rattle.pentagon_map.specs.Pentagon.{crossing_row}
 use Rattle.pentagon_map.specs.declared.Corner.{Corner}
-
--- what a sum of tests that is odd says of one
-some_odd : (n : ℕ) (f : ℕ → Bool) → parity_below n f ≡ true → (t : ℕ) × (t < n) × (f t ≡ true)
-some_odd zero f h = absurd (true≢false (sym h))
-some_odd (suc n) f h = elim (cases_Bool (f n)) [
-  | inl e ↦ (n, omega arith, e)
-  | inr e ↦ let (t, l, k) = some_odd n f (sym (ap (λ z. z ⊻ parity_below n f) e) ∙ h) in (t, omega arith, k)
-]
-
-not_true : (x : Bool) → not x ≡ true → x ≡ false
-not_true true h = sym h
-not_true false h = refl
-
-or_false : (x y : Bool) → (x || y) ≡ false → (x ≡ false) × (y ≡ false)
-or_false true y h = absurd (true≢false h)
-or_false false y h = (refl, h)
+use Rattle.torus_geom.proofs.Circles.BetweenLemmas.{is_between}
+use Rattle.rectangles.proofs.Sweep.OddPairLemmas.{parity_below-some}
 
 -- ---- columns
 module _ (g : Marks) (s : IsGrid g) (c : ℕ) (lc : c < size g) (h : are_commuting_columns g c ≡ true) (corner : Corner)
@@ -92,7 +75,7 @@ module _ (g : Marks) (s : IsGrid g) (c : ℕ) (lc : c < size g) (h : are_commuti
   -- no point of the state is inside, as a count
   none_within : (a b : ℕ) → is_clear_of n f a b (f a) (f b) ≡ true → points_within n f a b (f a) (f b) ≡ pos 0
   none_within a b e =
-      sum_below_vanishes n _ (λ t l. ap one_if (not_true _
+      sum_below_vanishes n _ (λ t l. ap one_if (not-true _
       (at_all_below n (λ t. not (is_between a b t && is_between (f a) (f b) (f t))) e t l)))
 
   record IsPentagonHere (a b : ℕ) : Type 0 where
@@ -109,8 +92,8 @@ module _ (g : Marks) (s : IsGrid g) (c : ℕ) (lc : c < size g) (h : are_commuti
       and_parts (free n (two r c) (between a b) (marks (slice_index g.o) (slice_index g.x)
       (between (f a) (f b)))) _ e4 in
       let (low, high) = and_parts (lacks (slice_index g.o) (slice_index g.x) c (between (f a) w)) _ e5 in
-      let low_parts = or_false _ _ (not_true _ low) in
-      let high_parts = or_false _ _ (not_true _ high) in
+      let low_parts = or_parts _ _ (not-true _ low) in
+      let high_parts = or_parts _ _ (not-true _ high) in
       let on_circle : (a ≡ c) ⊎ (b ≡ c) =
       elim (or_cases (eqb a c) (eqb b c) on) [ inl i ↦ inl (eqb-true a c i) | inr i ↦ inr (eqb-true b c i) ] in
       let none : (d : ℕ) → d < n → d ≢ r → d ≢ c
@@ -195,8 +178,8 @@ module _ (g : Marks) (s : IsGrid g) (c : ℕ) (lc : c < size g) (h : are_commuti
   pentagon_of : (y : List ℕ) → IsBijection n y → holds (column_image g c corner x) (rank y) ≡ true
       → (a : ℕ) × (b : ℕ) × (a < n) × (b < n) × (pentagon_at g s c w lc lw f a b ≡ true) × (y ≡ swap x a b)
   pentagon_of y sy e =
-      let (a, la, e1) = some_odd n _ (sym (holds-column_image g s c corner lc lw x sx (rank y)) ∙ e) in
-      let (b, lb, e2) = some_odd n _ e1 in
+      let (a, la, e1) = parity_below-some n _ (sym (holds-column_image g s c corner lc lw x sx (rank y)) ∙ e) in
+      let (b, lb, e2) = parity_below-some n _ e1 in
       let (p, q) = and_parts (pentagon_at g s c w lc lw f a b) (eqb (rank y) (rank (swap x a b))) e2 in (
         a,
         b,

@@ -1,4 +1,4 @@
--- How many marks of the exchanged grid are in a pentagon, for the O and for the X alike, and so that a pentagon
+-- How many marks of the with_exchanged grid are in a pentagon, for the O and for the X alike, and so that a pentagon
 -- keeps the Maslov degree. The marks o stand for either.
 use Rattle.std.proofs.Common.{Bool, ap, ap₂, arith, cond, eqb, false, inl, inr, leb, ltb, not, refl, sym, true, ℕ, ◌&&◌, ◌+◌, ◌<◌, ◌||◌, ◌∙◌, ◌≡◌, ◌≢◌, ◌≤◌, ◌⊎◌}
 use Rattle.std.proofs.Math.IntN.{pos, ◌+ℤ◌}
@@ -9,13 +9,13 @@ use Rattle.state_rank.proofs.BijectionLemmas.{IsOneToOne}
 use Rattle.torus_geom.proofs.Pairs.ExchangeLaw.{IsExchange, marks_between, maslov-exchanged, points_within}
 use Rattle.torus_geom.proofs.Pairs.PairLemmas.{maslov_by_pairs}
 use Rattle.torus_geom.proofs.Sums.SumLemmas.{at_only, sum_below-at_only, sum_below_same}
-use Rattle.torus_geom.proofs.Circles.TurnLemmas.{one_down_below}
+use Rattle.torus_geom.proofs.Circles.TurnLemmas.{one_down_below, one_down-other}
 use Rattle.torus_geom.specs.Counts.{one_if}
 use Rattle.torus_geom.specs.Range.{one_down}
 use Rattle.rectangles.proofs.Square.CyclicOrder.{between, between_end, between_start}
-use Rattle.rectangles.proofs.Square.Exchanges.{exchanged, exchanged-first, exchanged-other, exchanged-second}
+use Rattle.rectangles.proofs.Square.Exchanges.{with_exchanged, with_exchanged-first, with_exchanged-other, with_exchanged-second}
 use Rattle.rectangles.proofs.Square.TwoSteps.{differ, differ-self}
-use Rattle.pentagon_map.proofs.ChainMap.CyclicSteps.{between-one_down, one_down-other}
+use Rattle.pentagon_map.proofs.ChainMap.CyclicSteps.{between-one_down}
 use Rattle.pentagon_map.proofs.ChainMap.RowArcs.{above_of}
 use Rattle.pentagon_map.proofs.Degrees.ExchangedColumns.{maslov-columns, one'}
 use Rattle.pentagon_map.proofs.Degrees.RowsOfPentagon.{AreRows, left_in, less_is, right_in}
@@ -85,9 +85,9 @@ module _ (n : ℕ) (o x y : ℕ → ℕ) (oo : IsOneToOne n o) (ox : IsOneToOne 
       by true = refl
       by false = refl
 
-  -- the marks of the exchanged columns
+  -- the marks of the with_exchanged columns
   abbrev o' : ℕ → ℕ
-  o' = exchanged o (one_down n c) c
+  o' = with_exchanged o (one_down n c) c
 
   one_column : (e : ℕ) → e < n → (v : Bool)
       → ((t : ℕ) → t < n → (between a b t && between (x a) (x b) (o' t)) ≡ (eqb t e && v))
@@ -103,14 +103,14 @@ module _ (n : ℕ) (o x y : ℕ → ℕ) (oo : IsOneToOne n o) (ox : IsOneToOne 
   -- elsewhere there is none
   beside : (t : ℕ) → t < n → t ≢ r → t ≢ c → (between a b t && between (x a) (x b) (o' t)) ≡ false
   beside t l p q =
-      ap (λ k. between a b t && between (x a) (x b) k) (exchanged-other o r c t p q) ∙ d.none_beside t l p q
+      ap (λ k. between a b t && between (x a) (x b) k) (with_exchanged-other o r c t p q) ∙ d.none_beside t l p q
 
   marks_left : a ≡ c → marks_between n o' a b (x a) (x b) ≡ one_if (between (x c) (o c) (o r))
   marks_left e =
       one_column c lc (between (x c) (o c) (o r)) (λ t l. elim (cases_eq t c) [
         | inl i ↦
             ap₂ (λ u v. u && between (x a) (x b) v) (ap (between a b) (i ∙ sym e) ∙ between_start a b d.apart)
-            (ap o' i ∙ exchanged-second o r c rc)
+            (ap o' i ∙ with_exchanged-second o r c rc)
             ∙ left_in n (x a) (x b) w (o r) (o c) rows ∙ ap (λ k. between (x k) (o c) (o r)) e
             ∙ sym (ap (λ s. s && between (x c) (o c) (o r)) (eq-eqb t c i))
         | inr p ↦
@@ -134,7 +134,7 @@ module _ (n : ℕ) (o x y : ℕ → ℕ) (oo : IsOneToOne n o) (ox : IsOneToOne 
             (ap (between a b) i ∙ between-one_down n a b c d.a_below d.b_below lc d.apart
             ∙ ap (λ u. (between a b c && differ c a) || u) (eq-eqb b c e)
             ∙ same 1 (λ u. u || true) (λ u. true) refl (between a b c && differ c a))
-            (ap o' i ∙ exchanged-first o r c)
+            (ap o' i ∙ with_exchanged-first o r c)
             ∙ right_in n (x a) (x b) w (o r) (o c) rows ∙ ap (λ k. between (x k) (o c) (o r)) e
             ∙ sym (ap (λ s. s && between (x c) (o c) (o r)) (eq-eqb t r i))
         | inr p ↦
@@ -148,7 +148,7 @@ module _ (n : ℕ) (o x y : ℕ → ℕ) (oo : IsOneToOne n o) (ox : IsOneToOne 
   marks_are : marks_between n o' a b (x a) (x b) ≡ one_if (between (x c) (o c) (o r))
   marks_are = elim d.on_circle [ inl e ↦ marks_left e | inr e ↦ marks_right e ]
 
-  -- A pentagon keeps the Maslov degree: the state y of the exchanged grid has that of x.
+  -- A pentagon keeps the Maslov degree: the state y of the with_exchanged grid has that of x.
   pub maslov-pentagon : IsExchange n a b (x a) (x b) x y → maslov_by_pairs n o' y ≡ maslov_by_pairs n o x
   maslov-pentagon exchange =
       let columns = maslov-columns n o x oo ox c lc big in

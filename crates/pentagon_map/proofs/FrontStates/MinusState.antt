@@ -10,7 +10,7 @@ use Rattle.f2_algebra.proofs.Chains.Tables.{and-false, and-true, same}
 use Rattle.f2_algebra.specs.Chain.{single}
 use Rattle.state_rank.specs.States.{rank}
 use Rattle.torus_geom.proofs.Sums.AllBelowLemmas.{at_all_below}
-use Rattle.torus_geom.proofs.Circles.TurnLemmas.{one_down_below, one_up-one_down}
+use Rattle.torus_geom.proofs.Circles.TurnLemmas.{one_down_below, one_up-one_down, one_down-other}
 use Rattle.torus_geom.specs.Front.{minus_state}
 use Rattle.torus_geom.specs.Range.{one_down}
 use Rattle.torus_geom.specs.Marks.{IsGrid, Marks, size}
@@ -19,7 +19,7 @@ use Rattle.rectangles.proofs.Square.EmptyRectangles.{free, is_clear_of}
 use Rattle.rectangles.proofs.Square.OpenRectangles.{marks}
 use Rattle.rectangles.proofs.Square.TwoSteps.{differ, differ-self, differ-true}
 use Rattle.grid_moves.specs.Moves.{are_commuting_columns, swapped_columns}
-use Rattle.pentagon_map.proofs.ChainMap.CyclicSteps.{between-thin, one_down-other}
+use Rattle.pentagon_map.proofs.ChainMap.CyclicSteps.{between-thin}
 use Rattle.pentagon_map.proofs.ChainMap.PentagonSums.{crossing_row-below, holds-column_image, pentagon_at}
 use Rattle.pentagon_map.proofs.ChainMap.Pentagons.{lacks, penta, two}
 use Rattle.pentagon_map.proofs.ChainMap.RowArcs.{above_of}

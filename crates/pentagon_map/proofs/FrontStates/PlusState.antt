@@ -1,4 +1,4 @@
--- `Over` carries the state of the upper right corners of the X to that of the exchanged grid.
+-- `Over` carries the state of the upper right corners of the X to that of the with_exchanged grid.
 -- Route: the X of the column before b is in the way of each rectangle that ends at circle b and row x(b), but for
 -- b = c, where it is above the crossing, and for b = c + 1. That leaves the thin rectangle from c up to c + 1.
 use Rattle.std.proofs.Common.{Bool, List, ap, ap₂, arith, cond, eqb, false, inl, inr, length, not, refl, slice_index, swap, sym, true, true≢false, ℕ, ◌&&◌, ◌<◌, ◌||◌, ◌∙◌, ◌≡◌, ◌≢◌, ◌⊎◌}
@@ -14,19 +14,19 @@ use Rattle.state_rank.specs.Bijection.{IsBijection}
 use Rattle.state_rank.specs.States.{rank}
 use Rattle.torus_geom.proofs.Sums.AllBelowLemmas.{at_all_below}
 use Rattle.torus_geom.proofs.Sums.TabulateLemmas.{slice_index-tabulate}
-use Rattle.torus_geom.proofs.Circles.TurnLemmas.{composed_one, one_down-one_up, one_down_below, one_down_one, one_up-one_down, one_up_below, one_up_one}
+use Rattle.torus_geom.proofs.Circles.TurnLemmas.{composed_one, one_down-one_up, one_down_below, one_down_one, one_up-one_down, one_up_below, one_up_one, one_down-other}
 use Rattle.torus_geom.specs.Front.{plus_state}
 use Rattle.torus_geom.specs.Range.{one_down, one_up}
 use Rattle.torus_geom.specs.Marks.{IsGrid, Marks, size}
 use Rattle.rectangles.proofs.Square.CyclicOrder.{between, between_end}
 use Rattle.rectangles.proofs.Square.EmptyRectangles.{free, is_clear_of}
-use Rattle.rectangles.proofs.Square.Exchanges.{exchanged, exchanged-first, exchanged-other, exchanged-second}
+use Rattle.rectangles.proofs.Square.Exchanges.{with_exchanged, with_exchanged-first, with_exchanged-other, with_exchanged-second}
 use Rattle.rectangles.proofs.Square.OpenRectangles.{marks}
-use Rattle.rectangles.proofs.Square.RectangleTests.{slice_index-swap}
+use Rattle.rectangles.proofs.Square.RectangleTests.{swap-with_exchanged}
 use Rattle.state_rank.proofs.SwapLemmas.{IsBijection-swap}
 use Rattle.rectangles.proofs.Square.TwoSteps.{differ, differ-self, differ-true}
 use Rattle.grid_moves.specs.Moves.{are_commuting_columns, swapped_columns}
-use Rattle.pentagon_map.proofs.ChainMap.CyclicSteps.{between-thin, one_down-other, one_up-other}
+use Rattle.pentagon_map.proofs.ChainMap.CyclicSteps.{between-thin, one_up-other}
 use Rattle.pentagon_map.proofs.ChainMap.PentagonSums.{crossing_row-below, holds-column_image, pentagon_at}
 use Rattle.pentagon_map.proofs.ChainMap.Pentagons.{lacks, penta, two}
 use Rattle.pentagon_map.proofs.ChainMap.RowArcs.{above_of}
@@ -343,30 +343,30 @@ module _ (g : Marks) (s : IsGrid g) (c : ℕ) (lc : c < size g) (h : are_commuti
       same_list n (swap x c e) (plus_state there) (IsBijection-swap n x c e lc le sx).long
       (length-plus_state n there same_size) (λ d l.
       let long = sx.long in
-      ap (λ (f : ℕ → ℕ). f d) (slice_index-swap x c e (omega arith) (omega arith))
+      ap (λ (f : ℕ → ℕ). f d) (swap-with_exchanged x c e (omega arith) (omega arith))
       ∙ each d l (cases_eq d c) (cases_eq d e)
       ∙ sym (plus_state-at n there same_size d l
       ∙ ap (λ (f : ℕ → ℕ). one_up n (f (one_down n d)))
-      (let k = s.x.long in slice_index-swap g.x r c (omega arith) (omega arith))))
+      (let k = s.x.long in swap-with_exchanged g.x r c (omega arith) (omega arith))))
     where
       each : (d : ℕ) → d < n → (d ≡ c) ⊎ (d ≢ c) → (d ≡ e) ⊎ (d ≢ e)
-          → exchanged (slice_index x) c e d ≡ one_up n (exchanged (slice_index g.x) r c (one_down n d))
+          → with_exchanged (slice_index x) c e d ≡ one_up n (with_exchanged (slice_index g.x) r c (one_down n d))
       each d l (inl i) z =
-          ap (exchanged (slice_index x) c e) i ∙ exchanged-first (slice_index x) c e ∙ row_e
-          ∙ ap (one_up n) (sym (exchanged-first (slice_index g.x) r c))
-          ∙ ap (λ (k : ℕ). one_up n (exchanged (slice_index g.x) r c (one_down n k))) (sym i)
+          ap (with_exchanged (slice_index x) c e) i ∙ with_exchanged-first (slice_index x) c e ∙ row_e
+          ∙ ap (one_up n) (sym (with_exchanged-first (slice_index g.x) r c))
+          ∙ ap (λ (k : ℕ). one_up n (with_exchanged (slice_index g.x) r c (one_down n k))) (sym i)
       each d l (inr u) (inl i) =
-          ap (exchanged (slice_index x) c e) i ∙ exchanged-second (slice_index x) c e ce ∙ row_c
-          ∙ ap (one_up n) (sym (exchanged-second (slice_index g.x) r c (one_down-other n c s.is_size.least lc)))
-          ∙ ap (λ (k : ℕ). one_up n (exchanged (slice_index g.x) r c k)) (sym (one_down-one_up n c lc))
-          ∙ ap (λ (k : ℕ). one_up n (exchanged (slice_index g.x) r c (one_down n k))) (sym i)
+          ap (with_exchanged (slice_index x) c e) i ∙ with_exchanged-second (slice_index x) c e ce ∙ row_c
+          ∙ ap (one_up n) (sym (with_exchanged-second (slice_index g.x) r c (one_down-other n c s.is_size.least lc)))
+          ∙ ap (λ (k : ℕ). one_up n (with_exchanged (slice_index g.x) r c k)) (sym (one_down-one_up n c lc))
+          ∙ ap (λ (k : ℕ). one_up n (with_exchanged (slice_index g.x) r c (one_down n k))) (sym i)
       each d l (inr u) (inr v) =
-          exchanged-other (slice_index x) c e d u v ∙ row_at d l
-          ∙ ap (one_up n) (sym (exchanged-other (slice_index g.x) r c (one_down n d)
+          with_exchanged-other (slice_index x) c e d u v ∙ row_at d l
+          ∙ ap (one_up n) (sym (with_exchanged-other (slice_index g.x) r c (one_down n d)
           (λ i. u (sym (one_up-one_down n d l) ∙ ap (one_up n) i ∙ one_up-one_down n c lc))
           (λ i. v (sym (one_up-one_down n d l) ∙ ap (one_up n) i))))
 
-  -- `Over` carries the upper right corners to those of the exchanged grid.
+  -- `Over` carries the upper right corners to those of the with_exchanged grid.
   pub column_image-plus_state : column_image g c Over (plus_state g) ≡ single (rank (plus_state (swapped_columns g c)))
   column_image-plus_state = same_chain _ _ (λ k.
       holds-column_image g s c Over lc lw x sx k

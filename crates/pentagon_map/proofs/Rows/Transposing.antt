@@ -17,9 +17,8 @@ use Rattle.torus_geom.proofs.TransposeLemmas.{IsBijection-transposed, IsGrid-tra
 use Rattle.torus_geom.specs.Inner.CodeBorder.{border, border_of_state}
 use Rattle.torus_geom.specs.Marks.{IsGrid, Marks, size}
 use Rattle.torus_geom.specs.Transposed.{transposed}
-use Rattle.rectangles.proofs.Square.ColumnTests.{all_below-same}
 use Rattle.rectangles.proofs.Square.CyclicOrder.{between}
-use Rattle.rectangles.proofs.Square.EmptyRectangles.{free, free_rows, is_between, is_clear_of}
+use Rattle.rectangles.proofs.Square.EmptyRectangles.{free, free_rows, is_clear_of}
 use Rattle.rectangles.proofs.Square.OpenRectangles.{is_open, unmarked}
 use Rattle.rectangles.proofs.Square.RectangleSums.{weight-border_of_state}
 use Rattle.rectangles.proofs.Square.TwoSteps.{differ}
@@ -29,6 +28,8 @@ use Rattle.grid_moves.proofs.Turned.TurnedBorders.{border_IsOfStates}
 use Rattle.grid_moves.proofs.Exchanged.TransposedGrids.{transpose-at, transpose-transpose, size-transposed, transpose_AreInverse}
 use Rattle.grid_moves.specs.Inner.CodeCarried.{transposed_chain}
 use Rattle.grid_moves.proofs.Turned.Reindexing.{all_below_reindex, parity_below_reindex_both}
+use Rattle.torus_geom.proofs.Sums.AllBelowLemmas.{all_below-same}
+use Rattle.torus_geom.proofs.Circles.BetweenLemmas.{is_between}
 
 -- the rectangle of circles a and b of x is open, and leads to the state of rank q
 abbrev pub leads_to : ℕ → Marks → List ℕ → ℕ → ℕ → ℕ → Bool

@@ -1,15 +1,14 @@
 -- The loop over the members of a chain: the sum of images grows by one at its end.
-use Rattle.std.proofs.Common.{List, [], ap, get_or, inl, inr, length, map, sym, take, true, true≢false, ℕ, ◌++◌, ◌+◌, ◌<◌, ◌∙◌, ◌∷◌, ◌≡◌}
+use Rattle.std.proofs.Common.{List, [], ap, get_or, inl, inr, length, map, sym, take, true, true≢false, ℕ, ◌+◌, ◌<◌, ◌∙◌, ◌∷◌, ◌≡◌}
 use Rattle.std.proofs.lemmas.Bool.{cases_lt}
 use Rattle.std.proofs.lemmas.List.{map-append, take_more}
 use Rattle.f2_algebra.proofs.Chains.Sets.{holds-nothing, weight-some}
-use Rattle.f2_algebra.proofs.Chains.Sums.{add-nothing, add_assoc, holds-sum_over, nothing-add}
+use Rattle.f2_algebra.proofs.Chains.Sums.{holds-sum_over, total-push}
 use Rattle.f2_algebra.proofs.Chains.Tables.{same}
 use Rattle.f2_algebra.specs.Chain.{Chain, codes, holds, sum_over, total, ◌⊕◌}
-use Rattle.state_rank.proofs.RankLemmas.{IsBijection-unrank}
+use Rattle.state_rank.proofs.RankLemmas.{IsBijection-unrank, unrank-past}
 use Rattle.state_rank.specs.States.{factorial, unrank}
 use Rattle.torus_geom.specs.Marks.{IsGrid, Marks, size}
-use Rattle.grid_moves.proofs.Turned.CarriedChains.{unrank-past}
 use Rattle.grid_moves.specs.declared.commutations.Axis.{Axis}
 use Rattle.pentagon_map.proofs.Rows.ImageByRows.{image_of_state_IsOfStates}
 use Rattle.pentagon_map.specs.Inner.CodeImages.{image, image_of_state}
@@ -18,10 +17,6 @@ use Rattle.pentagon_map.specs.declared.Corner.{Corner}
 -- the sum of the images of states, by their ranks
 abbrev pub sum_of_images : Axis → Marks → ℕ → Corner → List ℕ → Chain
 sum_of_images axis g c corner cs = total (map (λ k. image_of_state axis g c corner (unrank (size g) k)) cs)
-
-total-push : (zs : List Chain) (z : Chain) → total (zs ++ z ∷ []) ≡ total zs ⊕ z
-total-push [] z = add-nothing z ∙ sym (nothing-add z)
-total-push (w ∷ zs) z = ap (λ u. w ⊕ u) (total-push zs z) ∙ sym (add_assoc w (total zs) z)
 
 -- one more image is added
 pub image_added : (axis : Axis) (g : Marks) (c : ℕ) (corner : Corner) (cs : List ℕ) (i n : ℕ) (x : List ℕ)

@@ -1,9 +1,8 @@
 -- A turn carries pentagons to pentagons: with the columns moved by f and the rows by h, each test of a pentagon is
 -- that of the turned one, since tests of all columns may be taken in another order.
 use Rattle.std.proofs.Common.{ap, ap₂, not, sym, ℕ, ◌&&◌, ◌<◌, ◌||◌, ◌∙◌, ◌≡◌}
-use Rattle.rectangles.proofs.Square.ColumnTests.{all_below-same}
 use Rattle.rectangles.proofs.Square.CyclicOrder.{between}
-use Rattle.rectangles.proofs.Square.EmptyRectangles.{free, is_between, is_clear_of}
+use Rattle.rectangles.proofs.Square.EmptyRectangles.{free, is_clear_of}
 use Rattle.rectangles.proofs.Square.OpenRectangles.{marks}
 use Rattle.rectangles.proofs.Square.TwoSteps.{differ}
 use Rattle.pentagon_map.proofs.ChainMap.Pentagons.{is_open_pentagon, lacks, penta, two}
@@ -11,6 +10,8 @@ use Rattle.pentagon_map.proofs.ChainMap.RowArcs.{above_of}
 use Rattle.grid_moves.proofs.Turned.Reindexing.{all_below_reindex}
 use Rattle.grid_moves.proofs.Turned.Shifts.{IsShift, eqb-shift}
 use Rattle.pentagon_map.proofs.Turns.Shifts.{between-shift, differ-shift}
+use Rattle.torus_geom.proofs.Sums.AllBelowLemmas.{all_below-same}
+use Rattle.torus_geom.proofs.Circles.BetweenLemmas.{is_between}
 
 module _ (n : ℕ) (f h : ℕ → ℕ) (sf : IsShift n f) (sh : IsShift n h) where
   -- the points of a state, or marks, before and after

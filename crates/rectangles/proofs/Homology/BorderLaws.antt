@@ -1,9 +1,9 @@
 -- The laws of the border of chains of states, from those of sets of ranks; and what the calls answer, over codes.
-use Rattle.std.proofs.Common.{◌≡◌, ℕ, pos, ◌+ℤ◌, true, List, map, sym, ap, subst, ◌∙◌}
+use Rattle.std.proofs.Common.{◌≡◌, ℕ, pos, ◌+ℤ◌, true, List, map, sym, ap, ◌∙◌}
 use Rattle.std.specs.List.{Contains}
 use Rattle.f2_algebra.specs.Chain.{Chain as Codes, codes}
 use Rattle.state_rank.specs.Bijection.{IsBijection}
-use Rattle.state_rank.specs.States.{IsState, rank}
+use Rattle.state_rank.specs.States.{rank}
 use Rattle.torus_geom.specs.Border.{is_step, border}
 use Rattle.torus_geom.specs.Chains.{Chain, nothing, single, members}
 use Rattle.torus_geom.specs.Codes.{states_of, HasRanks}

@@ -7,7 +7,7 @@ use Rattle.f2_algebra.specs.Chain.{Chain as Codes, chain_sums as code_sums, hold
 use Rattle.f2_algebra.specs.Chain as codes
 use Rattle.f2_algebra.specs.Complex.{Complex, AllOfDegree}
 use Rattle.f2_algebra.specs.Complex as complex
-use Rattle.f2_algebra.proofs.Cancelling.Cancellation.{same_some, border-add, border-nothing}
+use Rattle.f2_algebra.proofs.Cancelling.Cancellation.{same_some, complex_border-add, border-nothing}
 use Rattle.f2_algebra.proofs.Chains.Sets.{holds-add, xor-true}
 use Rattle.f2_algebra.proofs.Chains.Sums.{add_self}
 use Rattle.f2_algebra.proofs.Ranks.RankLemmas.{degree-add, degree-nothing}
@@ -26,7 +26,7 @@ use Rattle.torus_geom.specs.Homology.{AreOfDegree, IsCycle, IsBoundary, IsHomolo
 use Rattle.torus_geom.specs.Codes.{states_of}
 use Rattle.torus_geom.specs.Inner.CodeBorder.{codes_of}
 use Rattle.f2_algebra.proofs.Ranks.DimensionLemmas.{Carries, dimension_carried}
-use Rattle.torus_geom.proofs.Chains.ChainLemmas.{in_sum, add_self as chain-add_self, IsChain-add, reached-add, reached-nothing}
+use Rattle.torus_geom.proofs.Chains.ChainLemmas.{in_sum, chain_add_self as chain-add_self, IsChain-add, reached-add, reached-nothing}
 use Rattle.torus_geom.proofs.Chains.CodesLemmas.{AreRanks, states_of-unrank, in_states_of, AreRanks-codes_of, states_of-codes_of, codes_of-states_of, states_of_one_to_one, states_of-nothing, states_of-add, nothing_from_states_of}
 use Rattle.torus_geom.proofs.Chains.ReachedLemmas.{states_of-border}
 
@@ -39,7 +39,7 @@ degree_if g s true d e = (refl, same_some (bidegree g (unrank (size g) s)) d e)
 degree_if g s false d e = absurd (false≢true (ap is_some e))
 
 -- a code that has a degree is the rank of a state of that degree
-degree_is : (g : Marks) (s : ℕ) (d : ℤ × ℤ) → (grid_complex g).degree s ≡ Some d
+pub degree_is : (g : Marks) (s : ℕ) (d : ℤ × ℤ) → (grid_complex g).degree s ≡ Some d
     → (s < factorial (size g)) × (bidegree g (unrank (size g) s) ≡ d)
 degree_is g s d e = let told = degree_if g s _ d e in (ltb-true s (factorial (size g)) told.0, told.1)
 
@@ -164,7 +164,7 @@ module _ (g : Marks) (m a : ℤ) where
     cycle_nothing = (degree-nothing (grid_complex g) (m, a), border-nothing (grid_complex g));
     cycle_add = λ z w c d. (
       degree-add (grid_complex g) (m, a) z w c.0 d.0,
-      border-add (grid_complex g) z w ∙ ap₂ (λ u v. u ⊞ v) c.1 d.1 ∙ add_self codes.nothing,
+      complex_border-add (grid_complex g) z w ∙ ap₂ (λ u v. u ⊞ v) c.1 d.1 ∙ add_self codes.nothing,
     );
     cycles = cycle-states_of;
     cycles_back = cycle-codes_of;

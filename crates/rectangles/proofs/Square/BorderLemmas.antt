@@ -3,12 +3,11 @@
 -- Route: the weight of the border of a state is a sum over two circles, so that of the border of the
 -- border of a state is a sum over two steps, which vanishes. A code that is the rank of no state has
 -- the empty list for its state, which no rectangle leaves.
-use Rattle.std.proofs.Common.{◌≡◌, ℕ, ◌<◌, ◌≤◌, Bool, true, false, not, cond, ◌&&◌, List, [], ◌∷◌, length, map, slice_index, swap, Contains, Some, None, refl, ap, ap₂, subst, ◌∙◌, sym, eqb, ltb, arith, inl, inr}
+use Rattle.std.proofs.Common.{◌≡◌, ℕ, ◌<◌, Bool, true, false, not, cond, ◌&&◌, List, [], ◌∷◌, length, map, slice_index, swap, Contains, Some, None, refl, ap, ap₂, subst, ◌∙◌, sym, eqb, ltb, arith, inl, inr}
 use Rattle.std.specs.List.{filter}
 use Rattle.std.proofs.lemmas.Bool.{cases_lt, eqb-true, lt-ltb, ltb-true, ltb-false, false≢true}
 use Rattle.std.proofs.lemmas.Map.Views.{Contains-from_any}
-use Rattle.std.proofs.Math.ListN.{get_or-eq_default}
-use Rattle.f2_algebra.specs.Chain.{Chain, of_codes, holds, nothing, single, ◌⊕◌, sum_over, is_odd}
+use Rattle.f2_algebra.specs.Chain.{Chain, holds, nothing, single, ◌⊕◌, sum_over, is_odd}
 use Rattle.f2_algebra.specs.Complex.{Complex, arrow, IsComplex, IsAbove}
 use Rattle.f2_algebra.specs.Complex as complex
 use Rattle.f2_algebra.specs.Bigraded.{up_m}
@@ -22,8 +21,8 @@ use Rattle.state_rank.specs.States.{states, rank, unrank, factorial}
 use Rattle.state_rank.proofs.BijectionLemmas.{one_to_one}
 use Rattle.state_rank.proofs.Pigeonhole.{onto}
 use Rattle.state_rank.proofs.MemberLemmas.{member_head, member_of_map, member_of_filter}
-use Rattle.state_rank.proofs.OrderLemmas.{member_of_states, length-states}
-use Rattle.state_rank.proofs.RankLemmas.{IsBijection-unrank, rank-below, unrank-rank}
+use Rattle.state_rank.proofs.OrderLemmas.{member_of_states}
+use Rattle.state_rank.proofs.RankLemmas.{IsBijection-unrank, rank-below, unrank-rank, unrank-past}
 use Rattle.state_rank.proofs.SwapLemmas.{IsBijection-swap}
 use Rattle.torus_geom.specs.Marks.{Marks, size, IsGrid}
 use Rattle.torus_geom.specs.Rectangle.{IsProper, rectangles}
@@ -32,22 +31,16 @@ use Rattle.torus_geom.specs.Inner.CodeBorder.{border_of_state, border}
 use Rattle.torus_geom.specs.declared.rects.Rect.{Rect}
 use Rattle.torus_geom.specs.Degrees.{bidegree}
 use Rattle.torus_geom.specs.Inner.GridComplex.{grid_complex}
-pub use Rattle.torus_geom.proofs.Circles.RectangleLemmas.{member_of_rectangles}
+pub use Rattle.torus_geom.proofs.Circles.RectangleLemmas.{member_of_rectangles, border_of_state-nil}
 use Rattle.rectangles.proofs.Square.TwoSteps.{differ}
-use Rattle.rectangles.proofs.Square.Exchanges.{exchanged}
+use Rattle.rectangles.proofs.Square.Exchanges.{with_exchanged}
 use Rattle.rectangles.proofs.Square.OpenRectangles.{is_open}
 use Rattle.rectangles.proofs.Square.SquareLemmas.{two_steps, twice_none}
-use Rattle.rectangles.proofs.Square.RectangleTests.{slice_index-swap}
+use Rattle.rectangles.proofs.Square.RectangleTests.{swap-with_exchanged}
 use Rattle.rectangles.proofs.Square.RectangleSums.{parity-rectangles, weight-border_of_state}
+use Rattle.torus_geom.proofs.Sums.TabulateLemmas.{tabulate-slice_index}
 
 -- ---- codes that are ranks of no state
-unrank-past : (n k : ℕ) → factorial n ≤ k → unrank n k ≡ []
-unfolding unrank
-unrank-past n k l = get_or-eq_default (states n) [] (let e = length-states n in omega arith)
-
-filter-none : {A : Type 0} (test : A → Bool) (xs : List A) → ((x : A) → test x ≡ false) → filter test xs ≡ []
-filter-none test [] h = refl
-filter-none test (x ∷ xs) h = ap (λ b. cond b (x ∷ filter test xs) (filter test xs)) (h x) ∙ filter-none test xs h
 
 no_step : (g : Marks) (y : List ℕ) → is_odd (length (filter (is_step g [] y) (rectangles (size g)))) ≡ false
 no_step g y =
@@ -60,17 +53,7 @@ no_step g y =
     by : (j k : ℕ) (s t : Bool) → (not (eqb j k) && ((eqb 0 j && (eqb 0 k && s)) && t)) ≡ false
     by j k s t = grind arith
 
--- no rectangle leaves the empty list
-border_of_state-nil : (g : Marks) → border_of_state g [] ≡ nothing
-unfolding border_of_state
-border_of_state-nil g =
-    ap (λ ys. of_codes (map rank ys))
-    (filter-none (λ y. is_odd (length (filter (is_step g [] y) (rectangles (size g))))) (states (size g)) (no_step g))
-
 -- ---- states as lists of a function's values
-tabulate-slice_index : (x : List ℕ) → tabulate (length x) (slice_index x) ≡ x
-tabulate-slice_index [] = refl
-tabulate-slice_index (r ∷ x) = ap (λ z. r ∷ z) (tabulate-slice_index x)
 
 module _ (g : Marks) (s : IsGrid g) where
   abbrev step_at : (ℕ → ℕ) → ℕ → ℕ → Bool
@@ -81,11 +64,11 @@ module _ (g : Marks) (s : IsGrid g) where
   has_rank q f = eqb q (rank (tabulate (size g) f))
 
   swap-exchanged : (x : List ℕ) → IsBijection (size g) x → (a b : ℕ) → a < size g → b < size g
-      → slice_index (swap x a b) ≡ exchanged (slice_index x) a b
-  swap-exchanged x sx a b la lb = let e = sx.long in slice_index-swap x a b (omega arith) (omega arith)
+      → slice_index (swap x a b) ≡ with_exchanged (slice_index x) a b
+  swap-exchanged x sx a b la lb = let e = sx.long in swap-with_exchanged x a b (omega arith) (omega arith)
 
   swap-tabulate : (x : List ℕ) → IsBijection (size g) x → (a b : ℕ) → a < size g → b < size g
-      → swap x a b ≡ tabulate (size g) (exchanged (slice_index x) a b)
+      → swap x a b ≡ tabulate (size g) (with_exchanged (slice_index x) a b)
   swap-tabulate x sx a b la lb =
       let sy = IsBijection-swap (size g) x a b la lb sx in
       sym (tabulate-slice_index (swap x a b)) ∙ ap₂ (λ m f. tabulate m f) sy.long (swap-exchanged x sx a b la lb)
@@ -94,7 +77,7 @@ module _ (g : Marks) (s : IsGrid g) where
   pub holds-border_of_state : (x : List ℕ) → IsBijection (size g) x → (q : ℕ)
       → holds (border_of_state g x) q
       ≡ parity_below (size g) (λ a. parity_below (size g)
-      (λ b. step_at (slice_index x) a b && has_rank q (exchanged (slice_index x) a b)))
+      (λ b. step_at (slice_index x) a b && has_rank q (with_exchanged (slice_index x) a b)))
   holds-border_of_state x sx q =
       sym (weight-at (border_of_state g x) q)
       ∙ weight-border_of_state g s x sx (λ t. eqb q t)
@@ -117,15 +100,15 @@ module _ (g : Marks) (s : IsGrid g) where
       ap (λ y. step_at f a b && holds (border_of_state g y) q) (unrank-rank n u su)
       ∙ ap (λ t. step_at f a b && t) (holds-border_of_state u su q)
       ∙ ap (λ h. step_at f a b
-      && parity_below n (λ c. parity_below n (λ d. step_at h c d && has_rank q (exchanged h c d))))
+      && parity_below n (λ c. parity_below n (λ d. step_at h c d && has_rank q (with_exchanged h c d))))
       (swap-exchanged x sx a b la lb)
       ∙ sym (parity-and (step_at f a b)
-      (λ c. parity_below n (λ d. step_at (exchanged f a b) c d && has_rank q (exchanged (exchanged f a b) c d)))
+      (λ c. parity_below n (λ d. step_at (with_exchanged f a b) c d && has_rank q (with_exchanged (with_exchanged f a b) c d)))
       (below n))
       ∙ parity_below-same n _ (λ c. parity_below n (two_steps n (slice_index g.o) (slice_index g.x) f
       (has_rank q) a b c)) (λ c lc.
       sym (parity-and (step_at f a b)
-      (λ d. step_at (exchanged f a b) c d && has_rank q (exchanged (exchanged f a b) c d)) (below n)))))
+      (λ d. step_at (with_exchanged f a b) c d && has_rank q (with_exchanged (with_exchanged f a b) c d)) (below n)))))
       ∙ twice_none n (slice_index g.o) (slice_index g.x) f (has_rank q) (onto n (slice_index g.o) s.o.small s.o.apart)
       (one_to_one n x sx)
 
@@ -150,9 +133,9 @@ module _ (g : Marks) (s : IsGrid g) where
       ∙ weight-same _ (λ c. false) z (λ c _. square_of_code q c) ∙ weight-none z ∙ sym (holds-nothing q))
 
 -- the border of a sum is the sum of the borders
-pub border-add : (g : Marks) (z w : Chain) → border g (z ⊕ w) ≡ border g z ⊕ border g w
+pub code_border-add : (g : Marks) (z w : Chain) → border g (z ⊕ w) ≡ border g z ⊕ border g w
 unfolding border
-border-add g z w = sum_over-add z w (λ code. border_of_state g (unrank (size g) code))
+code_border-add g z w = sum_over-add z w (λ code. border_of_state g (unrank (size g) code))
 
 -- the border of a single code is that of its state
 border-single : (g : Marks) (c : ℕ) → border g (single c) ≡ border_of_state g (unrank (size g) c)

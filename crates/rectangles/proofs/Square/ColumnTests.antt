@@ -4,11 +4,7 @@ use Rattle.std.proofs.lemmas.Bool.{eq-eqb, ne_eqb, cases_eq}
 use Rattle.f2_algebra.proofs.Chains.Tables.{same, and-true}
 use Rattle.torus_geom.specs.Counts.{all_below}
 use Rattle.rectangles.proofs.Square.TwoSteps.{differ, differ-true}
-
--- tests that agree below n hold below n alike
-pub all_below-same : (n : ℕ) (p q : ℕ → Bool) → ((t : ℕ) → t < n → p t ≡ q t) → all_below n p ≡ all_below n q
-all_below-same zero p q h = refl
-all_below-same (suc n) p q h = ap₂ (λ a b. a && b) (h n (omega arith)) (all_below-same n p q (λ t l. h t (omega arith)))
+use Rattle.torus_geom.proofs.Sums.AllBelowLemmas.{all_below-same}
 
 -- two tests hold below n where both do
 pub all_below-and : (n : ℕ) (p q : ℕ → Bool) → all_below n (λ t. p t && q t) ≡ (all_below n p && all_below n q)

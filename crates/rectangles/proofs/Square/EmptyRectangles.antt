@@ -8,12 +8,10 @@ use Rattle.f2_algebra.proofs.Chains.Tables.{Table, same, beq_same, implies, give
 use Rattle.rectangles.proofs.Square.TwoSteps.{differ, differ-true, differ-self}
 use Rattle.rectangles.proofs.Square.CyclicOrder.{between, between_end, four, four_hold}
 use Rattle.torus_geom.specs.Counts.{all_below}
-use Rattle.rectangles.proofs.Square.ColumnTests.{all_below-same, all_below-and, all_below-split}
-use Rattle.rectangles.proofs.Square.Exchanges.{exchanged, exchanged-first, exchanged-second, exchanged-other}
-
--- inside a range: in it, and not its start
-abbrev pub is_between : ℕ → ℕ → ℕ → Bool
-is_between a b t = between a b t && differ t a
+use Rattle.rectangles.proofs.Square.ColumnTests.{all_below-and, all_below-split}
+use Rattle.rectangles.proofs.Square.Exchanges.{with_exchanged, with_exchanged-first, with_exchanged-second, with_exchanged-other}
+use Rattle.torus_geom.proofs.Sums.AllBelowLemmas.{all_below-same}
+use Rattle.torus_geom.proofs.Circles.BetweenLemmas.{is_between}
 
 -- no place of f lies inside the columns from a up to b and inside the rows from j up to k
 abbrev pub is_clear_of : ℕ → (ℕ → ℕ) → ℕ → ℕ → ℕ → ℕ → Bool
@@ -70,24 +68,24 @@ split_two n g a b c d j k lc ld cd ca da cj dj =
     ∙ (λ i. not (is_between-other a b c ca i && is_between-other j k (g c) cj i)
     && (not (is_between-other a b d da i && is_between-other j k (g d) dj i) && rest n g a b c d j k))
 
-rest_other : (n : ℕ) (f : ℕ → ℕ) (a b c d j k : ℕ) → rest n (exchanged f c d) a b c d j k ≡ rest n f a b c d j k
+rest_other : (n : ℕ) (f : ℕ → ℕ) (a b c d j k : ℕ) → rest n (with_exchanged f c d) a b c d j k ≡ rest n f a b c d j k
 unfolding rest
 rest_other n f a b c d j k =
-    all_below-same n (λ t. eqb t d || (eqb t c || not (is_between a b t && is_between j k (exchanged f c d t))))
+    all_below-same n (λ t. eqb t d || (eqb t c || not (is_between a b t && is_between j k (with_exchanged f c d t))))
     (λ t. eqb t d || (eqb t c || not (is_between a b t && is_between j k (f t))))
     (λ t l. each t (cases_eq t c) (cases_eq t d))
   where
     each : (t : ℕ) → (t ≡ c) ⊎ (t ≢ c) → (t ≡ d) ⊎ (t ≢ d)
-        → (eqb t d || (eqb t c || not (is_between a b t && is_between j k (exchanged f c d t))))
+        → (eqb t d || (eqb t c || not (is_between a b t && is_between j k (with_exchanged f c d t))))
         ≡ (eqb t d || (eqb t c || not (is_between a b t && is_between j k (f t))))
     each t p (inl e) =
-        ap (λ r. r || (eqb t c || not (is_between a b t && is_between j k (exchanged f c d t)))) (eq-eqb t d e)
+        ap (λ r. r || (eqb t c || not (is_between a b t && is_between j k (with_exchanged f c d t)))) (eq-eqb t d e)
         ∙ sym (ap (λ r. r || (eqb t c || not (is_between a b t && is_between j k (f t)))) (eq-eqb t d e))
     each t (inl e) (inr q) =
-        ap (λ r. eqb t d || (r || not (is_between a b t && is_between j k (exchanged f c d t)))) (eq-eqb t c e)
+        ap (λ r. eqb t d || (r || not (is_between a b t && is_between j k (with_exchanged f c d t)))) (eq-eqb t c e)
         ∙ sym (ap (λ r. eqb t d || (r || not (is_between a b t && is_between j k (f t)))) (eq-eqb t c e))
     each t (inr p) (inr q) =
-        ap (λ r. eqb t d || (eqb t c || not (is_between a b t && is_between j k r))) (exchanged-other f c d t p q)
+        ap (λ r. eqb t d || (eqb t c || not (is_between a b t && is_between j k r))) (with_exchanged-other f c d t p q)
 
 four_table : Table 10
 four_table p1 p2 q1 q2 P1 P2 Q1 Q2 x y =
@@ -111,17 +109,17 @@ pub record AreFourApart (a b c d : ℕ) : Type 0 where
 -- two steps at four columns may be taken in either order
 pub empty_apart : (n : ℕ) (f : ℕ → ℕ) (a b c d : ℕ) → a < n → b < n → c < n → d < n → AreFourApart a b c d
     → AreFourApart (f a) (f b) (f c) (f d)
-    → (is_clear_of n f a b (f a) (f b) && is_clear_of n (exchanged f a b) c d (f c) (f d))
-    ≡ (is_clear_of n f c d (f c) (f d) && is_clear_of n (exchanged f c d) a b (f a) (f b))
+    → (is_clear_of n f a b (f a) (f b) && is_clear_of n (with_exchanged f a b) c d (f c) (f d))
+    ≡ (is_clear_of n f c d (f c) (f d) && is_clear_of n (with_exchanged f c d) a b (f a) (f b))
 unfolding four_table
 empty_apart n f a b c d la lb lc ld o r =
     ap₂ (λ x y. x && y)
     (split_two n f a b c d (f a) (f b) lc ld o.cd (λ e. o.ac (sym e)) (λ e. o.ad (sym e)) (λ e. r.ac (sym e))
     (λ e. r.ad (sym e)))
-    (split_two n (exchanged f a b) c d a b (f c) (f d) la lb o.ab o.ac o.bc
-    (λ e. r.bc (sym (exchanged-first f a b) ∙ e)) (λ e. r.ac (sym (exchanged-second f a b o.ab) ∙ e))
-    ∙ (λ i. not (between c d a && between (f c) (f d) (exchanged-first f a b i))
-    && (not (between c d b && between (f c) (f d) (exchanged-second f a b o.ab i))
+    (split_two n (with_exchanged f a b) c d a b (f c) (f d) la lb o.ab o.ac o.bc
+    (λ e. r.bc (sym (with_exchanged-first f a b) ∙ e)) (λ e. r.ac (sym (with_exchanged-second f a b o.ab) ∙ e))
+    ∙ (λ i. not (between c d a && between (f c) (f d) (with_exchanged-first f a b i))
+    && (not (between c d b && between (f c) (f d) (with_exchanged-second f a b o.ab i))
     && rest_other n f c d a b (f c) (f d) i)))
     ∙ beq_same _ _ (given _ _ (and_from _ _ (four_hold a b c d o.ab o.ac o.ad o.bc o.bd o.cd)
     (four_hold (f a) (f b) (f c) (f d) r.ab r.ac r.ad r.bc r.bd r.cd))
@@ -130,8 +128,8 @@ empty_apart n f a b c d la lb lc ld o r =
     (rest n f a b c d (f a) (f b)) (rest n f c d a b (f c) (f d))))
     ∙ sym (ap₂ (λ x y. x && y)
     (split_two n f c d a b (f c) (f d) la lb o.ab o.ac o.bc r.ac r.bc)
-    (split_two n (exchanged f c d) a b c d (f a) (f b) lc ld o.cd (λ e. o.ac (sym e)) (λ e. o.ad (sym e))
-    (λ e. r.ad (sym (sym (exchanged-first f c d) ∙ e))) (λ e. r.ac (sym (sym (exchanged-second f c d o.cd) ∙ e)))
-    ∙ (λ i. not (between a b c && between (f a) (f b) (exchanged-first f c d i))
-    && (not (between a b d && between (f a) (f b) (exchanged-second f c d o.cd i))
+    (split_two n (with_exchanged f c d) a b c d (f a) (f b) lc ld o.cd (λ e. o.ac (sym e)) (λ e. o.ad (sym e))
+    (λ e. r.ad (sym (sym (with_exchanged-first f c d) ∙ e))) (λ e. r.ac (sym (sym (with_exchanged-second f c d o.cd) ∙ e)))
+    ∙ (λ i. not (between a b c && between (f a) (f b) (with_exchanged-first f c d i))
+    && (not (between a b d && between (f a) (f b) (with_exchanged-second f c d o.cd i))
     && rest_other n f a b c d (f a) (f b) i))))

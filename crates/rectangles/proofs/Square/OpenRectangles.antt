@@ -9,7 +9,7 @@ use Rattle.rectangles.proofs.Square.TwoSteps.{differ}
 use Rattle.rectangles.proofs.Square.CyclicOrder.{between, between_start, between_back, Place, first, second, third, next, span, order_of, AreApart}
 use Rattle.state_rank.proofs.BijectionLemmas.{IsOneToOne}
 use Rattle.torus_geom.proofs.Sums.AllBelowLemmas.{at_all_below}
-use Rattle.rectangles.proofs.Square.Exchanges.{exchanged, exchanged-first, exchanged-second, exchanged-other}
+use Rattle.rectangles.proofs.Square.Exchanges.{with_exchanged, with_exchanged-first, with_exchanged-second, with_exchanged-other}
 use Rattle.rectangles.proofs.Square.EmptyRectangles.{is_clear_of, free, free_cols, free_rows}
 use Rattle.rectangles.proofs.Square.ThreeColumns.{value_is, rectangle_value, IsAdditive, start_of, end_of, is_one_of_three, empty_is, span_is}
 
@@ -136,35 +136,35 @@ open-rectangle_value n O X f bare p one d g off s m s' m' e1 e2 e3 =
 -- where the exchanges at the places m and next m leave the rows
 module _ (n : ℕ) (f : ℕ → ℕ) (p : Place → ℕ) (d : AreColumns n p) where
   -- an exchange leaves the other columns
-  pub second_off : (m : Place) (t : ℕ) → t < n → ((x : Place) → t ≢ p x) → exchanged f (p m) (p (next m)) t ≡ f t
-  second_off m t l o = exchanged-other f (p m) (p (next m)) t (o m) (o (next m))
+  pub second_off : (m : Place) (t : ℕ) → t < n → ((x : Place) → t ≢ p x) → with_exchanged f (p m) (p (next m)) t ≡ f t
+  second_off m t l o = with_exchanged-other f (p m) (p (next m)) t (o m) (o (next m))
 
   -- the row at the start of the second rectangle
   pub second_start : (m : Place) (s : Bool)
-      → exchanged f (p m) (p (next m)) (start_of p s (next m)) ≡ start_of (rows_of f p) (not s) (next (next m))
-  second_start first true = exchanged-second f (p first) (p second) d.apart.ab
-  second_start second true = exchanged-second f (p second) (p third) d.apart.bc
-  second_start third true = exchanged-second f (p third) (p first) d.apart.ca
-  second_start first false = exchanged-other f (p first) (p second) (p third) d.apart.ca (λ e. d.apart.bc (sym e))
-  second_start second false = exchanged-other f (p second) (p third) (p first) d.apart.ab (λ e. d.apart.ca (sym e))
-  second_start third false = exchanged-other f (p third) (p first) (p second) d.apart.bc (λ e. d.apart.ab (sym e))
+      → with_exchanged f (p m) (p (next m)) (start_of p s (next m)) ≡ start_of (rows_of f p) (not s) (next (next m))
+  second_start first true = with_exchanged-second f (p first) (p second) d.apart.ab
+  second_start second true = with_exchanged-second f (p second) (p third) d.apart.bc
+  second_start third true = with_exchanged-second f (p third) (p first) d.apart.ca
+  second_start first false = with_exchanged-other f (p first) (p second) (p third) d.apart.ca (λ e. d.apart.bc (sym e))
+  second_start second false = with_exchanged-other f (p second) (p third) (p first) d.apart.ab (λ e. d.apart.ca (sym e))
+  second_start third false = with_exchanged-other f (p third) (p first) (p second) d.apart.bc (λ e. d.apart.ab (sym e))
 
   -- and at its end
   pub second_end : (m : Place) (s : Bool)
-      → exchanged f (p m) (p (next m)) (end_of p s (next m)) ≡ end_of (rows_of f p) (not s) (next (next m))
-  second_end first false = exchanged-second f (p first) (p second) d.apart.ab
-  second_end second false = exchanged-second f (p second) (p third) d.apart.bc
-  second_end third false = exchanged-second f (p third) (p first) d.apart.ca
-  second_end first true = exchanged-other f (p first) (p second) (p third) d.apart.ca (λ e. d.apart.bc (sym e))
-  second_end second true = exchanged-other f (p second) (p third) (p first) d.apart.ab (λ e. d.apart.ca (sym e))
-  second_end third true = exchanged-other f (p third) (p first) (p second) d.apart.bc (λ e. d.apart.ab (sym e))
+      → with_exchanged f (p m) (p (next m)) (end_of p s (next m)) ≡ end_of (rows_of f p) (not s) (next (next m))
+  second_end first false = with_exchanged-second f (p first) (p second) d.apart.ab
+  second_end second false = with_exchanged-second f (p second) (p third) d.apart.bc
+  second_end third false = with_exchanged-second f (p third) (p first) d.apart.ca
+  second_end first true = with_exchanged-other f (p first) (p second) (p third) d.apart.ca (λ e. d.apart.bc (sym e))
+  second_end second true = with_exchanged-other f (p second) (p third) (p first) d.apart.ab (λ e. d.apart.ca (sym e))
+  second_end third true = with_exchanged-other f (p third) (p first) (p second) d.apart.bc (λ e. d.apart.ab (sym e))
 
   -- and at the third column
   pub second_third : (m : Place)
-      → exchanged f (p m) (p (next m)) (p (next (next (next m)))) ≡ rows_of f p (next (next (next (next m))))
-  second_third first = exchanged-first f (p first) (p second)
-  second_third second = exchanged-first f (p second) (p third)
-  second_third third = exchanged-first f (p third) (p first)
+      → with_exchanged f (p m) (p (next m)) (p (next (next (next m)))) ≡ rows_of f p (next (next (next (next m))))
+  second_third first = with_exchanged-first f (p first) (p second)
+  second_third second = with_exchanged-first f (p second) (p third)
+  second_third third = with_exchanged-first f (p third) (p first)
 
 -- the row at the start of the first rectangle
 pub first_start : (f : ℕ → ℕ) (p : Place → ℕ) (s : Bool) (m : Place) → f (start_of p s m) ≡ start_of (rows_of f p) s m
@@ -188,12 +188,12 @@ first_step-value n O X f bare p one d s m =
 
 -- the second rectangle of two, by its arcs
 pub second_step-value : (n : ℕ) (O X f : ℕ → ℕ) (bare : ℕ → Bool) (p : Place → ℕ) → IsOneToOne n f → AreColumns n p
-    → (s : Bool) (m : Place) → let g : ℕ → ℕ = exchanged f (p m) (p (next m)) in
+    → (s : Bool) (m : Place) → let g : ℕ → ℕ = with_exchanged f (p m) (p (next m)) in
     (is_clear_of n g (start_of p s (next m)) (end_of p s (next m)) (g (start_of p s (next m))) (g (end_of p s (next m)))
     && free n bare (between (start_of p s (next m)) (end_of p s (next m)))
     (marks O X (between (g (start_of p s (next m))) (g (end_of p s (next m))))))
     ≡ rectangle_value (order_of p) (order_of (rows_of f p)) (arc_values n O X f bare p) s (next m) (not s)
     (next (next m))
 second_step-value n O X f bare p one d s m =
-    open-rectangle_value n O X f bare p one d (exchanged f (p m) (p (next m))) (second_off n f p d m) s (next m) (not s)
+    open-rectangle_value n O X f bare p one d (with_exchanged f (p m) (p (next m))) (second_off n f p d m) s (next m) (not s)
     (next (next m)) (second_start n f p d m s) (second_end n f p d m s) (second_third n f p d m)

@@ -1,12 +1,12 @@
 -- Sums modulo 2 over the rectangles of a grid and over its states: the border of a state is the sum,
 -- over the ordered pairs of vertical circles, of the states that the open ones lead to.
-use Rattle.std.proofs.Common.{◌≡◌, ℕ, zero, suc, ◌+◌, ◌<◌, Bool, true, not, ◌&&◌, List, [], ◌∷◌, length, map, slice_index, slice_index_or, swap, AllPairs, refl, ap, ap₂, subst, ◌∙◌, sym, eqb, arith, inl, inr}
+use Rattle.std.proofs.Common.{◌≡◌, ℕ, ◌+◌, ◌<◌, Bool, true, not, ◌&&◌, List, [], ◌∷◌, length, map, slice_index, slice_index_or, swap, AllPairs, refl, ap, ap₂, subst, ◌∙◌, sym, eqb, arith, inl, inr}
 use Rattle.std.specs.List.{filter}
 use Rattle.std.specs.List.Sorted.{IsStrictlyIncreasing}
 use Rattle.std.proofs.lemmas.Bool.{cases_eq, eq-eqb, ne_eqb, eqb-true, false_from_ne_true, and_parts}
 use Rattle.f2_algebra.specs.Chain.{codes, is_odd}
-use Rattle.f2_algebra.proofs.Chains.Tables.{◌⊻◌, same, and_comm}
-use Rattle.f2_algebra.proofs.Chains.ParityLemmas.{parity, parity-ext, parity-and, parity-map, parity-filter, parity-flat_map, parity_swap, is_odd-filter, below, parity_below, parity_below-same, parity_below-first, parity_below-one}
+use Rattle.f2_algebra.proofs.Chains.Tables.{same, and_comm, eqb_comm}
+use Rattle.f2_algebra.proofs.Chains.ParityLemmas.{parity, parity-ext, parity-and, parity-map, parity-filter, parity-flat_map, parity_swap, is_odd-filter, below, parity_below, parity_below-same, parity_below-one}
 use Rattle.f2_algebra.proofs.Chains.Sets.{weight, weight-list}
 use Rattle.f2_algebra.proofs.Chains.Lists.{codes-of_codes}
 use Rattle.std.proofs.lemmas.List.Kept.{AllPairs-filter}
@@ -27,15 +27,12 @@ use Rattle.torus_geom.specs.declared.rects.Rect.{Rect}
 use Rattle.rectangles.proofs.Square.TwoSteps.{differ, differ-true, differ_apart, guard}
 use Rattle.rectangles.proofs.Square.OpenRectangles.{is_open, unmarked}
 use Rattle.rectangles.proofs.Square.EmptyRectangles.{is_clear_of}
-use Rattle.rectangles.proofs.Square.RectangleTests.{corners, is_empty-corners, is_unmarked-corners}
+use Rattle.rectangles.proofs.Square.RectangleTests.{is_empty-corners, is_unmarked-corners}
+use Rattle.torus_geom.proofs.Sums.TabulateLemmas.{parity-tabulate}
+use Rattle.torus_geom.proofs.Circles.RectangleLemmas.{corners}
+use Rattle.torus_geom.proofs.Chains.StateTests.{is_same-refl}
 
 -- ---- sums over rectangles
--- a sum over a list that is given place by place
-pub parity-tabulate : {A : Type 0} (p : A → Bool) (n : ℕ) (f : ℕ → A)
-    → parity p (tabulate n f) ≡ parity_below n (λ c. p (f c))
-parity-tabulate p zero f = refl
-parity-tabulate p (suc n) f =
-    ap (λ b. p (f 0) ⊻ b) (parity-tabulate p n (λ c. f (suc c))) ∙ sym (parity_below-first n (λ c. p (f c)))
 
 -- a sum over the ordered pairs of different numbers
 pub parity-pairs_apart : (p : ℕ × ℕ → Bool) (n : ℕ)
@@ -62,9 +59,6 @@ parity-rectangles p n =
     ∙ parity-pairs_apart (λ (r : ℕ × ℕ). p (corners c.0 c.1 r.0 r.1)) n)
     ∙ parity-pairs_apart (λ (c : ℕ × ℕ). parity_below n
     (λ j. parity_below n (λ k. differ j k && p (corners c.0 c.1 j k)))) n
-
-eqb_comm : (a b : ℕ) → eqb a b ≡ eqb b a
-eqb_comm a b = grind arith
 
 -- of two circles with given rows there is one rectangle
 pub parity-corners : (n r s : ℕ) → r < n → s < n → (t : Bool) (q : ℕ → ℕ → Bool)
@@ -122,13 +116,6 @@ pub states-unrank : (n : ℕ) → states n ≡ tabulate (factorial n) (unrank n)
 unfolding unrank
 states-unrank n = sym (tabulate-slice (states n) []) ∙ ap (λ m. tabulate m (unrank n)) (length-states n)
 
-pub is_same-self : (x : List ℕ) → is_same x x ≡ true
-is_same-self x = ap₂ (λ a b. a && b) (eq-eqb (length x) (length x) refl) (all (length x))
-  where
-    all : (n : ℕ) → all_below n (λ c. eqb (slice_index x c) (slice_index x c)) ≡ true
-    all zero = refl
-    all (suc n) = ap₂ (λ a b. a && b) (eq-eqb (slice_index x n) (slice_index x n) refl) (all n)
-
 -- two states of one size that the test finds the same are equal
 pub is_same-equal : (n : ℕ) (x y : List ℕ) → IsBijection n x → IsBijection n y → is_same x y ≡ true → x ≡ y
 is_same-equal n x y sx sy h = same_list n x y sx.long sy.long (λ c l.
@@ -141,7 +128,7 @@ is_same-equal n x y sx sy h = same_list n x y sx.long sy.long (λ c l.
 is_same-unrank : (n : ℕ) (x : List ℕ) → IsBijection n x → (k : ℕ) → k < factorial n
     → is_same x (unrank n k) ≡ eqb k (rank x)
 is_same-unrank n x sx k l = elim (cases_eq k (rank x)) [
-  | inl e ↦ ap (is_same x) (ap (unrank n) e ∙ unrank-rank n x sx) ∙ is_same-self x ∙ sym (eq-eqb k (rank x) e)
+  | inl e ↦ ap (is_same x) (ap (unrank n) e ∙ unrank-rank n x sx) ∙ is_same-refl x ∙ sym (eq-eqb k (rank x) e)
   | inr p ↦
       false_from_ne_true _ (λ h. p (sym (rank-unrank n k l)
       ∙ sym (ap rank (is_same-equal n x (unrank n k) sx (IsBijection-unrank n k l) h))))

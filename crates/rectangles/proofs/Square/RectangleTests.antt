@@ -9,13 +9,14 @@ use Rattle.torus_geom.specs.Counts.{all_below}
 use Rattle.torus_geom.specs.Marks.{Marks, size, IsGrid}
 use Rattle.torus_geom.specs.Range.{in_range, is_inside}
 use Rattle.torus_geom.specs.Rectangle.{is_empty, is_unmarked}
-use Rattle.torus_geom.specs.declared.rects.Rect.{Rect}
 use Rattle.torus_geom.proofs.Circles.RangeLemmas.{offset-above, offset-below}
 use Rattle.rectangles.proofs.Square.CyclicOrder.{between}
-use Rattle.rectangles.proofs.Square.ColumnTests.{all_below-same}
-use Rattle.rectangles.proofs.Square.Exchanges.{exchanged, exchanged-other}
-use Rattle.rectangles.proofs.Square.EmptyRectangles.{is_between, is_clear_of}
+use Rattle.rectangles.proofs.Square.Exchanges.{with_exchanged, with_exchanged-other}
+use Rattle.rectangles.proofs.Square.EmptyRectangles.{is_clear_of}
 use Rattle.rectangles.proofs.Square.OpenRectangles.{unmarked, marks}
+use Rattle.torus_geom.proofs.Sums.AllBelowLemmas.{all_below-same}
+use Rattle.torus_geom.proofs.Circles.RectangleLemmas.{corners}
+use Rattle.torus_geom.proofs.Circles.BetweenLemmas.{is_between}
 
 -- ---- ranges
 -- a range is what is met between its ends on the way up
@@ -36,9 +37,6 @@ pub is_inside-between : (n a b i : ℕ) → a < n → b < n → i < n → is_ins
 is_inside-between n a b i la lb li = ap (λ t. t && not (eqb i a)) (in_range-between n a b i la lb li)
 
 -- ---- rectangles
--- the rectangle with these circles
-abbrev pub corners : ℕ → ℕ → ℕ → ℕ → Rect
-corners a b j k = record { left = a; right = b; low = j; high = k }
 
 -- a rectangle of a state is empty by the one test where it is by the other
 pub is_empty-corners : (n : ℕ) (x : List ℕ) → IsBijection n x → (a b j k : ℕ) → a < n → b < n → j < n → k < n
@@ -62,13 +60,13 @@ is_unmarked-corners g s a b j k la lb lj lk =
     || in_range-between n j k (slice_index g.x c) lj lk (s.x.small c l) i)))
 
 -- ---- the exchange of two rows
--- a list with two elements exchanged, as a function
-pub slice_index-swap : (x : List ℕ) (a b : ℕ) → a < length x → b < length x
-    → slice_index (swap x a b) ≡ exchanged (slice_index x) a b
-slice_index-swap x a b la lb = fun_ext (λ c. each c (cases_eq c a) (cases_eq c b))
+-- a list with two elements with_exchanged, as a function
+pub swap-with_exchanged : (x : List ℕ) (a b : ℕ) → a < length x → b < length x
+    → slice_index (swap x a b) ≡ with_exchanged (slice_index x) a b
+swap-with_exchanged x a b la lb = fun_ext (λ c. each c (cases_eq c a) (cases_eq c b))
   where
     each : (c : ℕ) → (c ≡ a) ⊎ (c ≢ a) → (c ≡ b) ⊎ (c ≢ b)
-        → slice_index (swap x a b) c ≡ exchanged (slice_index x) a b c
+        → slice_index (swap x a b) c ≡ with_exchanged (slice_index x) a b c
     each c (inl i) q =
         ap (slice_index (swap x a b)) i ∙ (swapped_from_swap x (swap x a b) a b 0 la lb refl).0
         ∙ sym (ap (λ z. cond z (slice_index x b) (cond (eqb c b) (slice_index x a) (slice_index x c))) (eq-eqb c a i))
@@ -76,4 +74,4 @@ slice_index-swap x a b la lb = fun_ext (λ c. each c (cases_eq c a) (cases_eq c 
         ap (slice_index (swap x a b)) j ∙ (swapped_from_swap x (swap x a b) a b 0 la lb refl).1
         ∙ sym (λ v. cond (ne_eqb c a p v) (slice_index x b) (cond (eq-eqb c b j v) (slice_index x a) (slice_index x c)))
     each c (inr p) (inr q) =
-        (swapped_from_swap x (swap x a b) a b 0 la lb refl).2 c p q ∙ sym (exchanged-other (slice_index x) a b c p q)
+        (swapped_from_swap x (swap x a b) a b 0 la lb refl).2 c p q ∙ sym (with_exchanged-other (slice_index x) a b c p q)

@@ -8,7 +8,7 @@ use Rattle.state_rank.proofs.BijectionLemmas.{IsOneToOne}
 use Rattle.f2_algebra.proofs.Chains.ParityLemmas.{parity_below, parity_below-none}
 use Rattle.rectangles.proofs.Square.TwoSteps.{differ, differ-true, differ-self, differ_apart, three_differ, four_differ, over_two_steps, at_three, at_two, steps_cancel}
 use Rattle.rectangles.proofs.Square.CyclicOrder.{Place, first, second, third, next, order_of}
-use Rattle.rectangles.proofs.Square.Exchanges.{exchanged, exchanged-first, exchanged-second, exchanged-other, exchanged_comm, exchanged_apart, exchanged_three}
+use Rattle.rectangles.proofs.Square.Exchanges.{with_exchanged, with_exchanged-first, with_exchanged-second, with_exchanged-other, exchanged_comm, exchanged_apart, exchanged_three}
 use Rattle.rectangles.proofs.Square.EmptyRectangles.{is_clear_of, empty_apart, AreFourApart}
 use Rattle.rectangles.proofs.Square.ThreeColumns.{rectangle_value, terms, terms_cancel, start_of, end_of, start_of-end_of}
 use Rattle.rectangles.proofs.Square.OpenRectangles.{three, is_open, unmarked, no_column, no_row, rows_of, arc_values, AreColumns, first_step-value, second_step-value}
@@ -56,7 +56,7 @@ module _ (n : ℕ) (O X : ℕ → ℕ) (f : ℕ → ℕ) (T : (ℕ → ℕ) → 
   -- two steps from f to a state that T passes
   abbrev pub two_steps : ℕ → ℕ → ℕ → ℕ → Bool
   two_steps a b c d =
-      is_open n O X f a b && (is_open n O X (exchanged f a b) c d && T (exchanged (exchanged f a b) c d))
+      is_open n O X f a b && (is_open n O X (with_exchanged f a b) c d && T (with_exchanged (with_exchanged f a b) c d))
 
   module _ (onto : (r : ℕ) → r < n → (c : ℕ) × (c < n) × (O c ≡ r)) (one : IsOneToOne n f) where
     first_is : (p : Place → ℕ) → AreColumns n p → (s : Bool) (m : Place)
@@ -67,7 +67,7 @@ module _ (n : ℕ) (O X : ℕ → ℕ) (f : ℕ → ℕ) (T : (ℕ → ℕ) → 
         (first_step-value n O X f (λ t. false) p one d s m)
 
     second_is : (p : Place → ℕ) → AreColumns n p → (s : Bool) (m : Place)
-        → is_open n O X (exchanged f (p m) (p (next m))) (start_of p s (next m)) (end_of p s (next m))
+        → is_open n O X (with_exchanged f (p m) (p (next m))) (start_of p s (next m)) (end_of p s (next m))
         ≡ rectangle_value (order_of p) (order_of (rows_of f p)) (arc_values n O X f (λ t. false) p) s (next m) (not s)
         (next (next m))
     second_is p d s m =
@@ -77,22 +77,22 @@ module _ (n : ℕ) (O X : ℕ → ℕ) (f : ℕ → ℕ) (T : (ℕ → ℕ) → 
     three_is : (p : Place → ℕ) → AreColumns n p → (m : Place)
         → at_three n two_steps (p m) (p (next m)) (p (next (next m)))
         ≡ (terms (order_of p) (order_of (rows_of f p)) (arc_values n O X f (λ t. false) p) m
-        && T (exchanged (exchanged f (p m) (p (next m))) (p (next m)) (p (next (next m)))))
+        && T (with_exchanged (with_exchanged f (p m) (p (next m))) (p (next m)) (p (next (next m)))))
     three_is p d m =
         let a : ℕ = p m in
         let b : ℕ = p (next m) in
         let c : ℕ = p (next (next m)) in
-        let g : ℕ → ℕ = exchanged f a b in
-        let w : Bool = T (exchanged g b c) in
+        let g : ℕ → ℕ = with_exchanged f a b in
+        let w : Bool = T (with_exchanged g b c) in
         let u : Bool = order_of p in
         let v : Bool = order_of (rows_of f p) in
         let k : Place → Place → Bool = arc_values n O X f (λ t. false) p in
         (λ i. ((is_open n O X f a b && (is_open n O X g b c && w))
         ⊻ (is_open n O X f a b && (is_open n O X g c b && T (exchanged_comm g c b i))))
         ⊻ ((is_open n O X f b a
-        && (is_open n O X (exchanged_comm f b a i) b c && T (exchanged (exchanged_comm f b a i) b c)))
+        && (is_open n O X (exchanged_comm f b a i) b c && T (with_exchanged (exchanged_comm f b a i) b c)))
         ⊻ (is_open n O X f b a
-        && (is_open n O X (exchanged_comm f b a i) c b && T (exchanged (exchanged_comm f b a i) c b)))))
+        && (is_open n O X (exchanged_comm f b a i) c b && T (with_exchanged (exchanged_comm f b a i) c b)))))
         ∙ ap (λ (y : Bool). ((is_open n O X f a b && (is_open n O X g b c && w))
         ⊻ (is_open n O X f a b && (is_open n O X g c b && w)))
         ⊻ ((is_open n O X f b a && (is_open n O X g b c && w)) ⊻ (is_open n O X f b a && (is_open n O X g c b && y))))
@@ -114,10 +114,10 @@ module _ (n : ℕ) (O X : ℕ → ℕ) (f : ℕ → ℕ) (T : (ℕ → ℕ) → 
         let d = AreColumns-from n a b c la lb lc h in
         let q : Place → ℕ = rows_of f p in
         let k : Place → Place → Bool = arc_values n O X f (λ t. false) p in
-        let w : Bool = T (exchanged (exchanged f a b) b c) in
-        let e1 : exchanged (exchanged f b c) c a ≡ exchanged (exchanged f a b) b c =
+        let w : Bool = T (with_exchanged (with_exchanged f a b) b c) in
+        let e1 : with_exchanged (with_exchanged f b c) c a ≡ with_exchanged (with_exchanged f a b) b c =
         sym (exchanged_three f a b c d.apart.ab d.apart.bc d.apart.ca) in
-        let e2 : exchanged (exchanged f c a) a b ≡ exchanged (exchanged f a b) b c =
+        let e2 : with_exchanged (with_exchanged f c a) a b ≡ with_exchanged (with_exchanged f a b) b c =
         exchanged_three f c a b d.apart.ca d.apart.ab d.apart.bc in
         (λ i. three_is p d first i ⊻ (three_is p d second i ⊻ three_is p d third i))
         ∙ (λ i. (terms (order_of p) (order_of q) k first && w)
@@ -132,17 +132,17 @@ module _ (n : ℕ) (O X : ℕ → ℕ) (f : ℕ → ℕ) (T : (ℕ → ℕ) → 
         → two_steps a b c d ≡ two_steps c d a b
     four_none a b c d la lb lc ld h =
         let o = AreFourApart-from a b c d h in
-        let g : ℕ → ℕ = exchanged f a b in
-        let k : ℕ → ℕ = exchanged f c d in
-        let gc : g c ≡ f c = exchanged-other f a b c (λ e. o.ac (sym e)) (λ e. o.bc (sym e)) in
-        let gd : g d ≡ f d = exchanged-other f a b d (λ e. o.ad (sym e)) (λ e. o.bd (sym e)) in
-        let ka : k a ≡ f a = exchanged-other f c d a o.ac o.ad in
-        let kb : k b ≡ f b = exchanged-other f c d b o.bc o.bd in
+        let g : ℕ → ℕ = with_exchanged f a b in
+        let k : ℕ → ℕ = with_exchanged f c d in
+        let gc : g c ≡ f c = with_exchanged-other f a b c (λ e. o.ac (sym e)) (λ e. o.bc (sym e)) in
+        let gd : g d ≡ f d = with_exchanged-other f a b d (λ e. o.ad (sym e)) (λ e. o.bd (sym e)) in
+        let ka : k a ≡ f a = with_exchanged-other f c d a o.ac o.ad in
+        let kb : k b ≡ f b = with_exchanged-other f c d b o.bc o.bd in
         let ab : Bool = differ a b in
         let cd : Bool = differ c d in
         let ub : Bool = unmarked n O X a b (f a) (f b) in
         let ud : Bool = unmarked n O X c d (f c) (f d) in
-        let w : Bool = T (exchanged g c d) in
+        let w : Bool = T (with_exchanged g c d) in
         (λ i. (ab && (is_clear_of n f a b (f a) (f b) && ub))
         && ((cd && (is_clear_of n g c d (gc i) (gd i) && unmarked n O X c d (gc i) (gd i))) && w))
         ∙ same 7 (λ p x u q y v w. (p && (x && u)) && ((q && (y && v)) && w))
@@ -153,50 +153,50 @@ module _ (n : ℕ) (O X : ℕ → ℕ) (f : ℕ → ℕ) (T : (ℕ → ℕ) → 
         (ap T (exchanged_apart f a b c d o.ac o.ad o.bc o.bd))
         ∙ same 7 (λ p x u q y v w. (y && x) && ((p && (q && (u && v))) && w))
         (λ p x u q y v w. (q && (y && v)) && ((p && (x && u)) && w)) refl
-        ab (is_clear_of n k a b (f a) (f b)) ub cd (is_clear_of n f c d (f c) (f d)) ud (T (exchanged k a b))
+        ab (is_clear_of n k a b (f a) (f b)) ub cd (is_clear_of n f c d (f c) (f d)) ud (T (with_exchanged k a b))
         ∙ sym (λ i. (cd && (is_clear_of n f c d (f c) (f d) && ud))
-        && ((ab && (is_clear_of n k a b (ka i) (kb i) && unmarked n O X a b (ka i) (kb i))) && T (exchanged k a b)))
+        && ((ab && (is_clear_of n k a b (ka i) (kb i) && unmarked n O X a b (ka i) (kb i))) && T (with_exchanged k a b)))
 
     two_none : (a b : ℕ) → a < n → b < n → at_two n two_steps a b ≡ false
     two_none a b la lb = elim (cases_eq a b) [
       | inl e ↦ ap (λ r. r && (two_steps a b a b ⊻ two_steps a b b a)) (ap (λ r. differ r b) e ∙ differ-self b)
       | inr p ↦
-          let g : ℕ → ℕ = exchanged f a b in
-          let ga : g a ≡ f b = exchanged-first f a b in
-          let gb : g b ≡ f a = exchanged-second f a b p in
+          let g : ℕ → ℕ = with_exchanged f a b in
+          let ga : g a ≡ f b = with_exchanged-first f a b in
+          let gb : g b ≡ f a = with_exchanged-second f a b p in
           let rows = one.apart a b la lb p in
           let ub : Bool = unmarked n O X a b (f a) (f b) in
           let o = onto (f a) (one.small a la) in
           (λ i. differ a b
           && (((differ a b && (is_clear_of n f a b (f a) (f b) && ub))
           && ((differ a b && (is_clear_of n g a b (g a) (g b) && unmarked n O X a b (ga i) (gb i)))
-          && T (exchanged g a b)))
+          && T (with_exchanged g a b)))
           ⊻ ((differ a b && (is_clear_of n f a b (f a) (f b) && ub))
           && ((differ b a && (is_clear_of n g b a (g b) (g a) && unmarked n O X b a (gb i) (ga i)))
-          && T (exchanged g b a)))))
+          && T (with_exchanged g b a)))))
           ∙ same 7 (λ ab x u y v w p. ab && (((ab && (x && u)) && ((ab && (y && v)) && w)) ⊻ p))
           (λ ab x u y v w p. ab && (((ab && (x && (ab && (y && w)))) && (u && v)) ⊻ p)) refl
           (differ a b) (is_clear_of n f a b (f a) (f b)) ub (is_clear_of n g a b (g a) (g b))
-          (unmarked n O X a b (f b) (f a)) (T (exchanged g a b))
+          (unmarked n O X a b (f b) (f a)) (T (with_exchanged g a b))
           ((differ a b && (is_clear_of n f a b (f a) (f b) && ub))
           && ((differ b a && (is_clear_of n g b a (g b) (g a) && unmarked n O X b a (f a) (f b)))
-          && T (exchanged g b a)))
+          && T (with_exchanged g b a)))
           ∙ ap (λ r. differ a b
           && (((differ a b
           && (is_clear_of n f a b (f a) (f b)
-          && (differ a b && (is_clear_of n g a b (g a) (g b) && T (exchanged g a b))))) && r)
+          && (differ a b && (is_clear_of n g a b (g a) (g b) && T (with_exchanged g a b))))) && r)
           ⊻ ((differ a b && (is_clear_of n f a b (f a) (f b) && ub))
           && ((differ b a && (is_clear_of n g b a (g b) (g a) && unmarked n O X b a (f a) (f b)))
-          && T (exchanged g b a)))))
+          && T (with_exchanged g b a)))))
           (no_column n O X a b (f a) (f b) la p rows)
           ∙ same 8 (λ ab z x u ba y v w. ab && ((z && false) ⊻ ((ab && (x && u)) && ((ba && (y && v)) && w))))
           (λ ab z x u ba y v w. (ab && (x && (ba && (y && w)))) && (u && v)) refl
           (differ a b) (differ a b && (is_clear_of n f a b (f a) (f b)
-          && (differ a b && (is_clear_of n g a b (g a) (g b) && T (exchanged g a b)))))
+          && (differ a b && (is_clear_of n g a b (g a) (g b) && T (with_exchanged g a b)))))
           (is_clear_of n f a b (f a) (f b)) ub (differ b a) (is_clear_of n g b a (g b) (g a))
-          (unmarked n O X b a (f a) (f b)) (T (exchanged g b a))
+          (unmarked n O X b a (f a) (f b)) (T (with_exchanged g b a))
           ∙ ap (λ r. (differ a b && (is_clear_of n f a b (f a) (f b)
-          && (differ b a && (is_clear_of n g b a (g b) (g a) && T (exchanged g b a))))) && r)
+          && (differ b a && (is_clear_of n g b a (g b) (g a) && T (with_exchanged g b a))))) && r)
           (no_row n O X a b (f a) (f b) o.0 o.1 o.2 p rows)
           ∙ and-false _
     ]
@@ -206,10 +206,10 @@ module _ (n : ℕ) (O X : ℕ → ℕ) (f : ℕ → ℕ) (T : (ℕ → ℕ) → 
     twice_none =
         steps_cancel n two_steps
         (λ a c d. ap (λ r. (r && (is_clear_of n f a a (f a) (f a) && unmarked n O X a a (f a) (f a)))
-        && (is_open n O X (exchanged f a a) c d && T (exchanged (exchanged f a a) c d))) (differ-self a))
-        (λ a b c. let g : ℕ → ℕ = exchanged f a b in
+        && (is_open n O X (with_exchanged f a a) c d && T (with_exchanged (with_exchanged f a a) c d))) (differ-self a))
+        (λ a b c. let g : ℕ → ℕ = with_exchanged f a b in
         ap (λ r. is_open n O X f a b
-        && ((r && (is_clear_of n g c c (g c) (g c) && unmarked n O X c c (g c) (g c))) && T (exchanged g c c)))
+        && ((r && (is_clear_of n g c c (g c) (g c) && unmarked n O X c c (g c) (g c))) && T (with_exchanged g c c)))
         (differ-self c) ∙ and-false _)
         four_none three_none
         (parity_below-none n (λ a. parity_below n (at_two n two_steps a))

@@ -8,8 +8,10 @@ use Rattle.std.proofs.lemmas.Bool.{eq-eqb, ne_eqb, cases_eq}
 use mathlib.Core.Bool.{beq}
 use Rattle.f2_algebra.proofs.Chains.Tables.{◌⊻◌, Table, same}
 use Rattle.rectangles.proofs.Square.CyclicOrder.{between, Place, first, second, third, next, span, order_of, AreApart, span_union, span_third}
-use Rattle.rectangles.proofs.Square.ColumnTests.{all_below-same, all_below-split}
-use Rattle.rectangles.proofs.Square.EmptyRectangles.{is_between, is_between-other, is_between-start, is_between-end, is_clear_of, free}
+use Rattle.rectangles.proofs.Square.ColumnTests.{all_below-split}
+use Rattle.rectangles.proofs.Square.EmptyRectangles.{is_between-other, is_between-start, is_between-end, is_clear_of, free}
+use Rattle.torus_geom.proofs.Sums.AllBelowLemmas.{all_below-same}
+use Rattle.torus_geom.proofs.Circles.BetweenLemmas.{is_between}
 
 -- a test of a range, from its value at the three arcs
 abbrev pub along : Bool → Bool → Place → (Place → Bool) → Bool
@@ -25,13 +27,13 @@ rectangle_value u v g s m s' m' = not (not (beq u s) && not (beq v s')) && value
 
 -- ---- the twelve terms cancel
 -- one of the four terms at a shared place: the values of its two rectangles
-abbrev pub term : Bool → Bool → (Place → Place → Bool) → Place → Bool → Bool → Bool
-term u v g m s s' = rectangle_value u v g s m s m && rectangle_value u v g s' (next m) (not s') (next (next m))
+abbrev pub shared_term : Bool → Bool → (Place → Place → Bool) → Place → Bool → Bool → Bool
+shared_term u v g m s s' = rectangle_value u v g s m s m && rectangle_value u v g s' (next m) (not s') (next (next m))
 
 -- the sum of the four terms
 abbrev pub terms : Bool → Bool → (Place → Place → Bool) → Place → Bool
 terms u v g m =
-    (term u v g m true true ⊻ term u v g m true false) ⊻ (term u v g m false true ⊻ term u v g m false false)
+    (shared_term u v g m true true ⊻ shared_term u v g m true false) ⊻ (shared_term u v g m false true ⊻ shared_term u v g m false false)
 
 -- a table of nine values as a function of two arcs
 abbrev pub nine : Bool → Bool → Bool → Bool → Bool → Bool → Bool → Bool → Bool → Place → Place → Bool

@@ -1,9 +1,9 @@
 -- The loops of the border: sums of chains that grow by one at their end.
-use Rattle.std.proofs.Common.{◌≡◌, ℕ, ◌+◌, ◌<◌, List, [], ◌∷◌, ◌++◌, length, map, take, get_or, sym, ap, ◌∙◌}
+use Rattle.std.proofs.Common.{◌≡◌, ℕ, ◌+◌, ◌<◌, List, [], ◌∷◌, length, map, take, get_or, sym, ap, ◌∙◌}
 use Rattle.std.proofs.lemmas.List.{take_more, map-append}
 use Rattle.std.proofs.lemmas.Simd.{map-map}
 use Rattle.f2_algebra.specs.Chain.{Chain, codes, single, ◌⊕◌, total, sum_over}
-use Rattle.f2_algebra.proofs.Chains.Sums.{add_assoc, add-nothing, nothing-add, sum_over-singles}
+use Rattle.f2_algebra.proofs.Chains.Sums.{add_assoc, sum_over-singles, total-push}
 use Rattle.state_rank.specs.States.{rank, unrank}
 use Rattle.torus_geom.specs.Marks.{Marks, size}
 use Rattle.torus_geom.specs.Inner.CodeBorder.{border_of_state, border}
@@ -16,26 +16,22 @@ sum_of_ranks ys = total (map (λ y. single (rank y)) ys)
 abbrev pub sum_of_borders : Marks → List ℕ → Chain
 sum_of_borders g cs = total (map (λ c. border_of_state g (unrank (size g) c)) cs)
 
-total-push : (zs : List Chain) (z : Chain) → total (zs ++ z ∷ []) ≡ total zs ⊕ z
-total-push [] z = add-nothing z ∙ sym (nothing-add z)
-total-push (w ∷ zs) z = ap (λ u. w ⊕ u) (total-push zs z) ∙ sym (add_assoc w (total zs) z)
-
 -- one more element, read at i
 total-take : {A : Type 0} (f : A → Chain) (xs : List A) (i : ℕ) (d : A) → i < length xs
     → total (map f (take (i + 1) xs)) ≡ total (map f (take i xs)) ⊕ f (get_or xs i d)
 total-take f xs i d l = ap total (ap (map f) (take_more xs i d l) ∙ map-append f (take i xs) (get_or xs i d ∷ []))
     ∙ total-push (map f (take i xs)) (f (get_or xs i d))
 
--- one more state is toggled
-pub toggled : (ys : List (List ℕ)) (i : ℕ) (y : List ℕ) (first old new : Chain) (c : ℕ) → i < length ys
+-- one more state is one_more_toggled
+pub one_more_toggled : (ys : List (List ℕ)) (i : ℕ) (y : List ℕ) (first old new : Chain) (c : ℕ) → i < length ys
     → y ≡ get_or ys i y → c ≡ rank y
     → old ≡ first ⊕ sum_of_ranks (take i ys) → new ≡ old ⊕ single c → new ≡ first ⊕ sum_of_ranks (take (i + 1) ys)
-toggled ys i y first old new c l at is before step =
+one_more_toggled ys i y first old new c l at is before step =
     step ∙ (λ k. before k ⊕ single (is k)) ∙ add_assoc first (sum_of_ranks (take i ys)) (single (rank y))
     ∙ ap (λ u. first ⊕ u) (ap (λ z. sum_of_ranks (take i ys) ⊕ single (rank z)) at
     ∙ sym (total-take (λ z. single (rank z)) ys i y l))
 
--- when all states of a chain are toggled, the chain is added
+-- when all states of a chain are one_more_toggled, the chain is added
 pub all_toggled : (ys : List (List ℕ)) (z : Chain) → map rank ys ≡ codes z → sum_of_ranks ys ≡ z
 unfolding sum_over
 all_toggled ys z e = sym (ap total (map-map single rank ys)) ∙ ap (λ cs. total (map single cs)) e ∙ sum_over-singles z

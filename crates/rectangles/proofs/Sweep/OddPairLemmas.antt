@@ -20,7 +20,8 @@ use Rattle.torus_geom.specs.Border.{is_step}
 use Rattle.rectangles.specs.Inner.Open.{is_open, is_odd_pair}
 use Rattle.rectangles.proofs.Square.OpenRectangles as tests
 use Rattle.rectangles.proofs.Square.RectangleTests.{is_empty-corners, is_unmarked-corners}
-use Rattle.rectangles.proofs.Square.RectangleSums.{is_odd-steps, is_same-equal, is_same-self}
+use Rattle.rectangles.proofs.Square.RectangleSums.{is_odd-steps, is_same-equal}
+use Rattle.torus_geom.proofs.Chains.StateTests.{is_same-refl}
 
 -- where an odd number of tests hold, one holds
 pub parity_below-some : (n : ℕ) (f : ℕ → Bool) → parity_below n f ≡ true → (t : ℕ) × (t < n) × (f t ≡ true)
@@ -93,7 +94,7 @@ module _ (g : Marks) (s : IsGrid g) (x : List ℕ) (sx : IsBijection (size g) x)
         | inl j ↦
             let first : is_open g x c d ≡ is_open g x a b = λ k. is_open g x (i k) (j k) in
             let equal : is_same (swap x c d) (swap x a b) ≡ true =
-            (λ k. is_same (swap x (i k) (j k)) (swap x a b)) ∙ is_same-self (swap x a b) in
+            (λ k. is_same (swap x (i k) (j k)) (swap x a b)) ∙ is_same-refl (swap x a b) in
             ap₂ (λ t u. t && u) first equal
             ∙ same 1 (λ t. t && true) (λ t. t) refl (is_open g x a b)
             ∙ sym ((λ k. (eq-eqb c a i k && (eq-eqb d b j k && is_open g x a b))
@@ -106,7 +107,7 @@ module _ (g : Marks) (s : IsGrid g) (x : List ℕ) (sx : IsBijection (size g) x)
           | inl j ↦
               let first : is_open g x c d ≡ is_open g x b a = λ k. is_open g x (i k) (j k) in
               let equal : is_same (swap x c d) (swap x a b) ≡ true = (λ k. is_same (swap x (i k) (j k)) (swap x a b))
-              ∙ ap (λ y. is_same y (swap x a b)) (sym (swap_comm a b la lb p)) ∙ is_same-self (swap x a b) in
+              ∙ ap (λ y. is_same y (swap x a b)) (sym (swap_comm a b la lb p)) ∙ is_same-refl (swap x a b) in
               ap₂ (λ t u. t && u) first equal
               ∙ same 1 (λ t. t && true) (λ t. t) refl (is_open g x b a)
               ∙ sym (λ k. (ne_eqb c a r k && (eqb d b && is_open g x a b))

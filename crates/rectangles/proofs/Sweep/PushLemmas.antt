@@ -10,7 +10,7 @@ use Rattle.std.proofs.lemmas.Nat.Bits.{shr_and_one, bit_at-lt, bit_at-zero, bit_
 use Rattle.std.specs.Int.{bit_at, w16}
 use Rattle.std.specs.List.{filter, flat_map}
 use Rattle.state_rank.specs.Bijection.{IsBijection, ascending, numbers}
-use Rattle.state_rank.proofs.OrderLemmas.{length-tabulate, get_or-tabulate}
+use Rattle.state_rank.proofs.OrderLemmas.{get_or-tabulate, length-ascending}
 use Rattle.torus_geom.specs.Marks.{Marks}
 use Rattle.rectangles.specs.Inner.Open.{is_open, is_odd_pair, odd_bit, exchanges}
 use Rattle.state_rank.specs.declared.TheConstants.{MAX_SIZE}
@@ -228,10 +228,6 @@ module _ (f : ℕ → List (List ℕ)) (circles : List ℕ) (i : ℕ) (l : i < l
 -- the number at a place among those below n
 pub slice_index-ascending : (n a : ℕ) → a < n → slice_index (ascending n) a ≡ a
 slice_index-ascending n a l = get_or-tabulate n (λ c. c) a 0 l
-
--- there are n
-pub length-ascending : (n : ℕ) → length (ascending n) ≡ n
-length-ascending n = length-tabulate n (λ c. c)
 
 -- the number at a place among those below n, downwards
 pub slice_index-descending : (n a : ℕ) → 0 < a → a ≤ n → slice_index (reverse (ascending n)) (n - a) ≡ a - 1

@@ -33,8 +33,8 @@ at-add z w x = xor_or (z x) (w x)
 pub in_sum : (z w : Chain) (x : List ℕ) → (z ⊕ w) x ≡ true → (z x ≡ true) ⊎ (w x ≡ true)
 in_sum z w x h = xor-true (z x) (w x) (sym (at-add z w x) ∙ h)
 
-pub add_self : (z : Chain) → z ⊕ z ≡ nothing
-add_self z = same_states (z ⊕ z) nothing (λ x. at-add z z x ∙ xor_self (z x))
+pub chain_add_self : (z : Chain) → z ⊕ z ≡ nothing
+chain_add_self z = same_states (z ⊕ z) nothing (λ x. at-add z z x ∙ xor_self (z x))
 
 -- the sum of chains of states is one
 pub IsChain-add : (n : ℕ) (z w : Chain) → IsChain n z → IsChain n w → IsChain n (z ⊕ w)

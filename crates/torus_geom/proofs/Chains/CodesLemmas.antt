@@ -7,7 +7,7 @@ use Rattle.f2_algebra.specs.Chain as over_codes
 use Rattle.std.proofs.lemmas.List.Elements.{All-contains}
 use Rattle.f2_algebra.proofs.Chains.Lists.{All-codes}
 use Rattle.f2_algebra.proofs.Chains.Sets.{same_chain, holds-nothing, holds-single, holds-add, pairs_oddly-weight}
-use Rattle.f2_algebra.proofs.Chains.Tables.{◌⊻◌, same}
+use Rattle.f2_algebra.proofs.Chains.Tables.{◌⊻◌, same, same_test}
 use Rattle.state_rank.specs.Bijection.{IsBijection}
 use Rattle.state_rank.specs.States.{rank, unrank, factorial}
 use Rattle.state_rank.proofs.RankLemmas.{rank-below, rank-unrank, rank_one_to_one, IsBijection-unrank}
@@ -16,7 +16,7 @@ use Rattle.torus_geom.proofs.Chains.StateChains.{member_of_states_where, states_
 use Rattle.torus_geom.specs.Chains.{Chain, IsChain, nothing, single, ◌⊕◌, pairs_oddly}
 use Rattle.torus_geom.specs.Codes.{HasRanks, is_state, states_of}
 use Rattle.torus_geom.specs.Inner.CodeBorder.{codes_of}
-use Rattle.torus_geom.proofs.Chains.StateTests.{same_test, is_same-is, is_same-true, Contains-codes, is_state-is, is_state-true, parity-states, weight-states}
+use Rattle.torus_geom.proofs.Chains.StateTests.{is_same-is, is_same-true, Contains-codes, is_state-is, is_state-true, parity-states, weight-states}
 use Rattle.torus_geom.proofs.Chains.ChainLemmas.{same_states, pairs_oddly-parity}
 
 -- the codes are ranks of states of size n

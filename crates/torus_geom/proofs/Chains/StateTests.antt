@@ -19,11 +19,6 @@ use Rattle.torus_geom.proofs.Sums.AllBelowLemmas.{at_all_below, all_below-true}
 use Rattle.torus_geom.specs.Codes.{is_state}
 
 -- ---- tests
--- tests that hold of each other are the same
-pub same_test : (a b : Bool) → (a ≡ true → b ≡ true) → (b ≡ true → a ≡ true) → a ≡ b
-same_test true b there back = sym (there refl)
-same_test false true there back = back refl
-same_test false false there back = refl
 
 -- a list is itself
 pub is_same-refl : (x : List ℕ) → is_same x x ≡ true

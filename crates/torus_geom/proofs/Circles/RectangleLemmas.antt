@@ -1,8 +1,8 @@
 -- The rectangles of a grid are proper, their ranges have their first circle and the one before their
 -- end, and a state that no step leaves has an empty border.
-use Rattle.std.proofs.Common.{◌≡◌, ◌≢◌, ℕ, zero, suc, ◌+◌, ◌-◌, ◌<◌, Bool, true, false, not, cond, ◌&&◌, ◌||◌, List, [], ◌∷◌, length, map, slice_index, Contains, refl, ap, subst, ◌∙◌, eqb, arith, inl, inr}
+use Rattle.std.proofs.Common.{◌≡◌, ◌≢◌, ℕ, zero, suc, ◌+◌, ◌-◌, ◌<◌, Bool, true, false, not, cond, ◌&&◌, ◌||◌, List, [], ◌∷◌, length, map, slice_index, Contains, refl, ap, subst, ◌∙◌, eqb, arith, inl, inr, sym}
 use Rattle.std.specs.List.{filter}
-use Rattle.std.proofs.lemmas.Bool.{cases_lt, cases_eq, cases_Bool, false≢true}
+use Rattle.std.proofs.lemmas.Bool.{cases_lt, cases_eq, cases_Bool, false≢true, and_parts, eqb-true}
 use Rattle.f2_algebra.specs.Chain.{of_codes, nothing, is_odd}
 use Rattle.state_rank.specs.Bijection.{ascending}
 use Rattle.state_rank.specs.States.{states, rank}
@@ -121,3 +121,15 @@ border_of_state-no_step g x none =
       | inl step ↦ absurd (none y r (member_of_rectangles (size g) r m) step)
       | inr e ↦ e
     ])
+
+-- the rectangle with these circles
+abbrev pub corners : ℕ → ℕ → ℕ → ℕ → Rect
+corners a b j k = record { left = a; right = b; low = j; high = k }
+
+-- no rectangle leaves the empty list
+pub border_of_state-nil : (g : Marks) → border_of_state g [] ≡ nothing
+border_of_state-nil g = border_of_state-no_step g [] (λ y r proper step.
+    let led = (and_parts _ _ step).0 in
+    let low = and_parts _ _ led in
+    let high = and_parts _ _ low.1 in
+    proper.rows (sym (eqb-true 0 r.low low.0) ∙ eqb-true 0 r.high high.0))

@@ -1,5 +1,5 @@
 -- One circle up and one down, and what becomes of pairs when the columns are turned by one.
-use Rattle.std.proofs.Common.{◌≡◌, ℕ, zero, suc, ◌+◌, ◌-◌, ◌%◌, ◌<◌, Bool, true, not, ◌&&◌, ◌||◌, refl, ap, ◌∙◌, sym, eqb, ltb, arith, inl, inr, cond, mod-eq_of_lt}
+use Rattle.std.proofs.Common.{◌≡◌, ℕ, zero, suc, ◌+◌, ◌-◌, ◌%◌, ◌<◌, Bool, true, not, ◌&&◌, ◌||◌, refl, ap, ◌∙◌, sym, eqb, ltb, arith, inl, inr, cond, mod-eq_of_lt, ◌≢◌, ◌≤◌}
 use Rattle.std.proofs.Math.Nat.{add-mod_right}
 use Rattle.std.proofs.Math.IntN.{ℤ, pos, ◌+ℤ◌}
 use Rattle.std.proofs.lemmas.Int.{ints}
@@ -187,3 +187,12 @@ column_of-one_up n f one r l =
     column_of-is n (λ c. one_up n (f c)) (composed_one n (one_up n) f (one_up_one n) one)
     (column_of n f (one_down n r)) r (column_of-below n f one (one_down n r) k)
     (ap (one_up n) (row-column_of n f one (one_down n r) k) ∙ one_up-one_down n r l)
+
+-- the circle before another is another
+pub one_down-other : (n c : ℕ) → 2 ≤ n → c < n → one_down n c ≢ c
+one_down-other zero c two l e = absurd (omega (arith, two))
+one_down-other (suc m) zero two l e = omega (arith, two, one_down-first m, e)
+one_down-other (suc m) (suc c) two l e =
+    let same : suc c ≡ c + 1 = omega arith in
+    let down : one_down (suc m) (suc c) ≡ c = ap (one_down (suc m)) same ∙ one_down-above m c (omega (arith, l)) in
+    omega (arith, down, e)

@@ -27,3 +27,8 @@ all_below-false (suc n) test i l h = elim (cases_eq i n) [
 -- one number more
 pub all_below-more : (n : ℕ) (test : ℕ → Bool) → all_below n test ≡ true → test n ≡ true → all_below (n + 1) test ≡ true
 all_below-more n test h k = rw add-one (ap₂ (λ a b. a && b) k h)
+
+-- tests that agree below n hold below n alike
+pub all_below-same : (n : ℕ) (p q : ℕ → Bool) → ((t : ℕ) → t < n → p t ≡ q t) → all_below n p ≡ all_below n q
+all_below-same zero p q h = refl
+all_below-same (suc n) p q h = ap₂ (λ a b. a && b) (h n (omega arith)) (all_below-same n p q (λ t l. h t (omega arith)))

@@ -2,7 +2,7 @@ use Rattle.std.proofs.Common.{◌≡◌, refl, pos, ◌+ℤ◌, ◌-ℤ◌, arit
 use Rattle.std.proofs.lemmas.Int.{ints}
 use Rattle.state_rank.specs.declared.TheConstants.{MAX_SIZE}
 use Rattle.torus_geom.specs.Counts.{count_below}
-use Rattle.gradings.proofs.TableLemmas.{IsFilled-more}
+use Rattle.gradings.proofs.TableLemmas.{IsFilledWith-more}
 use Rattle.gradings.proofs.tables.column_weights.Goals as goal
 
 pub loop-r-init : goal.loop-r-init
@@ -16,7 +16,7 @@ loop-r-preserved c =
     let of_o = c.below-in-loop-r.ensures.value in
     let o_low = c.below-in-loop-r.ensures.low in
     let o_high = c.below-in-loop-r.ensures.high in
-    IsFilled-more _ _ _ _ (λ r v. pos v ≡ pos MAX_SIZE
+    IsFilledWith-more _ _ _ _ (λ r v. pos v ≡ pos MAX_SIZE
     +ℤ (count_below (length c.args.x.now) (λ d. ltb (slice_index c.args.x.now d) r)
     -ℤ count_below (length c.args.o.now) (λ d. ltb (slice_index c.args.o.now d) r)))
     _ c.loop-r-test.true c.loop-r.invariant (omega (arith, ints))

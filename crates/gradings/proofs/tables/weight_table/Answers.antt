@@ -2,7 +2,7 @@ use Rattle.std.proofs.Common.{◌≡◌, ℕ, ◌<◌, [], refl, pos, ◌+ℤ◌
 use Rattle.state_rank.specs.declared.TheConstants.{MAX_SIZE}
 use Rattle.gradings.specs.Inner.Tables.{left_below, weight}
 use Rattle.gradings.proofs.MaslovLemmas.{count_below-take}
-use Rattle.gradings.proofs.TableLemmas.{IsFilled-more}
+use Rattle.gradings.proofs.TableLemmas.{IsFilledWith-more}
 use Rattle.gradings.proofs.tables.weight_table.Goals as goal
 
 pub loop-c-init : goal.loop-c-init
@@ -13,7 +13,7 @@ loop-c-preserved c =
     let inside = c.loop-c-test.true in
     let room = c.requires.room in
     let long = c.requires.one_size in
-    IsFilled-more _ _ _ [] (λ c' column. (r : ℕ) → r < MAX_SIZE
+    IsFilledWith-more _ _ _ [] (λ c' column. (r : ℕ) → r < MAX_SIZE
     → pos (slice_index column r) ≡ weight (length c.args.o.now) c.args.o.now c.args.x.now c' r) _
     (omega arith) c.loop-c.invariant
     (λ r l.

@@ -1,18 +1,18 @@
--- One term after the other.
-use Rattle.std.proofs.Common.{◌≡◌, ◌+◌, ◌-◌, ◌*◌, ◌/◌, ◌^◌, ◌≤◌, ℤ, suc, pos, ◌+ℤ◌, sym, ap, ◌∙◌, arith}
+-- One product_term after the other.
+use Rattle.std.proofs.Common.{◌≡◌, ◌+◌, ◌*◌, ◌/◌, ◌^◌, ◌≤◌, ℤ, suc, pos, ◌+ℤ◌, sym, ap, ◌∙◌, arith}
 use Rattle.std.proofs.lemmas.Int.{to_z-of_z}
 use Rattle.std.proofs.lemmas.Nat.{mul-le}
 use mir.Syntax.{w32}
 use mir.Val.{to_z, of_z}
 use Rattle.hat_division.specs.Product.{rank_at, sum_first}
 use Rattle.hat_division.proofs.SumLemmas.{sum_first-zero, sum_first-suc, binomial-none}
-use Rattle.hat_division.proofs.ProductLemmas.{term, product_rank-sum}
+use Rattle.hat_division.proofs.ProductLemmas.{product_term, product_rank-sum}
 use Rattle.hat_division.proofs.WordLemmas.{rank_up, coefficient-next, coefficient-small, term-small}
 use Rattle.hat_division.proofs.products.product_rank.Goals as goal
 
 pub loop-i-init : goal.loop-i-init
 loop-i-init c = record {
-  sum = sym (sum_first-zero (term c.args.k c.args.rows.now (to_z w32 (of_z w32 c.args.m))
+  sum = sym (sum_first-zero (product_term c.args.k c.args.rows.now (to_z w32 (of_z w32 c.args.m))
       (to_z w32 (of_z w32 c.args.a))));
   bounded = omega arith;
   coefficient = sym (binomial-none c.args.k);
@@ -59,8 +59,8 @@ loop-i-preserved c =
         c.loop-i.invariant.sum,
         ap (λ r. c.loop-i.binomial * r) rank,
         ap (λ b. b * rank_at rows (m +ℤ pos i) (a +ℤ pos i)) c.loop-i.invariant.coefficient,
-        sum_first-suc i (term c.args.k rows m a),
-        ap (λ n. sum_first n (term c.args.k rows m a)) next,
+        sum_first-suc i (product_term c.args.k rows m a),
+        ap (λ n. sum_first n (product_term c.args.k rows m a)) next,
       );
       bounded =
           omega (
@@ -78,6 +78,6 @@ pub returns : goal.returns
 returns c =
     let all : c.loop-i.i ≡ suc c.args.k = omega arith in
     c.loop-i.invariant.sum
-    ∙ (λ t. sum_first (all t) (term c.args.k c.args.rows.now (to_z-of_z w32 c.args.m c.ranges.m t)
+    ∙ (λ t. sum_first (all t) (product_term c.args.k c.args.rows.now (to_z-of_z w32 c.args.m c.ranges.m t)
     (to_z-of_z w32 c.args.a c.ranges.a t)))
     ∙ sym (product_rank-sum c.args.k c.args.rows.now c.args.m c.args.a)

@@ -1,5 +1,5 @@
 -- Step by step down from the row.
-use Rattle.std.proofs.Common.{◌≡◌, ◌≤◌, pos, sym, subst, arith, rules}
+use Rattle.std.proofs.Common.{◌≤◌, pos, sym, subst, arith, rules}
 use Rattle.std.specs.Prelude.{◌≤ℤ◌}
 use Rattle.std.proofs.lemmas.List.Elements.{All-contains}
 use mir.Syntax.{w32}

@@ -1,5 +1,5 @@
 -- The first row in the bidegree is the only one.
-use Rattle.std.proofs.Common.{◌≡◌, false, pos, get_or, refl, sym, arith}
+use Rattle.std.proofs.Common.{false, pos, get_or, refl, sym, arith}
 use Rattle.hat_division.specs.declared.tables.TableRow.{TableRow}
 use Rattle.hat_division.proofs.RankLemmas.{rank_at-row, rank_at-none}
 use Rattle.hat_division.proofs.WordLemmas.{stands_from}

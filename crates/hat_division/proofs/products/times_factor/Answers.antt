@@ -1,10 +1,8 @@
 -- Row by row; in the end all rows of the product are put.
-use Rattle.std.proofs.Common.{◌≡◌, ◌^◌, ◌≤◌, length, All, sym, subst, arith, rules}
-use Rattle.std.proofs.lemmas.List.Elements.{All-weaker}
-use Rattle.hat_division.specs.Table.{IsTable}
+use Rattle.std.proofs.Common.{◌≡◌, length, All, sym, subst, arith}
 use Rattle.hat_division.specs.Product.{IsProduct, IsSmall}
 use Rattle.hat_division.specs.Inner.Products.{AreRowsPut}
-use Rattle.hat_division.proofs.ProductLemmas.{rows-none, rows-more, rows-product, rows-table}
+use Rattle.hat_division.proofs.ProductLemmas.{rows-none, rows-product, rows-table}
 use Rattle.hat_division.proofs.WordLemmas.{IfSome-value}
 use Rattle.hat_division.proofs.products.times_factor.Goals as goal
 

@@ -1,11 +1,9 @@
 -- The candidate is the quotient where its product is the table.
-use Rattle.std.proofs.Common.{◌≡◌, List, length, All, true, sym, ap, subst, ◌∙◌, arith, rules}
+use Rattle.std.proofs.Common.{◌≡◌, length, All, sym, subst, ◌∙◌}
 use Rattle.std.proofs.lemmas.Bool.{false≢true}
 use Rattle.hat_division.specs.Table.{IsTable}
 use Rattle.hat_division.specs.Product.{IsProduct, IsQuotient, IsSmall}
-use Rattle.hat_division.specs.Inner.Products.{ArePositive}
 use Rattle.hat_division.specs.Inner.Quotients.{IsCandidate}
-use Rattle.hat_division.specs.declared.tables.TableRow.{TableRow}
 use Rattle.hat_division.proofs.ProductLemmas.{ArePositive-table}
 use Rattle.hat_division.proofs.QuotientLemmas.{candidate-small, candidate-is, candidate-is_not}
 use Rattle.hat_division.proofs.WordLemmas.{IfSome-value, small-table}

@@ -1,5 +1,5 @@
 -- One more border is that of the next step.
-use Rattle.std.proofs.Common.{◌≡◌, ◌++◌, ◌∷◌, [], List, map, take, get_or, sym, ap, subst, ◌∙◌}
+use Rattle.std.proofs.Common.{◌++◌, ◌∷◌, [], map, take, get_or, sym, ap, subst, ◌∙◌}
 use Rattle.std.proofs.lemmas.List.{map-append, take_more}
 use Rattle.f2_algebra.specs.Certificate.{StepPair}
 use Rattle.f2_algebra.specs.Chain.{Chain}

@@ -1,7 +1,7 @@
 -- The degree is that of the sum.
-use Rattle.std.proofs.Common.{◌≡◌, ℤ, w32, w64, true, Bool, false, cond, pos, ◌+ℤ◌, ap, subst, sym, ◌∙◌, arith, rules, refl}
-use mir.Val.{SFits, of_z, to_z}
-use Rattle.std.proofs.lemmas.Int.{ints, to_z-of_z}
+use Rattle.std.proofs.Common.{◌≡◌, ℤ, w32, true, Bool, false, cond, ◌+ℤ◌, ap, subst, sym, ◌∙◌, arith, refl}
+use mir.Val.{of_z, to_z}
+use Rattle.std.proofs.lemmas.Int.{ints}
 use Rattle.std.proofs.lemmas.Bool.{false≢true}
 use Rattle.std.specs.Ordering.{int_cmp, is_eq}
 use Rattle.std.specs.BTreeSet as sorted

@@ -1,8 +1,6 @@
 -- Each sum adds the degree of its states, and no state has another sum.
-use Rattle.std.proofs.Common.{◌≡◌, ◌<◌, ◌+◌, ℕ, ℤ, List, true, pos, ap, subst, sym, ◌∙◌, arith, inl, inr}
+use Rattle.std.proofs.Common.{pos, ap, ◌∙◌, arith, inl, inr}
 use Rattle.std.proofs.lemmas.Bool.{cases_eq}
-use Rattle.torus_geom.specs.Marks.{Marks, size}
-use Rattle.homology_cert.specs.Inner.Ranks.{HasDegrees}
 use Rattle.homology_cert.proofs.Homology.DegreeLemmas.{HasDegrees-from_sums}
 use Rattle.homology_cert.proofs.degrees.degrees_of.Goals as goal
 

@@ -1,5 +1,5 @@
 use Rattle.std.proofs.Common.{◌+◌, ◌∷◌, ◌++◌, arith, ◌∙◌, sym, ap, take, drop}
-use Rattle.sparse_complex.proofs.BuildLemmas.{factorial_fits}
+use Rattle.sparse_complex.proofs.BuildLemmas.{states_fit_keys}
 use Rattle.state_rank.specs.States.{unrank, state_word}
 use Rattle.state_rank.proofs.RankLemmas.{IsState-unrank}
 use Rattle.homology_cert.proofs.Texts.ByteLemmas.{state_first, state_bytes}
@@ -27,7 +27,7 @@ returns-clause-some c =
     (omega (arith, c.if-bytes-digits.false, c.from-digits.ensures)) c.if-bytes-ne32.false
     c.in-Some.ensures.state (ap (λ k. take k (drop 1 c.args.bytes.now)) (omega (arith, c.from-digits.ensures))
     ∙ c.in-Some.ensures.word) c.rank.ensures.rank c.rank.ensures.below in
-    let small = factorial_fits c.args.n c.requires.greatest in (
+    let small = states_fit_keys c.args.n c.requires.greatest in (
       is.0,
       omega (arith, is.0, small),
       is.2 ∙ ap (λ t. (32 ∷ state_word (unrank c.args.n c.rank.result)) ++ t)

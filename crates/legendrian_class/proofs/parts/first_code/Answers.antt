@@ -1,7 +1,7 @@
 -- Codes ascend.
 use Rattle.std.proofs.Common.{ap, ◌∙◌}
 use Rattle.std.specs.List.{slice_get}
-use Rattle.legendrian_class.proofs.ChainLemmas.{first-least, first-none}
+use Rattle.legendrian_class.proofs.ChainLemmas.{first-least, first_code-none}
 use Rattle.legendrian_class.proofs.parts.first_code.Goals as goal
 
 pub returns-clause-least : goal.returns-clause-least
@@ -11,5 +11,5 @@ returns-clause-least c =
 
 pub returns-clause-none : goal.returns-clause-none
 returns-clause-none c =
-    first-none c.args.z.now c.copied.result
+    first_code-none c.args.z.now c.copied.result
     (c.copied.ensures ∙ c.first.ensures.value ∙ ap (λ xs. slice_get xs 0) c.codes.ensures)

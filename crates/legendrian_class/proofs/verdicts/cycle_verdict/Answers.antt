@@ -12,10 +12,10 @@ use Rattle.torus_geom.specs.Inner.GridComplex.{grid_complex}
 use Rattle.rectangles.proofs.Square.BorderLemmas.{border-grid_complex}
 use Rattle.legendrian_class.specs.Inner.CodeVerdicts.{alexander_at}
 use Rattle.legendrian_class.specs.Inner.Parts.{IsPartVerdict, IsNullBut}
-use Rattle.legendrian_class.proofs.ChainLemmas.{each_code}
 use Rattle.legendrian_class.proofs.PartLemmas.{part_of_grid, part-cells, part-cycle, null-start, null-next, null-end, less-left, alive-whole}
 use Rattle.legendrian_class.proofs.VerdictLemmas.{IsNull-by, IsAlive-by}
 use Rattle.legendrian_class.proofs.verdicts.cycle_verdict.Goals as goal
+use Rattle.f2_algebra.proofs.Chains.Sets.{each_code}
 
 pub loop-code-init : goal.loop-code-init
 loop-code-init c =
@@ -55,27 +55,27 @@ loop-code-smaller c =
     let g = c.args.g.now in
     let a : ℤ = to_z w32 (of_z w32 c.alexander-a.result) in
     let fits : SFits w32 c.alexander-a.result = search rules in
-    let at_code : a ≡ alexander_at g c.in-Some.code =
+    let each_code : a ≡ alexander_at g c.in-Some.code =
     to_z-of_z w32 c.alexander-a.result fits ∙ c.alexander-a.ensures.degree
     ∙ ap (λ h. alexander h c.unrank.result) c.of-tables.ensures
     ∙ ap (alexander g) (c.unrank.ensures.state ∙ ap (λ n. unrank n c.in-Some.code) c.size-n.ensures.size) in
     subst (λ left. length (codes left) < length (codes c.loop-code.left)) (sym c.in_ok-left-2.ensures)
     (less-left g c.size-n.ensures.grid c.args.z.now c.requires.ranks a c.in_ok-part.part (part_of_grid c.args.g.now c.of-tables.result c.in_ok-part.part a c.args.z.now c.of-tables.ensures c.in_ok-part.ensures)
-    c.loop-code.left c.loop-code.bound c.loop-code.invariant c.in-Some.code c.in-Some.ensures.least.0 at_code)
+    c.loop-code.left c.loop-code.bound c.loop-code.invariant c.in-Some.code c.in-Some.ensures.least.0 each_code)
 
 pub loop-code-preserved : goal.loop-code-preserved
 loop-code-preserved c =
     let g = c.args.g.now in
     let a : ℤ = to_z w32 (of_z w32 c.alexander-a.result) in
     let fits : SFits w32 c.alexander-a.result = search rules in
-    let at_code : a ≡ alexander_at g c.in-Some.code =
+    let each_code : a ≡ alexander_at g c.in-Some.code =
     to_z-of_z w32 c.alexander-a.result fits ∙ c.alexander-a.ensures.degree
     ∙ ap (λ h. alexander h c.unrank.result) c.of-tables.ensures
     ∙ ap (alexander g) (c.unrank.ensures.state ∙ ap (λ n. unrank n c.in-Some.code) c.size-n.ensures.size) in
     let sums = ap₂ (IsNullBut g c.args.z.now) c.in_ok-left-2.ensures c.in_ok-bound-in-Null.ensures in
     subst (λ (T : Type 0). T) (sym sums)
     (null-next g c.size-n.ensures.grid c.args.z.now c.requires.ranks a c.in_ok-part.part (part_of_grid c.args.g.now c.of-tables.result c.in_ok-part.part a c.args.z.now c.of-tables.ensures c.in_ok-part.ensures)
-    c.loop-code.left c.loop-code.bound c.loop-code.invariant c.in-Some.code c.in-Some.ensures.least.0 at_code
+    c.loop-code.left c.loop-code.bound c.loop-code.invariant c.in-Some.code c.in-Some.ensures.least.0 each_code
     c.in-Null.more
     (subst (IsPartVerdict (at_alexander a (grid_complex g)) c.in_ok-part.part) c.in-Null.is c.in_ok-cocycle.ensures))
 

@@ -2,11 +2,12 @@
 use Rattle.std.proofs.Common.{◌∷◌, ◌++◌, [], length, ap, ◌∙◌, arith}
 use Rattle.std.proofs.lemmas.List.{length-append}
 use Rattle.state_rank.specs.Bijection.{ascending}
-use Rattle.rectangles.proofs.Sweep.PushLemmas.{slice_index-ascending, length-ascending}
+use Rattle.rectangles.proofs.Sweep.PushLemmas.{slice_index-ascending}
 use Rattle.pentagon_map.specs.Inner.Exchanges.{lowers}
 use Rattle.pentagon_map.proofs.Targets.PushLemmas.{picked_yes, picked_no, picked_all, lowers_is}
 use Rattle.pentagon_map.proofs.exchanges.push_lowering.Goals.{then-is_set_where, else-is_set_where}
 use Rattle.pentagon_map.proofs.exchanges.push_lowering.Goals as goal
+use Rattle.state_rank.proofs.OrderLemmas.{length-ascending}
 
 pub loop-b-preserved : goal.loop-b-preserved
 loop-b-preserved c =

@@ -1,9 +1,9 @@
--- Each target is toggled once, so the image is added.
+-- Each target is one_more_toggled once, so the image is added.
 use Rattle.std.proofs.Common.{sym, ap, ◌∙◌}
 use Rattle.std.proofs.lemmas.List.{take_all}
 use Rattle.f2_algebra.specs.Chain.{◌⊕◌}
 use Rattle.f2_algebra.proofs.Chains.Sums.{add-nothing}
-use Rattle.rectangles.proofs.Sweep.LoopLemmas.{sum_of_ranks, toggled, all_toggled}
+use Rattle.rectangles.proofs.Sweep.LoopLemmas.{sum_of_ranks, one_more_toggled, all_toggled}
 use Rattle.pentagon_map.proofs.images.toggle_targets.Goals as goal
 
 pub loop-y-init : goal.loop-y-init
@@ -11,7 +11,7 @@ loop-y-init c = sym (add-nothing c.args.sum.now)
 
 pub loop-y-preserved : goal.loop-y-preserved
 loop-y-preserved c =
-    toggled _ _ _ _ _ _ _ c.loop-y-test.true c.y-item.is c.rank.ensures.rank c.loop-y.invariant
+    one_more_toggled _ _ _ _ _ _ _ c.loop-y-test.true c.y-item.is c.rank.ensures.rank c.loop-y.invariant
     c.in_ok-toggle.ensures.toggled
 
 pub returns : goal.returns

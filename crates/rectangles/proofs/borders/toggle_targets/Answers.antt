@@ -1,11 +1,11 @@
--- Each target is toggled once, so the border is added.
+-- Each target is one_more_toggled once, so the border is added.
 use Rattle.std.proofs.Common.{sym, ap, subst, ◌∙◌}
 use Rattle.std.proofs.lemmas.List.{take_all}
 use Rattle.f2_algebra.specs.Chain.{◌⊕◌}
 use Rattle.f2_algebra.proofs.Chains.Sums.{add-nothing}
 use Rattle.state_rank.specs.Bijection.{IsBijection}
 use Rattle.rectangles.proofs.Homology.BorderLaws.{targets_codes}
-use Rattle.rectangles.proofs.Sweep.LoopLemmas.{sum_of_ranks, toggled, all_toggled}
+use Rattle.rectangles.proofs.Sweep.LoopLemmas.{sum_of_ranks, one_more_toggled, all_toggled}
 use Rattle.rectangles.proofs.borders.toggle_targets.Goals as goal
 
 pub loop-y-init : goal.loop-y-init
@@ -13,7 +13,7 @@ loop-y-init c = sym (add-nothing c.args.sum.now)
 
 pub loop-y-preserved : goal.loop-y-preserved
 loop-y-preserved c =
-    toggled _ _ _ _ _ _ _ c.loop-y-test.true c.y-item.is c.rank.ensures.rank c.loop-y.invariant
+    one_more_toggled _ _ _ _ _ _ _ c.loop-y-test.true c.y-item.is c.rank.ensures.rank c.loop-y.invariant
     c.in_ok-toggle.ensures.toggled
 
 pub returns : goal.returns

@@ -4,8 +4,9 @@ use Rattle.std.proofs.lemmas.List.{take_all}
 use Rattle.std.specs.List.{flat_map}
 use Rattle.state_rank.specs.Bijection.{ascending, numbers}
 use Rattle.rectangles.specs.Inner.Open.{exchanges, exchanges_below}
-use Rattle.rectangles.proofs.Sweep.PushLemmas.{circle_more, circle_room, slice_index-ascending, length-ascending}
+use Rattle.rectangles.proofs.Sweep.PushLemmas.{circle_more, circle_room, slice_index-ascending}
 use Rattle.rectangles.proofs.target_states.push_below.Goals as goal
+use Rattle.state_rank.proofs.OrderLemmas.{length-ascending}
 
 pub push_exchanges-requires-clause-room : goal.push_exchanges-requires-clause-room
 push_exchanges-requires-clause-room c =

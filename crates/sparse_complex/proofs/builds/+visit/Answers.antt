@@ -11,7 +11,7 @@ use Rattle.torus_geom.specs.Marks.{Marks, size}
 use Rattle.gradings.specs.Sums.{sum_before}
 use Rattle.sparse_complex.specs.Inner.Visits.{AreFirstCells}
 use Rattle.sparse_complex.specs.Inner.Visits.{IsBranch}
-use Rattle.sparse_complex.proofs.BuildLemmas.{factorial_fits}
+use Rattle.sparse_complex.proofs.BuildLemmas.{states_fit_keys}
 use Rattle.sparse_complex.proofs.VisitLemmas.{branch-within, branch-none, branch-leaf, part_divisor, parts_fit}
 use Rattle.sparse_complex.proofs.BranchPartLemmas.{part_within, gone-start, gone-next, gone-end, IsBranch-part}
 use Rattle.sparse_complex.proofs.builds.+visit.Goals as goal
@@ -101,7 +101,7 @@ overflow_add-base t c =
     let within = part_within c.args.sums.now s.grid _ c.args.branch.now s some _ count_is c.loop-next.next
     c.loop-next.base c.loop-next.first c.loop-next.cells.items c.loop-next.invariant
     (omega (arith, c.loop-next-test.true, c.size-n.ensures.size, s.state.long)) in
-    let few = factorial_fits (size c.args.sums.now) s.grid.is_size.greatest in
+    let few = states_fit_keys (size c.args.sums.now) s.grid.is_size.greatest in
     omega (arith, within, few)
 
 pub loop-next-preserved : goal.loop-next-preserved

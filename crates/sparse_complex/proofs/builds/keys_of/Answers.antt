@@ -8,7 +8,7 @@ use Rattle.torus_geom.specs.Inner.GridComplex.{grid_complex}
 use Rattle.sparse_complex.specs.Inner.Graph.{code_at}
 use Rattle.sparse_complex.specs.Inner.Stored.{no_key}
 use Rattle.sparse_complex.proofs.KeyLemmas.{KeysPlace, keys-start, keys-step, keys-end}
-use Rattle.sparse_complex.proofs.BuildLemmas.{factorial_fits}
+use Rattle.sparse_complex.proofs.BuildLemmas.{states_fit_keys}
 use Rattle.sparse_complex.proofs.builds.keys_of.Goals as goal
 
 pub loop-key-init : goal.loop-key-init
@@ -22,7 +22,7 @@ pub loop-key-preserved : goal.loop-key-preserved
 unfolding code_at
 loop-key-preserved c =
     let m : size c.args.g.now ≤ MAX_SIZE = search rules in
-    let f = factorial_fits (size c.args.g.now) m in
+    let f = states_fit_keys (size c.args.g.now) m in
     let few = c.requires.few in
     keys-step (at_alexander c.args.a (grid_complex c.args.g.now))
     (factorial (size c.args.g.now)) c.args.cells.now c.requires c.loop-key.key c.loop-key-test.true
@@ -31,7 +31,7 @@ loop-key-preserved c =
 pub returns : goal.returns
 returns c =
     let m : size c.args.g.now ≤ MAX_SIZE = search rules in
-    let f = factorial_fits (size c.args.g.now) m in
+    let f = states_fit_keys (size c.args.g.now) m in
     let few = c.requires.few in
     let all : c.loop-key.key ≡ length c.args.cells.now = omega arith in
     keys-end (factorial (size c.args.g.now)) c.args.cells.now c.loop-key.keys.items (omega arith)
