@@ -1,1 +1,2 @@
+pub mod FirstMarks
 pub mod Inner

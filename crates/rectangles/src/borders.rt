@@ -8,7 +8,8 @@ ghost use Rattle.torus_geom.specs.Chains.{Chain as States, nothing, single};
 ghost use Rattle.torus_geom.specs.Codes.{HasRanks, states_of};
 ghost use Rattle.torus_geom.specs.Inner.CodeBorder.{border_of_state as border_codes};
 
-use crate::target_states::targets;
+use crate::first_marks::FirstMarks;
+use crate::target_states::targets_by;
 use f2_chain::{Builder, Chain};
 use grid_ports::NoMemory;
 use state_rank::State;
@@ -38,8 +39,9 @@ pub fn border_of_state(alloc: Global, g: &Grid, x: &State) -> Result<Chain, NoMe
 {
     let _ = g.size();
     let _ = x.size();
+    let marks = FirstMarks::of(g);
     let mut sum = Builder::new(alloc);
-    toggle_targets(alloc, g, x, &mut sum)?;
+    toggle_targets(alloc, &marks, x, &mut sum)?;
     sum.finish()
 }
 
@@ -62,20 +64,26 @@ pub fn border(alloc: Global, g: &Grid, z: &Chain) -> Result<Chain, NoMemory>
     ensures square { (y : States) → border_of g.now (border_of g.now y) ≡ nothing }
 {
     let n = g.size();
+    let marks = FirstMarks::of(g);
     let mut sum = Builder::new(alloc);
     for code in z.codes() {
-        toggle_targets(alloc, g, &State::unrank(n, *code), &mut sum)?;
+        toggle_targets(alloc, &marks, &State::unrank(n, *code), &mut sum)?;
     }
     sum.finish()
 }
 
 // Toggles each state of the border of `x`.
-fn toggle_targets(alloc: Global, g: &Grid, x: &State, sum: &mut Builder) -> Result<(), NoMemory>
-    requires { length x.now ≡ size g.now }
-    ensures { OnOk result (sum.new ≡ sum.old ⊕ border_codes g.now x.now) }
+fn toggle_targets(
+    alloc: Global,
+    marks: &FirstMarks,
+    x: &State,
+    sum: &mut Builder,
+) -> Result<(), NoMemory>
+    requires { length x.now ≡ size marks.now }
+    ensures { OnOk result (sum.new ≡ sum.old ⊕ border_codes marks.now x.now) }
 {
     let _ = x.size();
-    let states = targets(alloc, g, x);
+    let states = targets_by(alloc, marks, x);
     for y in states.as_slice() {
         sum.toggle(y.rank())?;
     }

@@ -10,10 +10,12 @@
 #![tactic(auto)]
 
 mod borders;
+mod first_marks;
 pub mod laws;
 mod target_states;
 #[cfg(test)]
 mod tests;
 
 pub use borders::{border, border_of_state};
-pub use target_states::{TargetStates, targets};
+pub use first_marks::FirstMarks;
+pub use target_states::{TargetStates, targets, targets_by};

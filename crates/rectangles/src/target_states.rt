@@ -17,6 +17,7 @@ ghost use Rattle.torus_geom.specs.Degrees.{maslov_o, alexander};
 ghost use Rattle.torus_geom.specs.Range.{offset as offset_of};
 ghost use Rattle.rectangles.specs.Inner.Open.{is_open, odd_bit, exchanges, exchanges_below, exchanges_above};
 
+use crate::first_marks::FirstMarks;
 use smallvec::SmallVec;
 use state_rank::{MAX_SIZE, ROOM, State};
 use std::alloc::Global;
@@ -41,7 +42,24 @@ pub fn targets(alloc: Global, g: &Grid, x: &State) -> TargetStates
     ensures inline { result.capacity ≡ 45 }
     ensures few { length result.items ≤ 45 }
 {
-    let opens = open_rectangles(g, x);
+    targets_by(alloc, &FirstMarks::of(g), x)
+}
+
+/// The states that `targets` lists, by the table of the first marks of the grid, which is made once for many states.
+///
+/// The states stay inline: `alloc` is asked for nothing.
+pub fn targets_by(alloc: Global, marks: &FirstMarks, x: &State) -> TargetStates
+    requires size { length x.now ≡ size marks.now }
+    ensures border { result.items ≡ members (size marks.now) (border marks.now (single x.now)) }
+    ensures states { All (λ y. IsState y × (length y ≡ size marks.now)) result.items }
+
+    // Each state of the border has a Maslov degree one lower than `x`, and the same Alexander degree.
+    ensures lowers_maslov { All (λ y. maslov_o marks.now x.now ≡ maslov_o marks.now y +ℤ pos 1) result.items }
+    ensures keeps_alexander { All (λ y. alexander marks.now x.now ≡ alexander marks.now y) result.items }
+    ensures inline { result.capacity ≡ 45 }
+    ensures few { length result.items ≤ 45 }
+{
+    let opens = open_rectangles(marks, x);
     let odds = odd_pairs(x, &opens);
     let columns = x.transpose();
     let mut states = SmallVec::new(alloc);
@@ -51,15 +69,15 @@ pub fn targets(alloc: Global, g: &Grid, x: &State) -> TargetStates
 }
 
 // For each circle a, the circles b for which the rectangle from a to b is open.
-fn open_rectangles(g: &Grid, x: &State) -> [u16; ROOM]
-    requires size { length x.now ≡ size g.now }
+fn open_rectangles(marks: &FirstMarks, x: &State) -> [u16; ROOM]
+    requires size { length x.now ≡ size marks.now }
     ensures rectangles { (a b : ℕ) → a < length x.now → b < length x.now
-        → bit_at (slice_index result a) b ≡ (if is_open g.now x.now a b then 1 else 0) }
-    ensures grid { IsGrid g.now }
+        → bit_at (slice_index result a) b ≡ (if is_open marks.now x.now a b then 1 else 0) }
+    ensures grid { IsGrid marks.now }
 {
     let mut opens = [0; ROOM];
-    for a in 0..g.size() {
-        opens[a as usize] = open_rights(g, x, a);
+    for a in 0..marks.size() {
+        opens[a as usize] = open_rights(marks, x, a);
     }
     opens
 }
@@ -68,18 +86,18 @@ fn open_rectangles(g: &Grid, x: &State) -> [u16; ROOM]
 //
 // Going right from `a`, `limit` is how far up a rectangle may reach: no mark of a column and no point of
 // a circle on the way is below it.
-fn open_rights(g: &Grid, x: &State, a: u8) -> u16
-    requires size { length x.now ≡ size g.now }
+fn open_rights(marks: &FirstMarks, x: &State, a: u8) -> u16
+    requires size { length x.now ≡ size marks.now }
     requires below { a < length x.now }
-    ensures { (b : ℕ) → b < length x.now → bit_at result b ≡ (if is_open g.now x.now a b then 1 else 0) }
+    ensures { (b : ℕ) → b < length x.now → bit_at result b ≡ (if is_open marks.now x.now a b then 1 else 0) }
 {
-    let n = g.size();
+    let n = marks.size();
     let low = x.row(a);
     let mut rights = 0u16;
     let mut limit = n - 1;
     let mut c = a;
     for width in 1..n {
-        limit = limit.min(lowest_mark(g, low, c));
+        limit = limit.min(marks.height(low, c));
         if limit == 0 {
             return rights;
         }
@@ -95,19 +113,6 @@ fn open_rights(g: &Grid, x: &State, a: u8) -> u16
         }
     }
     rights
-}
-
-// How far up from the row `low` the first mark of column `c` is.
-fn lowest_mark(g: &Grid, low: u8, c: u8) -> u8
-    requires low_below { low < size g.now }
-    requires below { c < size g.now }
-    ensures o { result ≤ offset_of (size g.now) low (slice_index g.now.o c) }
-    ensures x { result ≤ offset_of (size g.now) low (slice_index g.now.x c) }
-    ensures least { (d : ℕ) → d ≤ offset_of (size g.now) low (slice_index g.now.o c)
-        → d ≤ offset_of (size g.now) low (slice_index g.now.x c) → d ≤ result }
-{
-    let n = g.size();
-    offset(n, low, g.o(c)).min(offset(n, low, g.x(c)))
 }
 
 // For each circle a, the rows of the circles b right of it for which one of the two rectangles between

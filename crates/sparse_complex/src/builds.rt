@@ -13,7 +13,7 @@ use crate::links::Links;
 use crate::slices::{AlexSlice, Cell, NO_KEY};
 use gradings::{DegreeTables, PossibleSums};
 use grid_ports::NoMemory;
-use rectangles::targets;
+use rectangles::{FirstMarks, targets_by};
 use state_rank::{State, state_count};
 use std::alloc::Global;
 use torus_geom::Grid;
@@ -166,9 +166,10 @@ fn links_of(
     ensures { IfOk result (λ links.
         AreLinksBelow (at_alexander a (grid_complex g.now)) cells.now (length cells.now) links) }
 {
+    let marks = FirstMarks::of(g);
     let mut links = Links::new(alloc, cells.len())?;
     for key in 0..cells.len() {
-        push_arrows(alloc, g, a, key, keys, cells, &mut links)?;
+        push_arrows(alloc, &marks, a, key, keys, cells, &mut links)?;
     }
     Ok(links)
 }
@@ -176,21 +177,21 @@ fn links_of(
 // Puts in the arrows of the cell of a key.
 fn push_arrows(
     alloc: Global,
-    g: &Grid,
+    marks: &FirstMarks,
     a: i32,
     key: usize,
     keys: &[u32],
     cells: &[Cell],
     links: &mut Links,
 ) -> Result<(), NoMemory>
-    requires cells { AreCells (at_alexander a (grid_complex g.now)) (factorial (size g.now)) cells.now }
+    requires cells { AreCells (at_alexander a (grid_complex marks.now)) (factorial (size marks.now)) cells.now }
     requires keys { AreKeys keys.now cells.now }
     requires key { key < length cells.now }
-    requires below { AreLinksBelow (at_alexander a (grid_complex g.now)) cells.now key links.old }
-    ensures { OnOk result (AreLinksBelow (at_alexander a (grid_complex g.now)) cells.now (key + 1) links.new) }
+    requires below { AreLinksBelow (at_alexander a (grid_complex marks.now)) cells.now key links.old }
+    ensures { OnOk result (AreLinksBelow (at_alexander a (grid_complex marks.now)) cells.now (key + 1) links.new) }
 {
-    let x = State::unrank(g.size(), cells[key].code);
-    let states = targets(alloc, g, &x);
+    let x = State::unrank(marks.size(), cells[key].code);
+    let states = targets_by(alloc, marks, &x);
     links.reserve(states.len() as u64)?;
     for y in states.as_slice() {
         links.link(key as u32, keys[y.rank() as usize]);

@@ -1,5 +1,5 @@
 -- What the loops keep that collect the odd pairs and append the exchanges.
-use Rattle.std.proofs.Common.{◌≡◌, ◌≢◌, ℕ, zero, suc, ◌+◌, ◌-◌, ◌*◌, ◌/◌, ◌%◌, ◌^◌, ◌<◌, ◌≤◌, Bool, true, false, not, ◌&&◌, ◌||◌, List, [], ◌∷◌, ◌++◌, length, map, take, set, slice_index, swap, reverse, refl, ap, ap₂, subst, ◌∙◌, sym, eqb, ltb, arith, inl, inr, cond, bit_and, bit_or}
+use Rattle.std.proofs.Common.{◌≡◌, ◌≢◌, ℕ, zero, suc, ◌+◌, ◌-◌, ◌*◌, ◌/◌, ◌%◌, ◌^◌, ◌<◌, ◌≤◌, Bool, true, false, not, ◌&&◌, ◌||◌, List, [], ◌∷◌, ◌++◌, length, map, take, set, slice_index, slice_index_or, swap, reverse, refl, ap, ap₂, subst, ◌∙◌, sym, eqb, ltb, arith, inl, inr, cond, bit_and, bit_or}
 use Rattle.std.proofs.lemmas.Bool.{cases_eq, eq-eqb, ne_eqb, lt-ltb, le-ltb}
 use Rattle.std.proofs.lemmas.List.{get_or-set_same, get_or-set_other, length-append, length-map, map-append, append_assoc, append-nil, take_more, take_all, length-reverse, get_or-reverse}
 use Rattle.std.proofs.lemmas.List.Elements.{filter_more}
@@ -19,13 +19,14 @@ use Rattle.rectangles.proofs.Sweep.TargetLemmas.{length-numbers, get_or-numbers}
 -- ---- an array that is filled from 0 on
 
 -- one element more
-pub filled_more : (rows : List ℕ) (c v : ℕ) (P : ℕ → ℕ → Type 0) → c < length rows
-    → ((a : ℕ) → a < c → P a (slice_index rows a)) → P c v → (a : ℕ) → a < c + 1 → P a (slice_index (set rows c v) a)
-filled_more rows c v P fits before here a l = elim (cases_eq a c) [
+pub filled_more : {A : Type 0} (rows : List A) (c : ℕ) (v d : A) (P : ℕ → A → Type 0) → c < length rows
+    → ((a : ℕ) → a < c → P a (slice_index_or rows a d)) → P c v → (a : ℕ) → a < c + 1
+    → P a (slice_index_or (set rows c v) a d)
+filled_more rows c v d P fits before here a l = elim (cases_eq a c) [
   | inl e ↦
-      subst (λ i. P i (slice_index (set rows c v) i)) (sym e)
-      (subst (P c) (sym (get_or-set_same rows c v 0 fits)) here)
-  | inr p ↦ subst (P a) (sym (get_or-set_other rows c a v 0 p)) (before a (omega arith))
+      subst (λ i. P i (slice_index_or (set rows c v) i d)) (sym e)
+      (subst (P c) (sym (get_or-set_same rows c v d fits)) here)
+  | inr p ↦ subst (P a) (sym (get_or-set_other rows c a v d p)) (before a (omega arith))
 ]
 
 -- ---- the odd pairs of a circle

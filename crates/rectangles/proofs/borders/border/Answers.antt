@@ -3,7 +3,8 @@ use Rattle.std.proofs.Common.{sym, ap, subst, ◌∙◌}
 use Rattle.std.proofs.lemmas.List.{take_all}
 use Rattle.std.proofs.lemmas.Result.{IfOk-weaker}
 use Rattle.torus_geom.specs.Codes.{HasRanks, states_of}
-use Rattle.torus_geom.specs.Inner.CodeBorder.{border as border_codes}
+use Rattle.torus_geom.specs.Inner.CodeBorder.{border as border_codes, border_of_state}
+use Rattle.f2_algebra.specs.Chain.{◌⊕◌}
 use Rattle.torus_geom.specs.Marks.{size}
 use Rattle.torus_geom.proofs.Chains.CodesLemmas.{All_from_ranks, ranks_from_All}
 use Rattle.torus_geom.proofs.Chains.ReachedLemmas.{AreRanks-border, states_of-border}
@@ -17,7 +18,8 @@ returns-in_err-toggle_targets-clause-square c = border-border c.args.g.now c.siz
 pub loop-code-preserved : goal.loop-code-preserved
 loop-code-preserved c =
     added _ _ _ _ _ _ _ c.loop-code-test.true c.size-n.ensures.size c.unrank.ensures.state c.loop-code.invariant
-    c.in_ok-toggle_targets.ensures
+    (c.in_ok-toggle_targets.ensures
+    ∙ ap (λ g. c.loop-code.sum ⊕ border_of_state g c.unrank.result) c.of-marks.ensures)
 
 pub returns-clause-border : goal.returns-clause-border
 returns-clause-border c =

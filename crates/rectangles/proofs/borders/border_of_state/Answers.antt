@@ -27,7 +27,8 @@ returns c =
     let g = c.args.g.now in
     let x = c.args.x.now in
     let sx = subst (λ n. IsBijection n x) c.requires.size c.size-2.ensures.state.bijection in
-    let sum = c.in_ok-toggle_targets.ensures ∙ ap (λ z. z ⊕ border_of_state g x) c.new-sum.ensures ∙ nothing-add _ in
+    let sum = c.in_ok-toggle_targets.ensures ∙ ap (λ h. c.new-sum.result ⊕ border_of_state h x) c.of-marks.ensures
+    ∙ ap (λ z. z ⊕ border_of_state g x) c.new-sum.ensures ∙ nothing-add _ in
     let below = All_from_ranks (size g) (border_of_state g x) (AreRanks-border_of_state g x) in
     record {
       border = IfOk-weaker c.finish.result _ _

@@ -18,7 +18,7 @@ loop-y-preserved c =
 
 pub returns : goal.returns
 returns c =
-    let g = c.args.g.now in
+    let g = c.args.marks.now in
     let x = c.args.x.now in
     let states = c.as_slice-y-items.result.now in
     c.loop-y.invariant
@@ -26,4 +26,4 @@ returns c =
     (take_all c.loop-y.y-index states c.loop-y-test.false ∙ c.as_slice-y-items.ensures)
     ∙ ap (λ z. c.args.sum.now ⊕ z) (all_toggled _ _
     (targets_codes g x (subst (λ n. IsBijection n x) c.requires c.size.ensures.state.bijection) _
-    c.targets-states.ensures.border))
+    c.targets_by-states.ensures.border))

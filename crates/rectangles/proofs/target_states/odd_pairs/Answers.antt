@@ -14,7 +14,7 @@ loop-a-preserved c =
     let short = c.size-a-end.ensures.state.size.greatest in
     let full = c.loop-a.invariant.0 in (
       length-set c.loop-a.odds c.loop-a.a c.odd_rows.result ∙ full,
-      filled_more c.loop-a.odds c.loop-a.a c.odd_rows.result
+      filled_more c.loop-a.odds c.loop-a.a c.odd_rows.result 0
           (λ a v. (b : ℕ) → b < length c.args.x.now
           → bit_at v (slice_index c.args.x.now b) ≡ odd_bit c.args.opens.now a b)
           (omega arith) c.loop-a.invariant.1 c.odd_rows.ensures,

@@ -14,8 +14,8 @@ loop-a-preserved c =
     let short = c.size-a-end.ensures.grid.is_size.greatest in
     let full = c.loop-a.invariant.0 in (
       length-set c.loop-a.opens c.loop-a.a c.open_rights.result ∙ full,
-      filled_more c.loop-a.opens c.loop-a.a c.open_rights.result
-          (λ a v. (b : ℕ) → b < length c.args.x.now → bit_at v b ≡ cond (is_open c.args.g.now c.args.x.now a b) 1 0)
+      filled_more c.loop-a.opens c.loop-a.a c.open_rights.result 0
+          (λ a v. (b : ℕ) → b < length c.args.x.now → bit_at v b ≡ cond (is_open c.args.marks.now c.args.x.now a b) 1 0)
           (omega arith) c.loop-a.invariant.1 c.open_rights.ensures,
     )
 

@@ -8,4 +8,4 @@ abbrev pub invariant-loop-a : goal.invariant-loop-a
 invariant-loop-a l =
     (length l.opens ≡ MAX_SIZE)
     × ((a : ℕ) → a < l.a → (b : ℕ) → b < length l.x
-    → bit_at (slice_index l.opens a) b ≡ (if is_open l.g l.x a b then 1 else 0))
+    → bit_at (slice_index l.opens a) b ≡ (if is_open l.marks l.x a b then 1 else 0))

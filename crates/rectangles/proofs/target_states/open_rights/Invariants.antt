@@ -5,4 +5,4 @@ use Rattle.rectangles.proofs.target_states.open_rights.Given as goal
 
 abbrev pub invariant-loop-width : goal.invariant-loop-width
 invariant-loop-width l =
-    IsSwept l.g l.x l.a (l.width - 1) l.width l.limit l.rights × (l.c ≡ turned (size l.g) l.a (l.width - 1))
+    IsSwept l.marks l.x l.a (l.width - 1) l.width l.limit l.rights × (l.c ≡ turned (size l.marks) l.a (l.width - 1))

@@ -24,7 +24,7 @@ reserve-requires c =
     let small : width c.args.links.now ≤ most_keys =
     subst (λ w. w ≤ most_keys) (sym c.requires.below.whole) c.requires.keys.small in
     let nodes = nodes_fit c.args.links.now c.requires.below.listed small in
-    omega (arith, nodes, c.len.ensures.value, c.targets-states.ensures.few)
+    omega (arith, nodes, c.len.ensures.value, c.targets_by-states.ensures.few)
 
 pub loop-y-init : goal.loop-y-init
 unfolding code_at
@@ -32,10 +32,10 @@ loop-y-init c =
     let fits : SFits w32 c.args.a = search rules in
     let room = c.in_ok-reserve.ensures.room in
     record {
-      place = subst (λ (a : ℤ). ArrowsPlace (at_alexander a (grid_complex c.args.g.now)) c.args.cells.now c.args.key
+      place = subst (λ (a : ℤ). ArrowsPlace (at_alexander a (grid_complex c.args.marks.now)) c.args.cells.now c.args.key
           (map rank (take 0 c.as_slice-y-items.result.now)) c.reserve.new.self) (sym (to_z-of_z w32 c.args.a fits))
           (arrows-start
-          (at_alexander c.args.a (grid_complex c.args.g.now)) c.args.cells.now c.args.key c.args.links.now
+          (at_alexander c.args.a (grid_complex c.args.marks.now)) c.args.cells.now c.args.key c.args.links.now
           c.reserve.new.self c.requires.below c.reserve.ensures.nodes c.reserve.ensures.heads);
       room = omega (arith, c.len.ensures.value, ap length c.as_slice-y-items.ensures, room);
     }
@@ -43,20 +43,20 @@ loop-y-init c =
 pub bounds-keys-rank : goal.bounds-keys-rank
 unfolding code_at
 bounds-keys-rank c =
-    let x_is : c.unrank-x.result ≡ unrank (size c.args.g.now) (code_at c.args.cells.now c.args.key) =
+    let x_is : c.unrank-x.result ≡ unrank (size c.args.marks.now) (code_at c.args.cells.now c.args.key) =
     c.unrank-x.ensures.state ∙ ap (λ n. unrank n (code_at c.args.cells.now c.args.key)) c.size.ensures.size in
-    let border : map rank c.as_slice-y-items.result.now ≡ codes (border_of_state c.args.g.now c.unrank-x.result) =
-    listed-border c.args.g.now c.args.a c.args.cells.now c.requires.cells c.args.key c.requires.key c.unrank-x.result x_is
-    c.as_slice-y-items.result.now (c.as_slice-y-items.ensures ∙ c.targets-states.ensures.border) in
+    let border : map rank c.as_slice-y-items.result.now ≡ codes (border_of_state c.args.marks.now c.unrank-x.result) =
+    listed-border c.args.marks.now c.args.a c.args.cells.now c.requires.cells c.args.key c.requires.key c.unrank-x.result x_is
+    c.as_slice-y-items.result.now (c.as_slice-y-items.ensures ∙ c.targets_by-states.ensures.border) in
     let r_is : c.rank.result ≡ rank (get_or c.as_slice-y-items.result.now c.loop-y.y-index c.y-item.result) =
     c.rank.ensures.rank ∙ ap rank c.y-item.is in
     let live : is_live c.args.keys.now c.rank.result ≡ true = ap (is_live c.args.keys.now) r_is
-    ∙ target-live c.args.g.now c.args.a c.size.ensures.grid c.args.cells.now c.requires.cells c.args.keys.now
+    ∙ target-live c.args.marks.now c.args.a c.size.ensures.grid c.args.cells.now c.requires.cells c.args.keys.now
     c.requires.keys c.args.key c.requires.key c.as_slice-y-items.result.now c.unrank-x.result x_is border
     c.loop-y.y-index c.y-item.result c.loop-y-test.true in
     let read = key_read_zero c.args.keys.now c.rank.result (live-below c.args.keys.now c.rank.result live) in
     let fresh = ap (λ r. among r (map rank (take c.loop-y.y-index c.as_slice-y-items.result.now))) r_is
-    ∙ target-fresh c.args.g.now c.args.a c.size.ensures.grid c.args.cells.now c.requires.cells c.args.keys.now
+    ∙ target-fresh c.args.marks.now c.args.a c.size.ensures.grid c.args.cells.now c.requires.cells c.args.keys.now
     c.requires.keys c.args.key c.requires.key c.as_slice-y-items.result.now c.unrank-x.result x_is border
     c.loop-y.y-index c.y-item.result c.loop-y-test.true in
     live-below c.args.keys.now c.rank.result live
@@ -64,35 +64,35 @@ bounds-keys-rank c =
 pub link-requires-clause-ends : goal.link-requires-clause-ends
 unfolding code_at
 link-requires-clause-ends c =
-    let x_is : c.unrank-x.result ≡ unrank (size c.args.g.now) (code_at c.args.cells.now c.args.key) =
+    let x_is : c.unrank-x.result ≡ unrank (size c.args.marks.now) (code_at c.args.cells.now c.args.key) =
     c.unrank-x.ensures.state ∙ ap (λ n. unrank n (code_at c.args.cells.now c.args.key)) c.size.ensures.size in
-    let border : map rank c.as_slice-y-items.result.now ≡ codes (border_of_state c.args.g.now c.unrank-x.result) =
-    listed-border c.args.g.now c.args.a c.args.cells.now c.requires.cells c.args.key c.requires.key c.unrank-x.result x_is
-    c.as_slice-y-items.result.now (c.as_slice-y-items.ensures ∙ c.targets-states.ensures.border) in
+    let border : map rank c.as_slice-y-items.result.now ≡ codes (border_of_state c.args.marks.now c.unrank-x.result) =
+    listed-border c.args.marks.now c.args.a c.args.cells.now c.requires.cells c.args.key c.requires.key c.unrank-x.result x_is
+    c.as_slice-y-items.result.now (c.as_slice-y-items.ensures ∙ c.targets_by-states.ensures.border) in
     let fits : SFits w32 c.args.a = search rules in
     let place =
-    subst (λ (a : ℤ). ArrowsPlace (at_alexander a (grid_complex c.args.g.now)) c.args.cells.now c.args.key
+    subst (λ (a : ℤ). ArrowsPlace (at_alexander a (grid_complex c.args.marks.now)) c.args.cells.now c.args.key
     (map rank (take c.loop-y.y-index c.as_slice-y-items.result.now)) c.loop-y.links)
     (to_z-of_z w32 c.args.a fits) c.loop-y.invariant.place in
     let r_is : c.rank.result ≡ rank (get_or c.as_slice-y-items.result.now c.loop-y.y-index c.y-item.result) =
     c.rank.ensures.rank ∙ ap rank c.y-item.is in
     let live : is_live c.args.keys.now c.rank.result ≡ true = ap (is_live c.args.keys.now) r_is
-    ∙ target-live c.args.g.now c.args.a c.size.ensures.grid c.args.cells.now c.requires.cells c.args.keys.now
+    ∙ target-live c.args.marks.now c.args.a c.size.ensures.grid c.args.cells.now c.requires.cells c.args.keys.now
     c.requires.keys c.args.key c.requires.key c.as_slice-y-items.result.now c.unrank-x.result x_is border
     c.loop-y.y-index c.y-item.result c.loop-y-test.true in
     let read = key_read_zero c.args.keys.now c.rank.result (live-below c.args.keys.now c.rank.result live) in
     let fresh = ap (λ r. among r (map rank (take c.loop-y.y-index c.as_slice-y-items.result.now))) r_is
-    ∙ target-fresh c.args.g.now c.args.a c.size.ensures.grid c.args.cells.now c.requires.cells c.args.keys.now
+    ∙ target-fresh c.args.marks.now c.args.a c.size.ensures.grid c.args.cells.now c.requires.cells c.args.keys.now
     c.requires.keys c.args.key c.requires.key c.as_slice-y-items.result.now c.unrank-x.result x_is border
     c.loop-y.y-index c.y-item.result c.loop-y-test.true in (
       source-in
-          (at_alexander c.args.a (grid_complex c.args.g.now)) c.args.cells.now c.args.keys.now c.requires.keys c.args.key
+          (at_alexander c.args.a (grid_complex c.args.marks.now)) c.args.cells.now c.args.keys.now c.requires.keys c.args.key
           c.requires.key
           (map rank (take c.loop-y.y-index c.as_slice-y-items.result.now)) c.loop-y.links place c.rank.result live
           fresh,
       subst (λ q. q < width c.loop-y.links) (sym read)
           (target-in
-          (at_alexander c.args.a (grid_complex c.args.g.now)) c.args.cells.now c.args.keys.now c.requires.keys c.args.key
+          (at_alexander c.args.a (grid_complex c.args.marks.now)) c.args.cells.now c.args.keys.now c.requires.keys c.args.key
           c.requires.key
           (map rank (take c.loop-y.y-index c.as_slice-y-items.result.now)) c.loop-y.links place c.rank.result live
           fresh),
@@ -101,74 +101,74 @@ link-requires-clause-ends c =
 pub link-requires-clause-absent : goal.link-requires-clause-absent
 unfolding code_at
 link-requires-clause-absent c =
-    let x_is : c.unrank-x.result ≡ unrank (size c.args.g.now) (code_at c.args.cells.now c.args.key) =
+    let x_is : c.unrank-x.result ≡ unrank (size c.args.marks.now) (code_at c.args.cells.now c.args.key) =
     c.unrank-x.ensures.state ∙ ap (λ n. unrank n (code_at c.args.cells.now c.args.key)) c.size.ensures.size in
-    let border : map rank c.as_slice-y-items.result.now ≡ codes (border_of_state c.args.g.now c.unrank-x.result) =
-    listed-border c.args.g.now c.args.a c.args.cells.now c.requires.cells c.args.key c.requires.key c.unrank-x.result x_is
-    c.as_slice-y-items.result.now (c.as_slice-y-items.ensures ∙ c.targets-states.ensures.border) in
+    let border : map rank c.as_slice-y-items.result.now ≡ codes (border_of_state c.args.marks.now c.unrank-x.result) =
+    listed-border c.args.marks.now c.args.a c.args.cells.now c.requires.cells c.args.key c.requires.key c.unrank-x.result x_is
+    c.as_slice-y-items.result.now (c.as_slice-y-items.ensures ∙ c.targets_by-states.ensures.border) in
     let fits : SFits w32 c.args.a = search rules in
     let place =
-    subst (λ (a : ℤ). ArrowsPlace (at_alexander a (grid_complex c.args.g.now)) c.args.cells.now c.args.key
+    subst (λ (a : ℤ). ArrowsPlace (at_alexander a (grid_complex c.args.marks.now)) c.args.cells.now c.args.key
     (map rank (take c.loop-y.y-index c.as_slice-y-items.result.now)) c.loop-y.links)
     (to_z-of_z w32 c.args.a fits) c.loop-y.invariant.place in
     let r_is : c.rank.result ≡ rank (get_or c.as_slice-y-items.result.now c.loop-y.y-index c.y-item.result) =
     c.rank.ensures.rank ∙ ap rank c.y-item.is in
     let live : is_live c.args.keys.now c.rank.result ≡ true = ap (is_live c.args.keys.now) r_is
-    ∙ target-live c.args.g.now c.args.a c.size.ensures.grid c.args.cells.now c.requires.cells c.args.keys.now
+    ∙ target-live c.args.marks.now c.args.a c.size.ensures.grid c.args.cells.now c.requires.cells c.args.keys.now
     c.requires.keys c.args.key c.requires.key c.as_slice-y-items.result.now c.unrank-x.result x_is border
     c.loop-y.y-index c.y-item.result c.loop-y-test.true in
     let read = key_read_zero c.args.keys.now c.rank.result (live-below c.args.keys.now c.rank.result live) in
     let fresh = ap (λ r. among r (map rank (take c.loop-y.y-index c.as_slice-y-items.result.now))) r_is
-    ∙ target-fresh c.args.g.now c.args.a c.size.ensures.grid c.args.cells.now c.requires.cells c.args.keys.now
+    ∙ target-fresh c.args.marks.now c.args.a c.size.ensures.grid c.args.cells.now c.requires.cells c.args.keys.now
     c.requires.keys c.args.key c.requires.key c.as_slice-y-items.result.now c.unrank-x.result x_is border
     c.loop-y.y-index c.y-item.result c.loop-y-test.true in
     ap (has_arrow c.loop-y.links c.args.key) read
     ∙ not-yet
-    (at_alexander c.args.a (grid_complex c.args.g.now)) c.args.cells.now c.args.keys.now c.requires.keys c.args.key
+    (at_alexander c.args.a (grid_complex c.args.marks.now)) c.args.cells.now c.args.keys.now c.requires.keys c.args.key
     c.requires.key
     (map rank (take c.loop-y.y-index c.as_slice-y-items.result.now)) c.loop-y.links place c.rank.result live fresh
 
 pub loop-y-preserved : goal.loop-y-preserved
 unfolding code_at
 loop-y-preserved c =
-    let x_is : c.unrank-x.result ≡ unrank (size c.args.g.now) (code_at c.args.cells.now c.args.key) =
+    let x_is : c.unrank-x.result ≡ unrank (size c.args.marks.now) (code_at c.args.cells.now c.args.key) =
     c.unrank-x.ensures.state ∙ ap (λ n. unrank n (code_at c.args.cells.now c.args.key)) c.size.ensures.size in
-    let border : map rank c.as_slice-y-items.result.now ≡ codes (border_of_state c.args.g.now c.unrank-x.result) =
-    listed-border c.args.g.now c.args.a c.args.cells.now c.requires.cells c.args.key c.requires.key c.unrank-x.result x_is
-    c.as_slice-y-items.result.now (c.as_slice-y-items.ensures ∙ c.targets-states.ensures.border) in
+    let border : map rank c.as_slice-y-items.result.now ≡ codes (border_of_state c.args.marks.now c.unrank-x.result) =
+    listed-border c.args.marks.now c.args.a c.args.cells.now c.requires.cells c.args.key c.requires.key c.unrank-x.result x_is
+    c.as_slice-y-items.result.now (c.as_slice-y-items.ensures ∙ c.targets_by-states.ensures.border) in
     let fits : SFits w32 c.args.a = search rules in
     let place =
-    subst (λ (a : ℤ). ArrowsPlace (at_alexander a (grid_complex c.args.g.now)) c.args.cells.now c.args.key
+    subst (λ (a : ℤ). ArrowsPlace (at_alexander a (grid_complex c.args.marks.now)) c.args.cells.now c.args.key
     (map rank (take c.loop-y.y-index c.as_slice-y-items.result.now)) c.loop-y.links)
     (to_z-of_z w32 c.args.a fits) c.loop-y.invariant.place in
     let r_is : c.rank.result ≡ rank (get_or c.as_slice-y-items.result.now c.loop-y.y-index c.y-item.result) =
     c.rank.ensures.rank ∙ ap rank c.y-item.is in
     let live : is_live c.args.keys.now c.rank.result ≡ true = ap (is_live c.args.keys.now) r_is
-    ∙ target-live c.args.g.now c.args.a c.size.ensures.grid c.args.cells.now c.requires.cells c.args.keys.now
+    ∙ target-live c.args.marks.now c.args.a c.size.ensures.grid c.args.cells.now c.requires.cells c.args.keys.now
     c.requires.keys c.args.key c.requires.key c.as_slice-y-items.result.now c.unrank-x.result x_is border
     c.loop-y.y-index c.y-item.result c.loop-y-test.true in
     let read = key_read_zero c.args.keys.now c.rank.result (live-below c.args.keys.now c.rank.result live) in
     let fresh = ap (λ r. among r (map rank (take c.loop-y.y-index c.as_slice-y-items.result.now))) r_is
-    ∙ target-fresh c.args.g.now c.args.a c.size.ensures.grid c.args.cells.now c.requires.cells c.args.keys.now
+    ∙ target-fresh c.args.marks.now c.args.a c.size.ensures.grid c.args.cells.now c.requires.cells c.args.keys.now
     c.requires.keys c.args.key c.requires.key c.as_slice-y-items.result.now c.unrank-x.result x_is border
     c.loop-y.y-index c.y-item.result c.loop-y-test.true in
     let linked = subst (λ q. IsLinked c.args.key q c.loop-y.links c.link.new.self) read c.link.ensures.linked in
     let more =
-    read-more c.args.g.now c.args.a c.size.ensures.grid c.args.cells.now c.requires.cells c.args.keys.now
+    read-more c.args.marks.now c.args.a c.size.ensures.grid c.args.cells.now c.requires.cells c.args.keys.now
     c.requires.keys c.args.key c.requires.key c.as_slice-y-items.result.now c.unrank-x.result x_is border
     c.loop-y.y-index c.y-item.result c.loop-y-test.true
     ∙ ap (λ r. map rank (take c.loop-y.y-index c.as_slice-y-items.result.now) ++ r ∷ []) (sym r_is) in
     let left = c.link.ensures.room in
     let room = c.loop-y.invariant.room in
     record {
-      place = subst (λ (a : ℤ). ArrowsPlace (at_alexander a (grid_complex c.args.g.now)) c.args.cells.now c.args.key
+      place = subst (λ (a : ℤ). ArrowsPlace (at_alexander a (grid_complex c.args.marks.now)) c.args.cells.now c.args.key
           (map rank (take (c.loop-y.y-index + 1) c.as_slice-y-items.result.now)) c.link.new.self)
           (sym (to_z-of_z w32 c.args.a fits))
           (subst (λ done. ArrowsPlace
-          (at_alexander c.args.a (grid_complex c.args.g.now)) c.args.cells.now c.args.key done c.link.new.self)
+          (at_alexander c.args.a (grid_complex c.args.marks.now)) c.args.cells.now c.args.key done c.link.new.self)
           (sym more)
           (arrows-step
-          (at_alexander c.args.a (grid_complex c.args.g.now)) c.args.cells.now c.args.keys.now c.requires.keys c.args.key
+          (at_alexander c.args.a (grid_complex c.args.marks.now)) c.args.cells.now c.args.keys.now c.requires.keys c.args.key
           c.requires.key
           (map rank (take c.loop-y.y-index c.as_slice-y-items.result.now)) c.loop-y.links place c.rank.result live
           fresh c.link.new.self c.link.ensures.listed linked));
@@ -178,20 +178,20 @@ loop-y-preserved c =
 pub returns : goal.returns
 unfolding code_at
 returns c =
-    let x_is : c.unrank-x.result ≡ unrank (size c.args.g.now) (code_at c.args.cells.now c.args.key) =
+    let x_is : c.unrank-x.result ≡ unrank (size c.args.marks.now) (code_at c.args.cells.now c.args.key) =
     c.unrank-x.ensures.state ∙ ap (λ n. unrank n (code_at c.args.cells.now c.args.key)) c.size.ensures.size in
-    let border : map rank c.as_slice-y-items.result.now ≡ codes (border_of_state c.args.g.now c.unrank-x.result) =
-    listed-border c.args.g.now c.args.a c.args.cells.now c.requires.cells c.args.key c.requires.key c.unrank-x.result x_is
-    c.as_slice-y-items.result.now (c.as_slice-y-items.ensures ∙ c.targets-states.ensures.border) in
+    let border : map rank c.as_slice-y-items.result.now ≡ codes (border_of_state c.args.marks.now c.unrank-x.result) =
+    listed-border c.args.marks.now c.args.a c.args.cells.now c.requires.cells c.args.key c.requires.key c.unrank-x.result x_is
+    c.as_slice-y-items.result.now (c.as_slice-y-items.ensures ∙ c.targets_by-states.ensures.border) in
     let fits : SFits w32 c.args.a = search rules in
     let place =
-    subst (λ (a : ℤ). ArrowsPlace (at_alexander a (grid_complex c.args.g.now)) c.args.cells.now c.args.key
+    subst (λ (a : ℤ). ArrowsPlace (at_alexander a (grid_complex c.args.marks.now)) c.args.cells.now c.args.key
     (map rank (take c.loop-y.y-index c.as_slice-y-items.result.now)) c.loop-y.links)
     (to_z-of_z w32 c.args.a fits) c.loop-y.invariant.place in
     let all = ap (map rank) (take_all c.loop-y.y-index c.as_slice-y-items.result.now c.loop-y-test.false) in
-    arrows-end (at_alexander c.args.a (grid_complex c.args.g.now)) c.args.cells.now c.args.key
+    arrows-end (at_alexander c.args.a (grid_complex c.args.marks.now)) c.args.cells.now c.args.key
     (map rank c.as_slice-y-items.result.now) c.loop-y.links
     (subst (λ done. ArrowsPlace
-    (at_alexander c.args.a (grid_complex c.args.g.now)) c.args.cells.now c.args.key done c.loop-y.links) all place)
-    (all-targets c.args.g.now c.args.a c.size.ensures.grid c.args.cells.now c.requires.cells c.args.keys.now
+    (at_alexander c.args.a (grid_complex c.args.marks.now)) c.args.cells.now c.args.key done c.loop-y.links) all place)
+    (all-targets c.args.marks.now c.args.a c.size.ensures.grid c.args.cells.now c.requires.cells c.args.keys.now
     c.requires.keys c.args.key c.requires.key c.as_slice-y-items.result.now c.unrank-x.result x_is border)

@@ -19,7 +19,7 @@ use Rattle.std.proofs.Math.IntN.{ℤ}
 use Rattle.rectangles.specs.Inner.Open.{is_open, odd_bit, exchanges_below, exchanges_above}
 use Rattle.rectangles.proofs.Sweep.PushLemmas.{odd_bit-open}
 use Rattle.rectangles.proofs.Sweep.TargetLemmas.{targets_border, targets_few, targets_states}
-use Rattle.rectangles.proofs.target_states.targets.Goals as goal
+use Rattle.rectangles.proofs.target_states.targets_by.Goals as goal
 
 module _ (g : Marks) (s : IsGrid g) (x : List ℕ) (sx : IsState x) (same : length x ≡ size g)
     (opens odds columns : List ℕ) (turned : columns ≡ transpose x)
@@ -119,7 +119,7 @@ module _ (g : Marks) (s : IsGrid g) (x : List ℕ) (sx : IsState x) (same : leng
 
 pub push_below-requires-clause-room : goal.push_below-requires-clause-room
 push_below-requires-clause-room c =
-    room_below c.args.g.now c.open_rectangles-opens.ensures.grid c.args.x.now c.odd_pairs-odds.ensures.state
+    room_below c.args.marks.now c.open_rectangles-opens.ensures.grid c.args.x.now c.odd_pairs-odds.ensures.state
     c.requires.size
     c.open_rectangles-opens.result c.odd_pairs-odds.result c.transpose-columns.result c.transpose-columns.ensures.state
     c.open_rectangles-opens.ensures.rectangles c.odd_pairs-odds.ensures.odd
@@ -128,7 +128,7 @@ push_below-requires-clause-room c =
 
 pub push_above-requires-clause-room : goal.push_above-requires-clause-room
 push_above-requires-clause-room c =
-    room_above c.args.g.now c.open_rectangles-opens.ensures.grid c.args.x.now c.odd_pairs-odds.ensures.state
+    room_above c.args.marks.now c.open_rectangles-opens.ensures.grid c.args.x.now c.odd_pairs-odds.ensures.state
     c.requires.size
     c.open_rectangles-opens.result c.odd_pairs-odds.result c.transpose-columns.result c.transpose-columns.ensures.state
     c.open_rectangles-opens.ensures.rectangles c.odd_pairs-odds.ensures.odd
@@ -141,7 +141,7 @@ push_above-requires-clause-room c =
 
 pub returns-clause-border : goal.returns-clause-border
 returns-clause-border c =
-    in_order c.args.g.now c.open_rectangles-opens.ensures.grid c.args.x.now c.odd_pairs-odds.ensures.state c.requires.size
+    in_order c.args.marks.now c.open_rectangles-opens.ensures.grid c.args.x.now c.odd_pairs-odds.ensures.state c.requires.size
     c.open_rectangles-opens.result c.odd_pairs-odds.result c.transpose-columns.result c.transpose-columns.ensures.state
     c.open_rectangles-opens.ensures.rectangles c.odd_pairs-odds.ensures.odd
     c.push_above.new.states.items
@@ -156,7 +156,7 @@ returns-clause-border c =
 
 pub returns-clause-few : goal.returns-clause-few
 returns-clause-few c =
-    few_listed c.args.g.now c.open_rectangles-opens.ensures.grid c.args.x.now c.odd_pairs-odds.ensures.state c.requires.size
+    few_listed c.args.marks.now c.open_rectangles-opens.ensures.grid c.args.x.now c.odd_pairs-odds.ensures.state c.requires.size
     c.open_rectangles-opens.result c.odd_pairs-odds.result c.transpose-columns.result c.transpose-columns.ensures.state
     c.open_rectangles-opens.ensures.rectangles c.odd_pairs-odds.ensures.odd
     c.push_above.new.states.items
@@ -171,7 +171,7 @@ returns-clause-few c =
 
 pub returns-clause-states : goal.returns-clause-states
 returns-clause-states c =
-    each_listed c.args.g.now c.open_rectangles-opens.ensures.grid c.args.x.now c.odd_pairs-odds.ensures.state
+    each_listed c.args.marks.now c.open_rectangles-opens.ensures.grid c.args.x.now c.odd_pairs-odds.ensures.state
     c.requires.size
     c.open_rectangles-opens.result c.odd_pairs-odds.result c.transpose-columns.result c.transpose-columns.ensures.state
     c.open_rectangles-opens.ensures.rectangles c.odd_pairs-odds.ensures.odd
@@ -187,9 +187,9 @@ returns-clause-states c =
 
 -- each state of the list has the degree below that of x
 degrees : (c : goal.After-push_above)
-    → All (λ y. bidegree c.args.g.now c.args.x.now ≡ up_m (bidegree c.args.g.now y)) c.push_above.new.states.items
+    → All (λ y. bidegree c.args.marks.now c.args.x.now ≡ up_m (bidegree c.args.marks.now y)) c.push_above.new.states.items
 degrees c =
-    degrees_listed c.args.g.now c.open_rectangles-opens.ensures.grid c.args.x.now c.odd_pairs-odds.ensures.state
+    degrees_listed c.args.marks.now c.open_rectangles-opens.ensures.grid c.args.x.now c.odd_pairs-odds.ensures.state
     c.requires.size
     c.open_rectangles-opens.result c.odd_pairs-odds.result c.transpose-columns.result c.transpose-columns.ensures.state
     c.open_rectangles-opens.ensures.rectangles c.odd_pairs-odds.ensures.odd
