@@ -37,7 +37,7 @@ pairs-IsApart (x ∷ xs) apart zero (suc j) d l k e =
     false≢true (sym apart.0 ∙ ap (λ y. any y xs) e ∙ any-at xs j d (omega arith))
 pairs-IsApart (x ∷ xs) apart (suc i) (suc j) d l k e = pairs-IsApart xs apart.1 i j d (omega arith) (omega arith) e
 
--- the chain after each of the codes was toggled_by, in order
+-- the chain after each of the codes was toggled, in order
 abbrev pub toggled_by : Chain → List ℕ → Chain
 toggled_by z [] = z
 toggled_by z (x ∷ xs) = toggled_by (z ⊕ single x) xs
@@ -50,7 +50,7 @@ toggled-sum z (x ∷ xs) apart =
     ∙ add_assoc z (single x) (of_codes xs)
     ∙ ap (λ c. z ⊕ c) (sym (of_codes-cons x xs apart.0))
 
--- where none is ahead, all were toggled_by
+-- where none is ahead, all were toggled
 pub toggled-all : (z w : Chain) (xs : List ℕ) (k : ℕ) → k ≡ length xs → AllPairs (λ b c. b ≢ c) xs
     → toggled_by w (drop k xs) ≡ toggled_by z xs → w ≡ z ⊕ of_codes xs
 toggled-all z w xs k all once so_far =

@@ -10,10 +10,11 @@ use Rattle.f2_algebra.specs.Chain.{Chain, holds, nothing, of_codes, where_code}
 use Rattle.f2_algebra.specs.Complex.{Complex, arrow}
 use Rattle.f2_algebra.specs.Cancel.{Entry, IsEntry, IsLog, after, cancelled}
 use Rattle.f2_algebra.specs.Slice.{Slice, slice_complex, degree_in, targets_in, IsReduced}
-use Rattle.f2_algebra.proofs.Chains.Sets.{any-is, same_chain, holds-nothing, holds-of_codes, holds-where_code, cardinality, cardinality-without}
+use Rattle.f2_algebra.proofs.Chains.Sets.{any-is, same_chain, holds-nothing, holds-of_codes, holds-where_code}
 use Rattle.f2_algebra.proofs.Chains.Tables.{same}
 use Rattle.cancel.specs.declared.logs.LogEntry.{LogEntry}
 use Rattle.cancel.specs.Logs.{entry_of, log_of, HasEachOnce, IsPartlyCancelled}
+use Rattle.f2_algebra.proofs.Chains.Cardinality.{cardinality, cardinality-without}
 
 -- ---- one more entry
 -- a log that stands, with an entry of what is left after it, stands

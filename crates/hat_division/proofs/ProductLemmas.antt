@@ -16,7 +16,7 @@ use Rattle.hat_division.specs.declared.tables.TableRow.{TableRow}
 use Rattle.hat_division.proofs.SumLemmas.{sum_first-le, term-le, term-found, sum_first-scaled, sum-binomials, binomial-none, binomial-positive}
 use Rattle.hat_division.proofs.RankLemmas.{apart, apart_back, ordered_or_together, comes_before-transitive, degrees_of, stands_itself, rank_at-nil, rank_at-insert, part_at-here, part_at-elsewhere, rank_at-le, rank_at-none, row_found, rank_at-row}
 
--- a product_term of the product
+-- a term of the product
 abbrev pub product_term : ℕ → List TableRow → ℤ → ℤ → ℕ → ℕ
 product_term k rows m a i = binomial k i * rank_at rows (m +ℤ pos i) (a +ℤ pos i)
 
@@ -28,7 +28,7 @@ product_rank-sum k rows m a = refl
 plus_none : (z : ℤ) → z +ℤ pos 0 ≡ z
 plus_none z = omega (arith, ints)
 
--- the first product_term is the rank itself
+-- the first term is the rank itself
 pub term-first : (k : ℕ) (rows : List TableRow) (m a : ℤ) → product_term k rows m a 0 ≡ rank_at rows m a
 term-first k rows m a =
     let place : rank_at rows (m +ℤ pos 0) (a +ℤ pos 0) ≡ rank_at rows m a =

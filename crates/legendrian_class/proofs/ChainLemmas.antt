@@ -6,10 +6,11 @@ use Rattle.std.specs.Option.{IfSome, IsNone}
 use Rattle.std.proofs.Math.Seq.{drop-cons, drop-length}
 use Rattle.std.proofs.lemmas.Bool.{cases_Bool, eqb-true, eq-eqb, false≢true}
 use Rattle.f2_algebra.specs.Chain.{Chain, holds, codes, nothing, single, of_codes, ◌⊕◌, where_code}
-use Rattle.f2_algebra.proofs.Chains.Sets.{any, any-filter, same_chain, holds-nothing, holds-codes, IsApart, IsApart-codes, cardinality-length, cardinality-of_codes}
+use Rattle.f2_algebra.proofs.Chains.Sets.{any, any-filter, same_chain, holds-nothing, holds-codes, IsApart, IsApart-codes}
 use Rattle.f2_algebra.proofs.Chains.Sums.{add_assoc, add-nothing, nothing-add}
 use Rattle.f2_algebra.proofs.Chains.Lists.{of_codes-cons, rising-codes, rises}
 use Rattle.legendrian_class.specs.Inner.Parts.{IsLeast}
+use Rattle.f2_algebra.proofs.Chains.Cardinality.{cardinality-length, cardinality-of_codes}
 
 -- ---- each code
 each_in : (P : ℕ → Type 0) (xs : List ℕ) → ((k : ℕ) → k < length xs → P (slice_index xs k)) → (s : ℕ) → any s xs ≡ true

@@ -1,7 +1,10 @@
 pub mod CyclicSteps
 pub mod PairedTerms
 pub mod RowArcs
+pub mod PentagonTests
 pub mod Pentagons
+pub mod PentagonSteps
+pub mod ThinColumns
 pub mod ThinAnnuli
 pub mod FourRows
 pub mod StepSums

@@ -8,7 +8,7 @@ use Rattle.f2_algebra.specs.Complex.{arrow}
 use Rattle.f2_algebra.specs.Cancel.{IsEntry}
 use Rattle.f2_algebra.specs.Slice.{Slice, slice_complex, targets_in}
 use Rattle.f2_algebra.proofs.Chains.Tables.{same, same_test}
-use Rattle.f2_algebra.proofs.Chains.Sets.{any, any-is, any-filter, holds-of_codes, holds-nothing, holds-where_code, same_chain, cardinality, cardinality-length, cardinality-of_codes, IsApart}
+use Rattle.f2_algebra.proofs.Chains.Sets.{any, any-is, any-filter, holds-of_codes, holds-nothing, holds-where_code, same_chain, IsApart}
 use Rattle.sparse_complex.specs.declared.links.Links.{Links}
 use Rattle.sparse_complex.specs.declared.slices.Cell.{Cell}
 use Rattle.sparse_complex.specs.Slices.{other_sources, other_targets, fill}
@@ -19,6 +19,7 @@ use Rattle.sparse_complex.proofs.ListLemmas.{in_head, in_tail, AreDistinct-filte
 use Rattle.sparse_complex.proofs.GraphLemmas.{has_arrow-sources, has_arrow-targets}
 use Rattle.sparse_complex.proofs.StoredLemmas.{same_key, no_arrow-from, no_arrow-to}
 use Rattle.sparse_complex.proofs.QueryLemmas.{distinct-source_codes, distinct-target_codes, among-source_codes, among-target_codes}
+use Rattle.f2_algebra.proofs.Chains.Cardinality.{cardinality, cardinality-length, cardinality-of_codes}
 
 -- ---- an entry of a slice
 -- a code that has an arrow is a key of the map

@@ -145,7 +145,7 @@ is_node-put nodes id n i l = is_node-insert nodes id n i ∙ ap (λ b. eqb i id 
     either true = refl
     either false = refl
 
--- the nodes when the node of the heads h and g is put_in in
+-- the nodes when the node of the heads h and g is put in
 abbrev pub put_in : Nodes → ℕ → Head → Head → ℕ → ℕ → Nodes
 put_in nodes id h g p q =
     fin.insert nodes id (record {

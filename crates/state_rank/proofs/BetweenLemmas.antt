@@ -24,7 +24,7 @@ row_from n x z s t q l same =
       | inr m ↦ (h.0, (m, h.1), h.2)
     ]
 
--- x and a later state do not first first_difference where the rows of x fall
+-- x and a later state do not first differ where the rows of x fall
 not_where_falling : (n : ℕ) (x z : List ℕ) → IsBijection n x → IsBijection n z → (a q : ℕ) → FallsFrom a x → a ≤ q
     → q < n → FirstDiffer x z q → ⊥
 not_where_falling n x z s t a q falls l m d =
@@ -44,7 +44,7 @@ pub record IsStep (n : ℕ) (x y : List ℕ) (p : ℕ) : Type 0 where
   pub rises : (i j : ℕ) → p < i → i < j → j < n → slice_index y i ≤ slice_index y j
   pub least : (i : ℕ) → p < i → i < n → slice_index x p < slice_index x i → slice_index y p ≤ slice_index x i
 
--- an earlier state and y do not first first_difference behind p
+-- an earlier state and y do not first differ behind p
 not_where_rising : (n : ℕ) (x y z : List ℕ) (p q : ℕ) → IsStep n x y p → IsBijection n y → IsBijection n z → p < q
     → q < n → FirstDiffer z y q → ⊥
 not_where_rising n x y z p q k t u l m d =

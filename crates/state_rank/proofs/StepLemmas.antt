@@ -38,7 +38,7 @@ pub record FirstDiffer (x y : List ℕ) (q : ℕ) : Type 0 where
   pub same : (i : ℕ) → i < q → slice_index x i ≡ slice_index y i
   pub up : slice_index x q < slice_index y q
 
--- the first place in which a state and a later one first_difference
+-- the first place in which a state and a later one differ
 pub first_difference : (x y : List ℕ) → length x ≡ length y → is_before x y ≡ true → (q : ℕ) × (q < length x) × FirstDiffer x y q
 first_difference [] y e h = absurd (true≢false (sym h))
 first_difference (r ∷ x) [] e h = absurd (omega arith)

@@ -7,10 +7,11 @@ use Rattle.f2_algebra.specs.Complex.{Complex, IsComplex}
 use Rattle.f2_algebra.specs.Cancel.{is_one_of, without, cancelled, Entry, IsEntry, IsLog, after}
 use Rattle.f2_algebra.specs.Certificate.{IsAllCells}
 use Rattle.f2_algebra.proofs.Chains.Tables.{and-true, same_test}
-use Rattle.f2_algebra.proofs.Chains.Sets.{same_chain, holds-where_code, cardinality, cardinality-without}
+use Rattle.f2_algebra.proofs.Chains.Sets.{same_chain, holds-where_code}
 use Rattle.f2_algebra.proofs.Cancelling.Cancellation.{same_some, ends_differ, degree-cancelled, cancelled_IsComplex}
 use Rattle.f2_algebra.proofs.Cancelling.LogLemmas.{live_code, live_below, not_one}
 use Rattle.f2_algebra.proofs.Certificates.LogCertificate.{IsTest, step_pairs, lifted_pair, own_pair, test_after, x_live}
+use Rattle.f2_algebra.proofs.Chains.Cardinality.{cardinality, cardinality-without}
 
 two_tests : (h a b : Bool) → (h && not (a || b)) ≡ ((h && not a) && not b)
 two_tests true true b = refl

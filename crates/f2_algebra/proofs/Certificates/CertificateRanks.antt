@@ -7,7 +7,7 @@ use Rattle.f2_algebra.specs.Chain.{Chain, holds, codes, nothing}
 use Rattle.f2_algebra.specs.Complex.{Complex, IsComplex, AllOfDegree, IsCycle, IsRank}
 use Rattle.f2_algebra.specs.Cancel.{Entry, IsLog, after}
 use Rattle.f2_algebra.specs.Certificate.{StepPair, AreStepPairs, CertCell, steps_at, IsCertCell, Passes}
-use Rattle.f2_algebra.proofs.Chains.Sets.{any, same_chain, holds-nothing, holds-codes, cardinality-length}
+use Rattle.f2_algebra.proofs.Chains.Sets.{any, same_chain, holds-nothing, holds-codes}
 use Rattle.f2_algebra.proofs.Chains.Sums.{add-nothing}
 use Rattle.f2_algebra.proofs.Cancelling.Cancellation.{border-nothing}
 use Rattle.f2_algebra.proofs.Cancelling.LogLemmas.{none_where, live_at_first}
@@ -17,6 +17,7 @@ use Rattle.f2_algebra.proofs.Certificates.Span.{Every}
 use Rattle.f2_algebra.proofs.Certificates.Certificate.{Every-All, all_from, rank_of_certificate}
 use Rattle.f2_algebra.proofs.Certificates.LogCertificate.{IsTest, step_pairs, own_pair, lifted_pair, cycle_pair, step_pairs_pass, cycle_pairs_pass}
 use Rattle.f2_algebra.proofs.Cancelling.LogCounts.{count_log}
+use Rattle.f2_algebra.proofs.Chains.Cardinality.{cardinality-length}
 
 -- a degree that no cell has is of rank 0
 pub rank_none : {G : Type 0} (C : Complex G) (m : G) → ((s : ℕ) → C.degree s ≡ Some m → ⊥) → IsRank C m 0

@@ -1,6 +1,6 @@
 -- What a chain holds, and the weight of a test over its codes: whether an odd number of them pass it.
-use Rattle.std.proofs.Common.{◌≡◌, ℕ, zero, suc, ◌+◌, ◌<◌, Bool, true, false, not, cond, T, ◌&&◌, ◌||◌, eqb, List, [], ◌∷◌, ◌++◌, map, length, Option, Some, None, is_some, ◌⊎◌, inl, inr, refl, sym, ap, ap₂, subst, ◌∙◌, arith, nat_cmp, is_lt, All}
-use Rattle.std.proofs.lemmas.Bool.{eqb-true, ne_eqb, eq-eqb, true≢false, false≢true, cases_eq}
+use Rattle.std.proofs.Common.{◌≡◌, ℕ, suc, ◌+◌, ◌<◌, Bool, true, false, not, cond, T, ◌&&◌, ◌||◌, eqb, List, [], ◌∷◌, ◌++◌, map, length, Option, Some, None, is_some, ◌⊎◌, inl, inr, refl, sym, ap, ap₂, subst, ◌∙◌, arith, nat_cmp, is_lt, All}
+use Rattle.std.proofs.lemmas.Bool.{eqb-true, ne_eqb, eq-eqb, true≢false, false≢true}
 use Rattle.std.specs.List.{filter, list_any}
 use Rattle.std.specs.Ordering.{eq_by_cmp}
 use Rattle.std.specs.Cmp.{nat_cmp_total, unsigned_tied}
@@ -10,7 +10,7 @@ use Rattle.std.proofs.Math.Bool.{or_assoc, or-false}
 use Rattle.f2_algebra.specs.Chain.{Chain, holds, codes, of_codes, nothing, single, ◌⊕◌, is_odd, pairs_oddly, where_code}
 pub use Rattle.f2_algebra.proofs.Chains.ParityLemmas.{parity, parity-xor}
 use Rattle.f2_algebra.proofs.Chains.ParityLemmas.{below, parity_below, parity_below-same, parity_below-one, parity-false, is_odd-filter}
-use Rattle.f2_algebra.proofs.Chains.Tables.{◌⊻◌, and_comm, and_assoc, and-false, xor-false, xor_assoc, xor-and, xor_or}
+use Rattle.f2_algebra.proofs.Chains.Tables.{◌⊻◌, and_comm, and_assoc, xor-false, xor_assoc, xor-and, xor_or}
 use Rattle.std.proofs.lemmas.Map.Views.{Contains-from_any}
 
 -- ---- membership in lists
@@ -109,12 +109,12 @@ second false b p = absurd p
 below_itself : (y : ℕ) → T (is_lt (nat_cmp y y)) → ⊥
 below_itself y l = grind arith
 
-apart : (x y : ℕ) → T (is_lt (nat_cmp x y)) → eqb x y ≡ false
-apart x y l = ne_eqb x y (λ e. below_itself y (subst (λ a. T (is_lt (nat_cmp a y))) e l))
+pub lt-ne : (x y : ℕ) → T (is_lt (nat_cmp x y)) → eqb x y ≡ false
+lt-ne x y l = ne_eqb x y (λ e. below_itself y (subst (λ a. T (is_lt (nat_cmp a y))) e l))
 
 below-absent : (x : ℕ) (es : List (ℕ × Unit {0})) → T (below_all nat_cmp x es) → any x (map (λ e. e.0) es) ≡ false
 below-absent x [] h = refl
-below-absent x (e ∷ es) h = ap₂ ◌||◌ (apart x e.0 (first _ _ h)) (below-absent x es (second _ _ h))
+below-absent x (e ∷ es) h = ap₂ ◌||◌ (lt-ne x e.0 (first _ _ h)) (below-absent x es (second _ _ h))
 
 -- no element of the list comes twice
 abbrev pub IsApart : List ℕ → Type 0
@@ -137,7 +137,7 @@ or-apart false m p h = refl
 any-moved : (k x : ℕ) (xs : List ℕ) → any x xs ≡ false → eqb k x ≡ true → any k xs ≡ false
 any-moved k x xs h e = ap (λ j. any j xs) (eqb-true k x e) ∙ h
 
-or-right : (a : Bool) {b : Bool} → b ≡ true → (a || b) ≡ true
+pub or-right : (a : Bool) {b : Bool} → b ≡ true → (a || b) ≡ true
 or-right true e = refl
 or-right false e = e
 
@@ -157,7 +157,7 @@ parity-same p r (x ∷ xs) e =
     ap₂ ◌⊻◌ (e x (ap (λ b. b || any x xs) (eq-eqb x x refl))) (parity-same p r xs (λ s a. e s (or-right (eqb s x) a)))
 
 -- ---- a number above each code of a list
-above : List ℕ → ℕ
+pub above : List ℕ → ℕ
 above [] = 0
 above (x ∷ xs) = suc x + above xs
 
@@ -165,7 +165,7 @@ above-by : (s x n : ℕ) (b m : Bool) → eqb s x ≡ b → (m ≡ true → s < 
 above-by s x n true m e l a = let h = eqb-true s x e in omega arith
 above-by s x n false m e l a = let h = l a in omega arith
 
-above-lt : (xs : List ℕ) (s : ℕ) → any s xs ≡ true → s < above xs
+pub above-lt : (xs : List ℕ) (s : ℕ) → any s xs ≡ true → s < above xs
 unfolding above
 above-lt [] s a = absurd (false≢true a)
 above-lt (x ∷ xs) s a = above-by s x (above xs) (eqb s x) (any s xs) refl (above-lt xs s) a
@@ -181,7 +181,7 @@ weight-parity_below p z n l =
     parity-parity_below p (codes z) n (IsApart-codes z) (λ s a. l s (holds-codes z s ∙ a))
     ∙ parity_below-same n _ _ (λ k _. ap (λ b. b && p k) (sym (holds-codes z k)))
 
-bound : (z : Chain) (s : ℕ) → holds z s ≡ true → s < above (codes z)
+pub bound : (z : Chain) (s : ℕ) → holds z s ≡ true → s < above (codes z)
 bound z s h = above-lt (codes z) s (sym (holds-codes z s) ∙ h)
 
 -- of two tests whose exclusive or holds one holds
@@ -277,7 +277,7 @@ weight-none z = none (codes z)
     none [] = refl
     none (x ∷ xs) = none xs
 
-and-true : (a b : Bool) → (a && b) ≡ true → a ≡ true
+pub and-true : (a b : Bool) → (a && b) ≡ true → a ≡ true
 and-true true b h = refl
 and-true false b h = h
 
@@ -289,103 +289,6 @@ weight-where p r z =
     (λ s h. bound z s (and-true (holds z s) (p s) (sym (holds-where_code p z s) ∙ h)))
     ∙ parity_below-same n _ _ (λ k _. ap (λ b. b && r k) (holds-where_code p z k) ∙ and_assoc (holds z k) (p k) (r k))
     ∙ sym (weight-parity_below (λ s. p s && r s) z n (λ s h. bound z s h))
-
--- ---- how many codes a chain has
-tally : ℕ → (ℕ → Bool) → ℕ
-tally zero g = 0
-tally (suc n) g = cond (g n) 1 0 + tally n g
-
-tally-same : (n : ℕ) (g h : ℕ → Bool) → ((k : ℕ) → k < n → g k ≡ h k) → tally n g ≡ tally n h
-unfolding tally
-tally-same zero g h e = refl
-tally-same (suc n) g h e = ap₂ (λ a b. cond a 1 0 + b) (e n (omega arith)) (tally-same n g h (λ k l. e k (omega arith)))
-
-tally-none : (n : ℕ) → tally n (λ k. false) ≡ 0
-unfolding tally
-tally-none zero = refl
-tally-none (suc n) = omega (arith, tally-none n)
-
-tally-more : (n x : ℕ) (g : ℕ → Bool) → g x ≡ false → x < n → tally n (λ k. eqb k x || g k) ≡ suc (tally n g)
-unfolding tally
-tally-more zero x g h l = absurd (omega arith)
-tally-more (suc n) x g h l = elim (cases_eq x n) [
-  | inl e ↦
-      let new : g n ≡ false = ap g (sym e) ∙ h in
-      let mid : 1 + tally n g ≡ suc (0 + tally n g) = omega arith in
-      ap₂ (λ a b. cond (a || g n) 1 0 + b) (eq-eqb n x (sym e))
-      (tally-same n _ g (λ k m. ap (λ a. a || g k) (ne_eqb k x (λ s. omega arith))))
-      ∙ mid ∙ ap (λ a. suc (cond a 1 0 + tally n g)) (sym new)
-  | inr d ↦
-      let rest = tally-more n x g h (omega arith) in
-      let old : eqb n x ≡ false = ne_eqb n x (λ s. d (sym s)) in
-      ap₂ (λ a b. cond (a || g n) 1 0 + b) old rest ∙ omega arith
-]
-
-length-tally : (xs : List ℕ) (n : ℕ) → IsApart xs → ((s : ℕ) → any s xs ≡ true → s < n)
-    → length xs ≡ tally n (λ k. any k xs)
-length-tally [] n d l = sym (tally-none n)
-length-tally (x ∷ xs) n d l =
-    ap suc (length-tally xs n d.1 (λ s a. l s (or-right (eqb s x) a)))
-    ∙ sym (tally-more n x (λ k. any k xs) d.0 (l x (ap (λ b. b || any x xs) (eq-eqb x x refl))))
-
--- the number of codes of a chain
-pub cardinality : Chain → ℕ
-cardinality z = length (codes z)
-
--- it is the length of the list of codes
-pub cardinality-length : (z : Chain) → cardinality z ≡ length (codes z)
-unfolding cardinality
-cardinality-length z = refl
-
-cardinality-tally : (z : Chain) (n : ℕ) → ((s : ℕ) → holds z s ≡ true → s < n) → cardinality z ≡ tally n (holds z)
-unfolding cardinality
-cardinality-tally z n l = length-tally (codes z) n (IsApart-codes z) (λ s a. l s (holds-codes z s ∙ a))
-    ∙ tally-same n _ _ (λ k _. sym (holds-codes z k))
-
--- the set of a list of distinct codes has as many codes as the list
-pub cardinality-of_codes : (xs : List ℕ) → IsApart xs → cardinality (of_codes xs) ≡ length xs
-cardinality-of_codes xs apart =
-    let n = above xs in
-    cardinality-tally (of_codes xs) n (λ s h. above-lt xs s (sym (holds-of_codes xs s) ∙ h))
-    ∙ tally-same n _ _ (λ k _. holds-of_codes xs k)
-    ∙ sym (length-tally xs n apart (λ s a. above-lt xs s a))
-
-back_in : (h e : Bool) → (e ≡ true → h ≡ true) → (e || (h && not e)) ≡ h
-back_in h true f = sym (f refl)
-back_in true false f = refl
-back_in false false f = refl
-
-kept_all : (h e : Bool) → (e ≡ true → h ≡ false) → (h && not e) ≡ h
-kept_all true true f = absurd (true≢false (f refl))
-kept_all false e f = refl
-kept_all true false f = refl
-
--- without the code s there is one code less, if it was there
-pub cardinality-without : (z : Chain) (s : ℕ)
-    → cardinality z ≡ cardinality (where_code (λ t. not (eqb t s)) z) + cond (holds z s) 1 0
-cardinality-without z s = by_test (holds z s) refl
-  where
-    by_test : (b : Bool) → holds z s ≡ b → cardinality z ≡ cardinality (where_code (λ t. not (eqb t s)) z) + cond b 1 0
-    by_test true h =
-        let w = where_code (λ t. not (eqb t s)) z in
-        let n = above (codes z) in
-        let in_w : (t : ℕ) → holds w t ≡ (holds z t && not (eqb t s)) = λ t. holds-where_code _ z t in
-        let up : cardinality z ≡ suc (cardinality w) =
-        cardinality-tally z n (bound z)
-        ∙ tally-same n (holds z) (λ k. eqb k s || holds w k)
-        (λ k _. sym (ap (λ b. eqb k s || b) (in_w k) ∙ back_in (holds z k) (eqb k s)
-        (λ e. ap (holds z) (eqb-true k s e) ∙ h)))
-        ∙ tally-more n s (holds w) (in_w s ∙ ap (λ b. holds z s && not b) (eq-eqb s s refl) ∙ and-false (holds z s))
-        (bound z s h)
-        ∙ ap suc (sym (cardinality-tally w n (λ t i. bound z t
-        (and-true (holds z t) (not (eqb t s)) (sym (in_w t) ∙ i)))))
-        in
-        omega arith
-    by_test false h =
-        ap cardinality (same_chain z (where_code (λ t. not (eqb t s)) z)
-        (λ q. sym (holds-where_code _ z q ∙ kept_all (holds z q) (eqb q s)
-        (λ e. ap (holds z) (eqb-true q s e) ∙ h))))
-        ∙ omega arith
 
 -- ---- the pairing
 -- the pairing is symmetric
@@ -400,17 +303,17 @@ pairs_oddly-comm z f =
 
 -- the weight of the set of a list of distinct codes
 pub weight-of_codes : (p : ℕ → Bool) (xs : List ℕ) → IsApart xs → weight p (of_codes xs) ≡ parity p xs
-weight-of_codes p xs apart =
+weight-of_codes p xs lt-ne =
     let n = above (codes (of_codes xs)) in
     let in_xs : (s : ℕ) → holds (of_codes xs) s ≡ true → s < n = bound (of_codes xs) in
     weight-parity_below p (of_codes xs) n in_xs
     ∙ parity_below-same n _ _ (λ k _. ap (λ b. b && p k) (holds-of_codes xs k))
-    ∙ sym (parity-parity_below p xs n apart (λ s a. in_xs s (holds-of_codes xs s ∙ a)))
+    ∙ sym (parity-parity_below p xs n lt-ne (λ s a. in_xs s (holds-of_codes xs s ∙ a)))
 
 -- with the set of a list of distinct codes a chain pairs as the parity of those of the list that it holds
 pub pairs_oddly-list : (z : Chain) (xs : List ℕ) → IsApart xs → pairs_oddly z (of_codes xs) ≡ parity (holds z) xs
-pairs_oddly-list z xs apart =
-    pairs_oddly-comm z (of_codes xs) ∙ pairs_oddly-weight (of_codes xs) z ∙ weight-of_codes (holds z) xs apart
+pairs_oddly-list z xs lt-ne =
+    pairs_oddly-comm z (of_codes xs) ∙ pairs_oddly-weight (of_codes xs) z ∙ weight-of_codes (holds z) xs lt-ne
 
 -- one more element at the end
 pub parity-push : (p : ℕ → Bool) (xs : List ℕ) (x : ℕ) → parity p (xs ++ x ∷ []) ≡ (parity p xs ⊻ p x)

@@ -5,7 +5,7 @@ use Rattle.f2_algebra.specs.Chain.{Chain, holds, codes, nothing, pairs_oddly}
 use Rattle.f2_algebra.specs.Complex.{Complex, border, IsComplex, AllOfDegree, IsCycle, IsRank}
 use Rattle.f2_algebra.specs.Certificate.{IsAllCells, CyclePair, StepPair, AreCyclePairs, AreStepPairs}
 use Rattle.f2_algebra.specs.Dual.{IsDualOf}
-use Rattle.f2_algebra.proofs.Chains.Sets.{same_chain, holds-nothing, weight, weight-same, pairs_oddly-weight, pairs_oddly-comm, cardinality-length}
+use Rattle.f2_algebra.proofs.Chains.Sets.{same_chain, holds-nothing, weight, weight-same, pairs_oddly-weight, pairs_oddly-comm}
 use Rattle.f2_algebra.proofs.Chains.Sums.{holds-sum_over, weight-sum_over}
 use Rattle.f2_algebra.proofs.Certificates.Span.{Every}
 use Rattle.f2_algebra.proofs.Certificates.Certificate.{Every-All, all_from, every_map, every_weaker, every_append, rank_of_certificate}
@@ -15,6 +15,7 @@ use Rattle.f2_algebra.proofs.Ranks.RankLemmas.{one_rank}
 use Rattle.f2_algebra.proofs.Ranks.Existence.{HasAllCells, reduce, has_degree, has_degree-is, cells_of, cells_of-all}
 use Rattle.f2_algebra.proofs.Cancelling.LogCounts.{count_log}
 use Rattle.f2_algebra.proofs.Certificates.LogCertificate.{IsTest, step_pairs, cycle_pair, step_pairs_pass, cycle_pairs_pass, Pairwise, pairwise, pairs_from, every_both, pairwise_map}
+use Rattle.f2_algebra.proofs.Chains.Cardinality.{cardinality-length}
 
 -- ---- a list reversed round
 reversed : {X : Type 0} → List X → List X

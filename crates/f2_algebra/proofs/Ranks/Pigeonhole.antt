@@ -106,7 +106,7 @@ bits_pigeonhole d e f into one = pow_le d e (pigeonhole (2 ^ d) (2 ^ e) (λ k. n
     ∙ ap number (one _ _ (length-bits d i) (length-bits d j)
     (number_one _ _ (into _ (length-bits d i) ∙ sym (into _ (length-bits d j))) same)) ∙ number-bits d j q))
 
--- ---- an injective map from a finite set to itself is reaches_each
+-- ---- an injective map from a finite set to itself is onto
 abbrev Hit : (ℕ → ℕ) → ℕ → ℕ → Type 0
 Hit f n k = ((i : ℕ) × (i < n) × (f i ≡ k)) ⊎ ((i : ℕ) → i < n → f i ≡ k → ⊥)
 

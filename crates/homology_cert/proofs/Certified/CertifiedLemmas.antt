@@ -17,7 +17,7 @@ use Rattle.f2_algebra.specs.Chain.{Chain, holds, codes, nothing, pairs_oddly}
 use Rattle.f2_algebra.specs.Complex.{Complex, AllOfDegree, IsCycle, IsComplex, IsRank, border as border_in}
 use Rattle.f2_algebra.specs.Bigraded.{up_m}
 use Rattle.f2_algebra.specs.Certificate.{CyclePair, StepPair, IsAllCells, AreCyclePairs, AreStepPairs, IsCertCell, Passes, steps_at}
-use Rattle.f2_algebra.proofs.Chains.Sets.{any, IsApart, same_chain, holds-codes, holds-nothing, pairs_oddly-weight, weight-nothing, cardinality-length, cardinality-of_codes, each_code}
+use Rattle.f2_algebra.proofs.Chains.Sets.{any, IsApart, same_chain, holds-codes, holds-nothing, pairs_oddly-weight, weight-nothing, each_code}
 use Rattle.f2_algebra.proofs.Cancelling.Cancellation.{same_some}
 use Rattle.f2_algebra.proofs.Ranks.Existence.{cells_of, cells_of-all, has_degree as has_degree_in}
 use Rattle.f2_algebra.proofs.Ranks.RankLemmas.{one_rank}
@@ -46,6 +46,7 @@ use Rattle.homology_cert.specs.declared.verdicts.CertVerdict.TheVariants.{Yes}
 use Rattle.cancel.proofs.MapLemmas.{IsApart-pairs}
 use Rattle.homology_cert.proofs.Homology.LawLemmas.{any-ascending}
 use Rattle.homology_cert.proofs.Certified.PassingLemmas.{PassesCycle, PassesStep, PassesCell, ArePairedApart, member_of_all, passes_of_yes}
+use Rattle.f2_algebra.proofs.Chains.Cardinality.{cardinality-length, cardinality-of_codes}
 
 -- ---- degrees
 pub same_degree-is : (d e : ℤ × ℤ) → (same_degree d e ≡ true) ↔ (d ≡ e)

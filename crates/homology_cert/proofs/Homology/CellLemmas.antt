@@ -12,7 +12,7 @@ use Rattle.f2_algebra.specs.Complex.{Complex}
 use Rattle.f2_algebra.specs.Cancel.{Entry}
 use Rattle.f2_algebra.specs.Certificate.{IsAllCells}
 use Rattle.f2_algebra.proofs.Ranks.Pigeonhole.{pigeonhole}
-use Rattle.f2_algebra.proofs.Chains.Sets.{holds-of_codes, cardinality-length, cardinality-of_codes}
+use Rattle.f2_algebra.proofs.Chains.Sets.{holds-of_codes}
 use Rattle.state_rank.specs.States.{factorial}
 use Rattle.state_rank.proofs.MemberLemmas.{Contains-map, member_of_map, Contains-filter, member_of_filter, pairs_map, pairs_filter}
 use Rattle.torus_geom.specs.Marks.{Marks, size, IsGrid}
@@ -25,6 +25,7 @@ use Rattle.cancel.proofs.ListLemmas.{any-Contains}
 use Rattle.cancel.proofs.MapLemmas.{IsApart-pairs}
 use Rattle.homology_cert.specs.Inner.Ranks.{degree_count, HasRanks}
 use Rattle.homology_cert.proofs.Homology.SliceRanks.{IsReduction, left-below, rank_of_reduction}
+use Rattle.f2_algebra.proofs.Chains.Cardinality.{cardinality-length, cardinality-of_codes}
 
 -- ---- the cells of a degree
 abbrev cells_at : ℤ → List Cell → List Cell

@@ -17,7 +17,7 @@ use Rattle.f2_algebra.specs.Complex.{Complex, IsComplex}
 use Rattle.f2_algebra.specs.Cancel.{Entry, IsLog, after}
 use Rattle.f2_algebra.specs.Bigraded.{up_m}
 use Rattle.f2_algebra.specs.Certificate.{StepPair, IsAllCells, AreCyclePairs, AreStepPairs, steps_at}
-use Rattle.f2_algebra.proofs.Chains.Sets.{any, any-filter, same_chain, holds-nothing, holds-of_codes, cardinality, cardinality-length, cardinality-of_codes}
+use Rattle.f2_algebra.proofs.Chains.Sets.{any, any-filter, same_chain, holds-nothing, holds-of_codes}
 use Rattle.f2_algebra.proofs.Chains.Lists.{codes-of_codes}
 use Rattle.f2_algebra.proofs.Cancelling.Cancellation.{same_some}
 use Rattle.f2_algebra.proofs.Cancelling.LogLemmas.{none_where}
@@ -50,6 +50,7 @@ use Rattle.homology_cert.proofs.Certified.CertifiedLemmas.{same_degree-is, state
 use Rattle.homology_cert.proofs.Made.SlicePairLemmas.{IsTest-has_bidegree, cycle_passes, cycles_apart, cycle_states, step_passes, steps_apart, step_states}
 use Rattle.homology_cert.proofs.Made.StepCountLemmas.{counted_steps, first_failing-steps}
 use Rattle.homology_cert.proofs.Made.YesLemmas.{yes_of_passes}
+use Rattle.f2_algebra.proofs.Chains.Cardinality.{cardinality, cardinality-length, cardinality-of_codes}
 
 -- ---- the codes that are left
 degree_is-is : (m : ℤ) (d : Option ℤ) → (degree_is m d ≡ true → d ≡ Some m) × (d ≡ Some m → degree_is m d ≡ true)

@@ -11,10 +11,10 @@ use Rattle.f2_algebra.specs.Chain.{Chain, nothing}
 use Rattle.f2_algebra.specs.Complex.{Complex, IsComplex}
 use Rattle.f2_algebra.specs.Cancel.{Entry, IsLog, after}
 use Rattle.f2_algebra.specs.Certificate.{IsAllCells}
-use Rattle.f2_algebra.proofs.Chains.Sets.{cardinality, cardinality-length}
 use Rattle.f2_algebra.proofs.Ranks.RankLemmas.{rank_of_log, one_rank}
 use Rattle.f2_algebra.proofs.Certificates.LogCertificate.{IsTest, step_pairs}
 use Rattle.f2_algebra.proofs.Cancelling.LogCounts.{count_log}
+use Rattle.f2_algebra.proofs.Chains.Cardinality.{cardinality, cardinality-length}
 
 -- two lists of numbers by degree, with one sum of each two that stand next to each other, and with none above b
 from_above : (f h : ℤ → ℕ) → ((m : ℤ) → f m + f (m +ℤ pos 1) ≡ h m + h (m +ℤ pos 1)) → (b : ℤ)

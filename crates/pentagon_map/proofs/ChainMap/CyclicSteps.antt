@@ -8,7 +8,7 @@ use Rattle.f2_algebra.proofs.Chains.Tables.{and-false}
 use Rattle.torus_geom.specs.Range.{one_down, one_up}
 use Rattle.rectangles.proofs.Square.CyclicOrder.{between, between_same}
 use Rattle.rectangles.proofs.Square.TwoSteps.{differ, differ-self}
-use Rattle.pentagon_map.proofs.ChainMap.Pentagons.{two}
+use Rattle.pentagon_map.proofs.ChainMap.PentagonTests.{two}
 
 up_low : (n w : ℕ) → w + 1 < n → one_up n w ≡ w + 1
 up_low n w l = mod-eq_of_lt l

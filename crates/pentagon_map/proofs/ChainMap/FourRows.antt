@@ -11,8 +11,8 @@ use Rattle.torus_geom.specs.Range.{in_range}
 use Rattle.rectangles.proofs.Square.CyclicOrder.{between}
 use Rattle.grid_moves.specs.Moves.{are_commuting_columns, is_marked_row}
 use Rattle.pentagon_map.proofs.ChainMap.CyclicSteps.{between-from, between-one_down, between-thin, one_up-other}
-use Rattle.pentagon_map.proofs.ChainMap.Pentagons.{AreSides}
-use Rattle.pentagon_map.proofs.ChainMap.ThinAnnuli.{AreBusy, IsThin}
+use Rattle.pentagon_map.proofs.ChainMap.ThinColumns.{IsThin, AreBusy}
+use Rattle.pentagon_map.proofs.ChainMap.PentagonTests.{AreSides}
 
 abbrev pub are_same : Bool → Bool → Bool
 are_same p q = (p && q) || (not p && not q)

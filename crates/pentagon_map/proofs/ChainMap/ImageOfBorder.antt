@@ -1,7 +1,7 @@
--- The chain map for columns: the image of the border of a chain is the border, in the with_exchanged grid, of its
+-- The chain map for columns: the image of the border of a chain is the border, in the exchanged grid, of its
 -- image, for every place, the seam too, and for both crossings.
 -- Route: for a state, both sides are sums over two steps, a rectangle and then a pentagon, or a pentagon and
--- then a rectangle of the with_exchanged grid; together they vanish (ThinAnnuli). The image of a chain is a sum over
+-- then a rectangle of the exchanged grid; together they vanish (ThinAnnuli). The image of a chain is a sum over
 -- its states, and a code that is the rank of no state has the empty list for its state, which no pentagon leaves.
 use Rattle.std.proofs.Common.{Bool, List, [], ap, ap₂, arith, eqb, false, inl, inr, length, map, not, refl, slice_index, subst, swap, sym, ℕ, ◌&&◌, ◌<◌, ◌∙◌, ◌≡◌}
 use Rattle.std.proofs.lemmas.Bool.{cases_lt}
@@ -153,7 +153,7 @@ module _ (g : Marks) (s : IsGrid g) (c : ℕ) (d : HasFourRows g c) (corner : Co
   lw : w < n
   lw = crossing_row-below g s c d.below corner
 
-  -- the with_exchanged grid
+  -- the exchanged grid
   abbrev there : Marks
   there = swapped_columns g c
 

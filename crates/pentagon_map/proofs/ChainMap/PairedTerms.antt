@@ -111,7 +111,7 @@ has_corner first = true
 has_corner second = false
 has_corner third = true
 
--- of two arcs that a long range of rows has: the lower_arc one
+-- of two arcs that a long range of rows has: the lower one
 abbrev pub lower_arc : Bool → Place → Place
 lower_arc v m = cond v (next m) (next (next m))
 

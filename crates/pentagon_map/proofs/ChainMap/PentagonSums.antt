@@ -24,7 +24,6 @@ use Rattle.rectangles.proofs.Square.OpenRectangles.{marks}
 use Rattle.rectangles.proofs.Square.RectangleTests.{in_range-between, is_empty-corners}
 use Rattle.rectangles.proofs.Square.TwoSteps.{differ, guard}
 use Rattle.pentagon_map.proofs.ChainMap.CyclicSteps.{between-one_up}
-use Rattle.pentagon_map.proofs.ChainMap.Pentagons.{is_open_pentagon, lacks, penta, two}
 use Rattle.pentagon_map.proofs.ChainMap.RowArcs.{above_of}
 use Rattle.pentagon_map.proofs.ChainMap.StepSums.{passes_at, weight-leading}
 use Rattle.pentagon_map.specs.Inner.CodeImages.{column_image}
@@ -33,6 +32,7 @@ use Rattle.pentagon_map.specs.declared.Corner.{Corner}
 use Rattle.pentagon_map.specs.declared.Corner.TheVariants.{Over, Under}
 use Rattle.torus_geom.proofs.Sums.AllBelowLemmas.{all_below-same}
 use Rattle.torus_geom.proofs.Circles.RectangleLemmas.{corners}
+use Rattle.pentagon_map.proofs.ChainMap.PentagonTests.{two, lacks, penta, is_open_pentagon}
 
 module _ (g : Marks) (s : IsGrid g) (c w : ℕ) (lc : c < size g) (lw : w < size g) where
   -- the pentagon that leaves the state f at the circles a and b

@@ -38,7 +38,6 @@ use Rattle.grid_moves.specs.Moves.{are_commuting, are_commuting_columns, swapped
 use Rattle.grid_moves.specs.declared.commutations.Axis.{Axis}
 use Rattle.grid_moves.specs.declared.commutations.Axis.TheVariants.{Cols, Rows}
 use Rattle.pentagon_map.proofs.ChainMap.PentagonSums.{crossing_row-below, holds-column_image, pentagon_at}
-use Rattle.pentagon_map.proofs.ChainMap.Pentagons.{lacks, two}
 use Rattle.pentagon_map.proofs.Crossing.CrossingRow.{IsCrossing, crossing_row_IsCrossing}
 use Rattle.pentagon_map.proofs.Degrees.MarksInPentagon.{IsPentagonOf, maslov-pentagon}
 use Rattle.grid_moves.proofs.Exchanged.TransposedGrids.{size-transposed, transpose-at, transpose-transpose, transpose_AreInverse}
@@ -47,6 +46,7 @@ use Rattle.pentagon_map.specs.Pentagon.{crossing_row}
 use Rattle.pentagon_map.specs.declared.Corner.{Corner}
 use Rattle.torus_geom.proofs.Circles.BetweenLemmas.{is_between}
 use Rattle.rectangles.proofs.Sweep.OddPairLemmas.{parity_below-some}
+use Rattle.pentagon_map.proofs.ChainMap.PentagonTests.{two, lacks}
 
 -- ---- columns
 module _ (g : Marks) (s : IsGrid g) (c : ℕ) (lc : c < size g) (h : are_commuting_columns g c ≡ true) (corner : Corner)

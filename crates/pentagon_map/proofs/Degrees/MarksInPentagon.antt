@@ -1,4 +1,4 @@
--- How many marks of the with_exchanged grid are in a pentagon, for the O and for the X alike, and so that a pentagon
+-- How many marks of the exchanged grid are in a pentagon, for the O and for the X alike, and so that a pentagon
 -- keeps the Maslov degree. The marks o stand for either.
 use Rattle.std.proofs.Common.{Bool, ap, ap₂, arith, cond, eqb, false, inl, inr, leb, ltb, not, refl, sym, true, ℕ, ◌&&◌, ◌+◌, ◌<◌, ◌||◌, ◌∙◌, ◌≡◌, ◌≢◌, ◌≤◌, ◌⊎◌}
 use Rattle.std.proofs.Math.IntN.{pos, ◌+ℤ◌}
@@ -85,7 +85,7 @@ module _ (n : ℕ) (o x y : ℕ → ℕ) (oo : IsOneToOne n o) (ox : IsOneToOne 
       by true = refl
       by false = refl
 
-  -- the marks of the with_exchanged columns
+  -- the marks of the exchanged columns
   abbrev o' : ℕ → ℕ
   o' = with_exchanged o (one_down n c) c
 
@@ -148,7 +148,7 @@ module _ (n : ℕ) (o x y : ℕ → ℕ) (oo : IsOneToOne n o) (ox : IsOneToOne 
   marks_are : marks_between n o' a b (x a) (x b) ≡ one_if (between (x c) (o c) (o r))
   marks_are = elim d.on_circle [ inl e ↦ marks_left e | inr e ↦ marks_right e ]
 
-  -- A pentagon keeps the Maslov degree: the state y of the with_exchanged grid has that of x.
+  -- A pentagon keeps the Maslov degree: the state y of the exchanged grid has that of x.
   pub maslov-pentagon : IsExchange n a b (x a) (x b) x y → maslov_by_pairs n o' y ≡ maslov_by_pairs n o x
   maslov-pentagon exchange =
       let columns = maslov-columns n o x oo ox c lc big in

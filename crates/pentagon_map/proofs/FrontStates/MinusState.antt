@@ -21,9 +21,7 @@ use Rattle.rectangles.proofs.Square.TwoSteps.{differ, differ-self, differ-true}
 use Rattle.grid_moves.specs.Moves.{are_commuting_columns, swapped_columns}
 use Rattle.pentagon_map.proofs.ChainMap.CyclicSteps.{between-thin}
 use Rattle.pentagon_map.proofs.ChainMap.PentagonSums.{crossing_row-below, holds-column_image, pentagon_at}
-use Rattle.pentagon_map.proofs.ChainMap.Pentagons.{lacks, penta, two}
 use Rattle.pentagon_map.proofs.ChainMap.RowArcs.{above_of}
-use Rattle.pentagon_map.proofs.ChainMap.ThinAnnuli.{clear_thin, free_thin}
 use Rattle.pentagon_map.proofs.Crossing.CrossingRow.{IsCrossing, crossing_row-under, crossing_row_IsCrossing, four_rows}
 use Rattle.pentagon_map.proofs.Crossing.FourNumbers.{AreFourRows}
 use Rattle.pentagon_map.proofs.FrontStates.CyclicRows.{not_between, turned_round}
@@ -31,6 +29,8 @@ use Rattle.pentagon_map.proofs.FrontStates.PlusState.{lacks_none, lacks_some}
 use Rattle.pentagon_map.specs.Inner.CodeImages.{column_image}
 use Rattle.pentagon_map.specs.Pentagon.{crossing_row}
 use Rattle.pentagon_map.specs.declared.Corner.TheVariants.{Under}
+use Rattle.pentagon_map.proofs.ChainMap.ThinColumns.{free_thin, clear_thin}
+use Rattle.pentagon_map.proofs.ChainMap.PentagonTests.{two, lacks, penta}
 
 module _ (g : Marks) (s : IsGrid g) (c : ℕ) (lc : c < size g) (h : are_commuting_columns g c ≡ true) where
   abbrev n : ℕ

@@ -1,4 +1,4 @@
--- `Over` carries the state of the upper right corners of the X to that of the with_exchanged grid.
+-- `Over` carries the state of the upper right corners of the X to that of the exchanged grid.
 -- Route: the X of the column before b is in the way of each rectangle that ends at circle b and row x(b), but for
 -- b = c, where it is above the crossing, and for b = c + 1. That leaves the thin rectangle from c up to c + 1.
 use Rattle.std.proofs.Common.{Bool, List, ap, ap₂, arith, cond, eqb, false, inl, inr, length, not, refl, slice_index, swap, sym, true, true≢false, ℕ, ◌&&◌, ◌<◌, ◌||◌, ◌∙◌, ◌≡◌, ◌≢◌, ◌⊎◌}
@@ -28,9 +28,7 @@ use Rattle.rectangles.proofs.Square.TwoSteps.{differ, differ-self, differ-true}
 use Rattle.grid_moves.specs.Moves.{are_commuting_columns, swapped_columns}
 use Rattle.pentagon_map.proofs.ChainMap.CyclicSteps.{between-thin, one_up-other}
 use Rattle.pentagon_map.proofs.ChainMap.PentagonSums.{crossing_row-below, holds-column_image, pentagon_at}
-use Rattle.pentagon_map.proofs.ChainMap.Pentagons.{lacks, penta, two}
 use Rattle.pentagon_map.proofs.ChainMap.RowArcs.{above_of}
-use Rattle.pentagon_map.proofs.ChainMap.ThinAnnuli.{clear_thin, free_thin}
 use Rattle.pentagon_map.proofs.Crossing.CrossingRow.{IsCrossing, crossing_row-over, crossing_row_IsCrossing, four_rows}
 use Rattle.pentagon_map.proofs.Crossing.FourNumbers.{AreFourRows}
 use Rattle.torus_geom.proofs.Circles.NeighbourLemmas.{between_before_end}
@@ -38,6 +36,8 @@ use Rattle.pentagon_map.proofs.FrontStates.CyclicRows.{above_none, begin_up, bot
 use Rattle.pentagon_map.specs.Inner.CodeImages.{column_image}
 use Rattle.pentagon_map.specs.Pentagon.{crossing_row}
 use Rattle.pentagon_map.specs.declared.Corner.TheVariants.{Over}
+use Rattle.pentagon_map.proofs.ChainMap.ThinColumns.{free_thin, clear_thin}
+use Rattle.pentagon_map.proofs.ChainMap.PentagonTests.{two, lacks, penta}
 
 -- a column with no mark in the rows, and one with its X in them
 pub lacks_none : (O X : ℕ → ℕ) (c : ℕ) (Q : ℕ → Bool) → Q (O c) ≡ false → Q (X c) ≡ false → lacks O X c Q ≡ true
@@ -366,7 +366,7 @@ module _ (g : Marks) (s : IsGrid g) (c : ℕ) (lc : c < size g) (h : are_commuti
           (λ i. u (sym (one_up-one_down n d l) ∙ ap (one_up n) i ∙ one_up-one_down n c lc))
           (λ i. v (sym (one_up-one_down n d l) ∙ ap (one_up n) i))))
 
-  -- `Over` carries the upper right corners to those of the with_exchanged grid.
+  -- `Over` carries the upper right corners to those of the exchanged grid.
   pub column_image-plus_state : column_image g c Over (plus_state g) ≡ single (rank (plus_state (swapped_columns g c)))
   column_image-plus_state = same_chain _ _ (λ k.
       holds-column_image g s c Over lc lw x sx k

@@ -23,11 +23,11 @@ use Rattle.state_rank.proofs.SwapLemmas.{IsBijection-swap, slice_index-swap_firs
 use Rattle.state_rank.specs.Bijection.{IsBijection, ascending, column_of}
 use Rattle.state_rank.specs.States.{is_before, rank, transpose}
 use Rattle.torus_geom.proofs.TransposeLemmas.{IsBijection-transposed, slice_index-transpose}
-use Rattle.rectangles.proofs.Sweep.TargetLemmas.{Rises, is_before-at}
 use Rattle.rectangles.proofs.Square.TwoSteps.{differ, differ-self, differ-true}
 use Rattle.grid_moves.proofs.Turned.Reindexing.{parity_below_reindex}
 use Rattle.pentagon_map.specs.Inner.Exchanges.{in_order, is_right, is_set, lowering, lowers, picked, raises, raising, sideways}
 use Rattle.torus_geom.proofs.Sums.TabulateLemmas.{parity-tabulate}
+use Rattle.rectangles.proofs.Sweep.OrderedLists.{Rises, is_before-at}
 
 -- ---- lists
 -- the default does not matter within the list

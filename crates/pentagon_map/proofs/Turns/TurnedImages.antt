@@ -19,7 +19,6 @@ use Rattle.grid_moves.specs.Moves.{moved_row, turned}
 use Rattle.grid_moves.specs.declared.turns.Side.{Side}
 use Rattle.pentagon_map.proofs.ChainMap.ImageOfBorder.{image_by_columns}
 use Rattle.pentagon_map.proofs.ChainMap.PentagonSums.{crossing_row-below, holds-column_image}
-use Rattle.pentagon_map.proofs.ChainMap.Pentagons.{is_open_pentagon}
 use Rattle.pentagon_map.proofs.Rows.ImageByRows.{column_image_IsOfStates}
 use Rattle.grid_moves.proofs.Turned.Reindexing.{parity_below_reindex_both}
 use Rattle.grid_moves.proofs.Turned.Shifts.{IsShift, IsShift-moved_row, IsShift-target_column}
@@ -29,6 +28,7 @@ use Rattle.pentagon_map.specs.Inner.CodeImages.{column_image}
 use Rattle.pentagon_map.specs.Pentagon.{crossing_row, first_met, last_met}
 use Rattle.pentagon_map.specs.declared.Corner.{Corner}
 use Rattle.pentagon_map.specs.declared.Corner.TheVariants.{Over, Under}
+use Rattle.pentagon_map.proofs.ChainMap.PentagonTests.{is_open_pentagon}
 
 -- what the image of a state holds, for a grid whose size is given by a name
 holds-named : (g : Marks) (s : IsGrid g) (n : ℕ) → size g ≡ n → (c : ℕ) (corner : Corner) → c < n → (x : List ℕ)

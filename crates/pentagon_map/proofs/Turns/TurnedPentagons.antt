@@ -5,13 +5,13 @@ use Rattle.rectangles.proofs.Square.CyclicOrder.{between}
 use Rattle.rectangles.proofs.Square.EmptyRectangles.{free, is_clear_of}
 use Rattle.rectangles.proofs.Square.OpenRectangles.{marks}
 use Rattle.rectangles.proofs.Square.TwoSteps.{differ}
-use Rattle.pentagon_map.proofs.ChainMap.Pentagons.{is_open_pentagon, lacks, penta, two}
 use Rattle.pentagon_map.proofs.ChainMap.RowArcs.{above_of}
 use Rattle.grid_moves.proofs.Turned.Reindexing.{all_below_reindex}
 use Rattle.grid_moves.proofs.Turned.Shifts.{IsShift, eqb-shift}
 use Rattle.pentagon_map.proofs.Turns.Shifts.{between-shift, differ-shift}
 use Rattle.torus_geom.proofs.Sums.AllBelowLemmas.{all_below-same}
 use Rattle.torus_geom.proofs.Circles.BetweenLemmas.{is_between}
+use Rattle.pentagon_map.proofs.ChainMap.PentagonTests.{two, lacks, penta, is_open_pentagon}
 
 module _ (n : ℕ) (f h : ℕ → ℕ) (sf : IsShift n f) (sh : IsShift n h) where
   -- the points of a state, or marks, before and after

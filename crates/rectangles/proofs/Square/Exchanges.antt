@@ -4,7 +4,7 @@ use Rattle.std.proofs.Common.{◌≡◌, ◌≢◌, ℕ, Bool, false, ◌&&◌, 
 use mathlib.Core.Path.{fun_ext}
 use Rattle.std.proofs.lemmas.Bool.{eq-eqb, ne_eqb}
 
--- the state that has the rows of f at a and b with_exchanged
+-- the state that has the rows of f at a and b exchanged
 abbrev pub with_exchanged : (ℕ → ℕ) → ℕ → ℕ → ℕ → ℕ
 with_exchanged f a b c = cond (eqb c a) (f b) (cond (eqb c b) (f a) (f c))
 

@@ -60,7 +60,7 @@ is_unmarked-corners g s a b j k la lb lj lk =
     || in_range-between n j k (slice_index g.x c) lj lk (s.x.small c l) i)))
 
 -- ---- the exchange of two rows
--- a list with two elements with_exchanged, as a function
+-- a list with two elements exchanged, as a function
 pub swap-with_exchanged : (x : List ℕ) (a b : ℕ) → a < length x → b < length x
     → slice_index (swap x a b) ≡ with_exchanged (slice_index x) a b
 swap-with_exchanged x a b la lb = fun_ext (λ c. each c (cases_eq c a) (cases_eq c b))

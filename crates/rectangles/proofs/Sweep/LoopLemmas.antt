@@ -22,7 +22,7 @@ total-take : {A : Type 0} (f : A → Chain) (xs : List A) (i : ℕ) (d : A) → 
 total-take f xs i d l = ap total (ap (map f) (take_more xs i d l) ∙ map-append f (take i xs) (get_or xs i d ∷ []))
     ∙ total-push (map f (take i xs)) (f (get_or xs i d))
 
--- one more state is one_more_toggled
+-- one more state is toggled
 pub one_more_toggled : (ys : List (List ℕ)) (i : ℕ) (y : List ℕ) (first old new : Chain) (c : ℕ) → i < length ys
     → y ≡ get_or ys i y → c ≡ rank y
     → old ≡ first ⊕ sum_of_ranks (take i ys) → new ≡ old ⊕ single c → new ≡ first ⊕ sum_of_ranks (take (i + 1) ys)
@@ -31,7 +31,7 @@ one_more_toggled ys i y first old new c l at is before step =
     ∙ ap (λ u. first ⊕ u) (ap (λ z. sum_of_ranks (take i ys) ⊕ single (rank z)) at
     ∙ sym (total-take (λ z. single (rank z)) ys i y l))
 
--- when all states of a chain are one_more_toggled, the chain is added
+-- when all states of a chain are toggled, the chain is added
 pub all_toggled : (ys : List (List ℕ)) (z : Chain) → map rank ys ≡ codes z → sum_of_ranks ys ≡ z
 unfolding sum_over
 all_toggled ys z e = sym (ap total (map-map single rank ys)) ∙ ap (λ cs. total (map single cs)) e ∙ sum_over-singles z

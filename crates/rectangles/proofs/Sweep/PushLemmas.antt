@@ -14,7 +14,7 @@ use Rattle.state_rank.proofs.OrderLemmas.{get_or-tabulate, length-ascending}
 use Rattle.torus_geom.specs.Marks.{Marks}
 use Rattle.rectangles.specs.Inner.Open.{is_open, is_odd_pair, odd_bit, exchanges}
 use Rattle.state_rank.specs.declared.TheConstants.{MAX_SIZE}
-use Rattle.rectangles.proofs.Sweep.TargetLemmas.{length-numbers, get_or-numbers}
+use Rattle.rectangles.proofs.Sweep.OrderedLists.{length-numbers, get_or-numbers}
 
 -- ---- an array that is filled from 0 on
 

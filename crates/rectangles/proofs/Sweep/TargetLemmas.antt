@@ -4,9 +4,8 @@
 -- Route: two exchanges first differ at the lower of their first circles, which gives their order. So the
 -- list rises, has the states of the border, and is their list in order. It is no longer than the list of
 -- all pairs of circles.
-use Rattle.std.proofs.Common.{◌≡◌, ◌≢◌, ◌⊎◌, ℕ, zero, suc, ◌+◌, ◌-◌, ◌<◌, ◌≤◌, Bool, true, false, ◌&&◌, List, [], ◌∷◌, ◌++◌, length, map, get_or, slice_index, swap, reverse, All, Contains, AllPairs, refl, ap, ap₂, subst, ◌∙◌, sym, eqb, ltb, arith, inl, inr, cond, true≢false}
-use Rattle.std.proofs.lemmas.Bool.{cases_lt, cases_order, eq-eqb, eqb-true, lt-ltb, ltb-true, and_parts, and_from}
-use Rattle.std.proofs.lemmas.List.{get_or_default, get_or-reverse, length-reverse}
+use Rattle.std.proofs.Common.{◌≡◌, ◌≢◌, ℕ, ◌+◌, ◌<◌, ◌≤◌, Bool, true, false, ◌&&◌, List, ◌++◌, length, map, get_or, slice_index, swap, reverse, All, Contains, refl, ap, subst, ◌∙◌, sym, eqb, ltb, arith, inl, inr, cond, true≢false}
+use Rattle.std.proofs.lemmas.Bool.{cases_order, eq-eqb, eqb-true, lt-ltb, ltb-true, and_parts, and_from}
 use Rattle.std.proofs.lemmas.List.Elements.{Contains-get_or, Contains-append_left, Contains-append_right, Contains-append_cases}
 use Rattle.std.proofs.lemmas.List.Sorted.{IsPermutation-reverse, IsPermutation-sym, Contains-permutation}
 use Rattle.std.specs.Int.{bit_at}
@@ -16,205 +15,20 @@ use Rattle.std.proofs.lemmas.List.Kept.{AllPairs-filter}
 use Rattle.state_rank.specs.Bijection.{IsSize, IsBijection, ascending, column_of, numbers}
 use Rattle.state_rank.specs.States.{IsState, is_before, rank, states, transpose}
 use Rattle.state_rank.specs.declared.TheConstants.{MAX_SIZE}
-use Rattle.state_rank.proofs.Pigeonhole.{no_more}
 use Rattle.state_rank.proofs.BijectionLemmas.{one_to_one, column_of-is, column_of-below, row-column_of}
-use Rattle.state_rank.proofs.MemberLemmas.{member_cases, member_head, member_tail, no_member, Contains-map, member_of_map, Contains-filter, member_of_filter, Contains-flat_map, member_of_flat_map, pairs_head, pairs_tail, pairs_append, pairs_map, pairs_weaker, pairs_flat_map}
-use Rattle.state_rank.proofs.OrderLemmas.{is_before-same, is_before-back, is_before-lower, is_before-equal, length-tabulate, get_or-tabulate, Contains-ascending, member_of_ascending, ascending_rises, states_rise}
-use Rattle.state_rank.proofs.SwapLemmas.{slice_index-swap_first, slice_index-swap_other, IsBijection-swap}
+use Rattle.state_rank.proofs.MemberLemmas.{Contains-map, member_of_map, Contains-filter, member_of_filter, Contains-flat_map, member_of_flat_map, pairs_append, pairs_map, pairs_weaker, pairs_flat_map}
+use Rattle.state_rank.proofs.OrderLemmas.{is_before-same, get_or-tabulate, Contains-ascending, member_of_ascending, ascending_rises, states_rise}
+use Rattle.state_rank.proofs.SwapLemmas.{IsBijection-swap}
 use Rattle.torus_geom.specs.Marks.{Marks, size, IsGrid}
 use Rattle.torus_geom.specs.Inner.CodeBorder.{border_of_state}
 use Rattle.rectangles.specs.Inner.Open.{is_odd_pair, exchanges, exchanges_below, exchanges_above}
 use Rattle.rectangles.proofs.Sweep.OddPairLemmas.{IsOddExchange, steps_to, reached, odd_exchange, Contains-reached}
 use Rattle.rectangles.proofs.Square.RectangleSums.{codes-states_where}
-
--- ---- lists
-
--- each list is before the later ones
-abbrev pub Rises : List (List ℕ) → Type 0
-Rises xs = AllPairs (λ x y. is_before x y ≡ true) xs
-
--- two lists that rise and have the same members are one
-pub same_rising : (xs ys : List (List ℕ)) → Rises xs → Rises ys → ((x : List ℕ) → Contains xs x → Contains ys x)
-    → ((x : List ℕ) → Contains ys x → Contains xs x) → xs ≡ ys
-same_rising [] [] h k to from = refl
-same_rising [] (y ∷ ys) h k to from = absurd (no_member y (from y (member_head y ys)))
-same_rising (x ∷ xs) [] h k to from = absurd (no_member x (to x (member_head x xs)))
-same_rising (x ∷ xs) (y ∷ ys) h k to from =
-    ap₂ (λ z zs. z ∷ zs) heads
-    (same_rising xs ys (pairs_tail (λ x y. is_before x y ≡ true) x xs h)
-    (pairs_tail (λ x y. is_before x y ≡ true) y ys k)
-    (λ z m. elim (member_cases y ys z (to z (member_tail x xs z m))) [
-      | inl e ↦ absurd (late x xs h z m (heads ∙ e))
-      | inr n ↦ n
-    ])
-    (λ z m. elim (member_cases x xs z
-    (from z (member_tail y ys z m))) [ inl e ↦ absurd (late y ys k z m (sym heads ∙ e)) | inr n ↦ n ]))
-  where
-    -- a later element is not the first
-    late : (x : List ℕ) (xs : List (List ℕ)) → Rises (x ∷ xs) → (z : List ℕ) → Contains xs z → x ≡ z → ⊥
-    late x xs h z m e =
-        true≢false (sym (pairs_head (λ x y. is_before x y ≡ true) x xs h z m) ∙ ap (λ w. is_before w z) e
-        ∙ is_before-same z)
-
-    heads : x ≡ y
-    heads = elim (member_cases y ys x (to x (member_head x xs))) [
-      | inl e ↦ sym e
-      | inr m ↦ elim (member_cases x xs y (from y (member_head y ys))) [
-        | inl e ↦ e
-        | inr n ↦
-            absurd (true≢false (sym (pairs_head (λ x y. is_before x y ≡ true) y ys k x m)
-            ∙ is_before-back x y (pairs_head (λ x y. is_before x y ≡ true) x xs h y n)))
-      ]
-    ]
-
--- in a list whose elements are in a relation, they are members too
-pairs_members : {A : Type 0} (R : A → A → Type 0) (xs : List A) → AllPairs R xs
-    → AllPairs (λ a b. R a b × (Contains xs a × Contains xs b)) xs
-pairs_members R xs h i j d l m = (h i j d l m, (Contains-get_or xs i d (omega arith), Contains-get_or xs j d m))
-
--- a list with no element twice is no longer than a list that has its members
-module _ {A : Type 0} where
-  place : (x : A) (xs ys : List A) → ((a : A) → Contains xs a → Contains ys a) → (i : ℕ)
-      → (i < length xs) ⊎ (length xs ≤ i) → ℕ
-  place x xs ys h i (inl l) = (h (get_or xs i x) (Contains-get_or xs i x l)).0
-  place x xs ys h i (inr l) = 0
-
-  place_is : (x : A) (xs ys : List A) (h : (a : A) → Contains xs a → Contains ys a) (i : ℕ)
-      (s : (i < length xs) ⊎ (length xs ≤ i)) → i < length xs
-      → (place x xs ys h i s < length ys) × (get_or ys (place x xs ys h i s) x ≡ get_or xs i x)
-  unfolding place
-  place_is x xs ys h i (inl l) k = let c = h (get_or xs i x) (Contains-get_or xs i x l) in
-      (c.1, get_or_default ys c.0 x (get_or xs i x) c.1 ∙ c.2)
-  place_is x xs ys h i (inr l) k = absurd (omega arith)
-
-  different : (xs : List A) → AllPairs (λ a b. a ≢ b) xs → (d : A) (i j : ℕ) → i < length xs → j < length xs → i ≢ j
-      → get_or xs i d ≢ get_or xs j d
-  different xs once d i j li lj p e = elim (cases_order i j) [
-    | inl q ↦ p q
-    | inr o ↦ elim o [ inl l ↦ once i j d l lj e | inr l ↦ once j i d l li (sym e) ]
-  ]
-
-  -- the first list is no longer
-  pub no_longer : (xs ys : List A) → AllPairs (λ a b. a ≢ b) xs → ((a : A) → Contains xs a → Contains ys a)
-      → length xs ≤ length ys
-  no_longer [] ys once h = omega arith
-  no_longer (x ∷ xs) ys once h =
-      let zs : List A = x ∷ xs in
-      no_more (length zs) (length ys) (λ i. place x zs ys h i (cases_lt i (length zs)))
-      (λ c l. (place_is x zs ys h c (cases_lt c (length zs)) l).0)
-      (λ b c lb lc p e. different zs once x b c lb lc p
-      (sym (place_is x zs ys h b (cases_lt b (length zs)) lb).1 ∙ ap (λ k. get_or ys k x) e
-      ∙ (place_is x zs ys h c (cases_lt c (length zs)) lc).1))
-
--- ---- numbers
-
--- how many numbers there are between two
-pub length-numbers : (from to : ℕ) → length (numbers from to) ≡ to - from
-length-numbers from to = length-tabulate (to - from) (λ i. from + i)
-
--- the number at a place
-pub get_or-numbers : (from to i d : ℕ) → i < to - from → get_or (numbers from to) i d ≡ from + i
-get_or-numbers from to i d l = get_or-tabulate (to - from) (λ i. from + i) i d l
-
-Contains-numbers : (from to r : ℕ) → from ≤ r → r < to → Contains (numbers from to) r
-Contains-numbers from to r l m =
-    let e = length-numbers from to in
-    (r - from, omega arith, get_or-numbers from to (r - from) r (omega arith) ∙ omega arith)
-
-member_of_numbers : (from to r : ℕ) → Contains (numbers from to) r → (from ≤ r) × (r < to)
-member_of_numbers from to r h =
-    let e = length-numbers from to in
-    let l = h.1 in
-    let at : get_or (numbers from to) h.0 r ≡ from + h.0 = get_or-numbers from to h.0 r (omega arith) in
-    let is = h.2 in (omega arith, omega arith)
-
-numbers_rise : (from to : ℕ) → AllPairs (λ r s. r < s) (numbers from to)
-numbers_rise from to i j d l m =
-    let e = length-numbers from to in
-    let at_i : get_or (numbers from to) i d ≡ from + i = get_or-numbers from to i d (omega arith) in
-    let at_j : get_or (numbers from to) j d ≡ from + j = get_or-numbers from to j d (omega arith) in omega arith
-
--- the numbers below n, downwards
-descending_falls : (n : ℕ) → AllPairs (λ r s. s < r) (reverse (ascending n))
-descending_falls n i j d l m =
-    let e = length-tabulate n (λ (c : ℕ). c) in
-    let r = length-reverse (ascending n) in
-    let at_i : get_or (reverse (ascending n)) i d ≡ length (ascending n) - 1 - i =
-    get_or-reverse (ascending n) i d (omega arith)
-    ∙ get_or-tabulate n (λ c. c) (length (ascending n) - 1 - i) d (omega arith) in
-    let at_j : get_or (reverse (ascending n)) j d ≡ length (ascending n) - 1 - j =
-    get_or-reverse (ascending n) j d (omega arith)
-    ∙ get_or-tabulate n (λ c. c) (length (ascending n) - 1 - j) d (omega arith) in
-    omega arith
-
--- ---- the order of two states that first differ at p
-pub is_before-at : (x y : List ℕ) (p : ℕ) → p < length x → p < length y
-    → ((i : ℕ) → i < p → slice_index x i ≡ slice_index y i) → slice_index x p < slice_index y p → is_before x y ≡ true
-is_before-at [] y p lx ly same l = absurd (omega arith)
-is_before-at (r ∷ x) [] p lx ly same l = absurd (omega arith)
-is_before-at (r ∷ x) (s ∷ y) zero lx ly same l = is_before-lower r s x y l
-is_before-at (r ∷ x) (s ∷ y) (suc p) lx ly same l =
-    ap (λ t. is_before (t ∷ x) (s ∷ y)) (same 0 (omega arith)) ∙ is_before-equal s x y
-    ∙ is_before-at x y p (omega arith) (omega arith) (λ i k. same (suc i) (omega arith)) l
+use Rattle.rectangles.proofs.Sweep.OrderedLists.{Rises, same_rising, pairs_members, Contains-numbers, member_of_numbers, numbers_rise, descending_falls, no_longer}
+use Rattle.rectangles.proofs.Sweep.ExchangeOrder.{order_same, order_lowered, order_raised, order_across}
 
 -- ---- the exchanges of a state
 module _ (g : Marks) (s : IsGrid g) (x : List ℕ) (sx : IsBijection (size g) x) where
-  long : (a b : ℕ) → a < size g → b < size g → length (swap x a b) ≡ size g
-  long a b la lb = (IsBijection-swap (size g) x a b la lb sx).long
-
-  fits : (a : ℕ) → a < size g → a < length x
-  fits a l = let e = sx.long in omega arith
-
-  -- below its first circle an exchange is x
-  kept : (a b c : ℕ) → a < b → b < size g → c < a → slice_index (swap x a b) c ≡ slice_index x c
-  kept a b c ab lb l = slice_index-swap_other x a b c (fits a (omega arith)) (fits b lb) (omega arith) (omega arith)
-
-  -- two exchanges that first differ at p, which is below neither first circle
-  ordered : (a b c d p : ℕ) → a < b → b < size g → c < d → d < size g → p ≤ a → p ≤ c
-      → slice_index (swap x a b) p < slice_index (swap x c d) p → is_before (swap x a b) (swap x c d) ≡ true
-  ordered a b c d p ab lb cd ld pa pc l =
-      let e = long a b (omega arith) lb in
-      let f = long c d (omega arith) ld in
-      is_before-at (swap x a b) (swap x c d) p (omega arith) (omega arith)
-      (λ i k. kept a b i ab lb (omega arith) ∙ sym (kept c d i cd ld (omega arith))) l
-
-  at_first : (a b : ℕ) → a < b → b < size g → slice_index (swap x a b) a ≡ slice_index x b
-  at_first a b ab lb = slice_index-swap_first x a b (fits a (omega arith)) (fits b lb)
-
-  -- of two exchanges of one circle the one that gives it the lower row is first
-  order_same : (a b d : ℕ) → a < b → b < size g → a < d → d < size g → slice_index x b < slice_index x d
-      → is_before (swap x a b) (swap x a d) ≡ true
-  order_same a b d ab lb ad ld l =
-      ordered a b a d a ab lb ad ld (omega arith) (omega arith)
-      (let e = at_first a b ab lb in let f = at_first a d ad ld in omega arith)
-
-  -- an exchange that lowers the row of its first circle is before those of higher circles
-  order_lowered : (a b c d : ℕ) → a < b → b < size g → c < d → d < size g → a < c → slice_index x b < slice_index x a
-      → is_before (swap x a b) (swap x c d) ≡ true
-  order_lowered a b c d ab lb cd ld ac l =
-      ordered a b c d a ab lb cd ld (omega arith) (omega arith)
-      (let e = at_first a b ab lb in let f = kept c d a cd ld ac in omega arith)
-
-  -- one that raises it is after those of higher circles
-  order_raised : (a b c d : ℕ) → a < b → b < size g → c < d → d < size g → c < a → slice_index x c < slice_index x d
-      → is_before (swap x a b) (swap x c d) ≡ true
-  order_raised a b c d ab lb cd ld ca l =
-      ordered a b c d c ab lb cd ld (omega arith) (omega arith)
-      (let e = kept a b c ab lb ca in let f = at_first c d cd ld in omega arith)
-
-  order_across : (a b c d : ℕ) → a < b → b < size g → c < d → d < size g → slice_index x b < slice_index x a
-      → slice_index x c < slice_index x d → is_before (swap x a b) (swap x c d) ≡ true
-  order_across a b c d ab lb cd ld low high = elim (cases_order a c) [
-    | inl e ↦
-        subst (λ i. is_before (swap x a b) (swap x i d) ≡ true) e
-        (order_same a b d ab lb (omega arith) ld
-        (let f : slice_index x a ≡ slice_index x c = ap (slice_index x) e in omega arith))
-    | inr o ↦ elim o [
-      | inl l ↦ order_lowered a b c d ab lb cd ld l low
-      | inr l ↦ order_raised a b c d ab lb cd ld l high
-    ]
-  ]
-
   -- ---- the list, where `odds` has for each circle the rows of the higher circles with which it is an odd pair
   module _ (odds : List ℕ) (has : (a b : ℕ) → a < size g → b < size g
       → bit_at (slice_index odds a) (slice_index x b) ≡ cond (ltb a b && is_odd_pair g x a b) 1 0) where
@@ -296,7 +110,7 @@ module _ (g : Marks) (s : IsGrid g) (x : List ℕ) (sx : IsBijection (size g) x)
         let l = h.0 in let fr = f.1 in let kq = k.1 in
         let e = row-column r (omega arith) in
         let i = row-column q (omega arith) in
-        order_same a (column r) (column q) f.2.order f.2.below k.2.order k.2.below (omega arith))
+        order_same (size g) x sx a (column r) (column q) f.2.order f.2.below k.2.order k.2.below (omega arith))
         (pairs_members (λ r q. r < q) (picked a from to)
         (AllPairs-filter (λ r q. r < q) (λ r. eqb (bit_at (slice_index odds a) r) 1) (numbers from to)
         (numbers_rise from to)))
@@ -378,7 +192,7 @@ module _ (g : Marks) (s : IsGrid g) (x : List ℕ) (sx : IsBijection (size g) x)
         let e = member_of_below a y (member_of_ascending (size g) a l.1.0) m in
         let f = member_of_below c z (member_of_ascending (size g) c l.1.1) n in
         before_from y z _ _ e.0.is f.0.is
-        (order_lowered a e.0.to c f.0.to e.0.order e.0.below f.0.order f.0.below l.0 e.1))
+        (order_lowered (size g) x sx a e.0.to c f.0.to e.0.order e.0.below f.0.order f.0.below l.0 e.1))
 
     raised_rise : Rises raised
     unfolding raised
@@ -392,7 +206,7 @@ module _ (g : Marks) (s : IsGrid g) (x : List ℕ) (sx : IsBijection (size g) x)
         let e = member_of_above a y (descending_below a l.1.0) m in
         let f = member_of_above c z (descending_below c l.1.1) n in
         before_from y z _ _ e.0.is f.0.is
-        (order_raised a e.0.to c f.0.to e.0.order e.0.below f.0.order f.0.below l.0 f.1))
+        (order_raised (size g) x sx a e.0.to c f.0.to e.0.order e.0.below f.0.order f.0.below l.0 f.1))
 
     -- an exchange in the list
     member_of_lowered : (y : List ℕ) → Contains lowered y
@@ -415,7 +229,7 @@ module _ (g : Marks) (s : IsGrid g) (x : List ℕ) (sx : IsBijection (size g) x)
         let e = member_of_lowered y m in
         let f = member_of_raised z n in
         before_from y z _ _ e.1.is f.1.is
-        (order_across e.0 e.1.to f.0 f.1.to e.1.order e.1.below f.1.order f.1.below e.2 f.2))
+        (order_across (size g) x sx e.0 e.1.to f.0 f.1.to e.1.order e.1.below f.1.order f.1.below e.2 f.2))
 
     odd_from : (a : ℕ) (y : List ℕ) (h : IsExchange a y) → IsOddExchange g s x sx y a h.to
     odd_from a y h = record { order = h.order; below = h.below; odd = h.odd; is = h.is }

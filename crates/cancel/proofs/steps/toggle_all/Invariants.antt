@@ -1,4 +1,4 @@
--- With the codes that are ahead toggled_by too, the chain is what it was with all of them.
+-- With the codes that are ahead toggled too, the chain is what it was with all of them.
 use Rattle.std.proofs.Common.{◌≡◌, drop}
 use Rattle.cancel.proofs.MapLemmas.{toggled_by}
 use Rattle.cancel.proofs.steps.toggle_all.Given as goal

@@ -1,4 +1,4 @@
--- Each target is one_more_toggled once, so the border is added.
+-- Each target is toggled once, so the border is added.
 use Rattle.std.proofs.Common.{sym, ap, subst, ◌∙◌}
 use Rattle.std.proofs.lemmas.List.{take_all}
 use Rattle.f2_algebra.specs.Chain.{◌⊕◌}
