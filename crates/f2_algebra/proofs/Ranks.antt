@@ -5,3 +5,4 @@ pub mod Existence
 pub mod Part
 pub mod Bigraded
 pub mod Maps
+pub mod OrderLemmas

@@ -9,12 +9,14 @@ use Rattle.std.proofs.lemmas.List.Edits.{length-insert, get_or-insert_below, get
 use Rattle.std.proofs.lemmas.List.Elements.{All-append, All-cons, All-take, All-drop}
 use Rattle.std.proofs.Math.Nat.{mul-le-mul_left, mul-le-mul_right, one-le-mul}
 use Rattle.std.proofs.Math.Pow.{pow_mono}
-use Rattle.hat_division.specs.Table.{comes_before, AreOrdered, IsTable}
+use Rattle.f2_algebra.specs.Bigraded.{stands_before}
+use Rattle.f2_algebra.proofs.Ranks.OrderLemmas.{stands_before-transitive}
+use Rattle.hat_division.specs.Table.{bidegree_of, AreOrdered, IsTable}
 use Rattle.hat_division.specs.Product.{stands_at, rank_at, binomial, sum_first, product_rank, IsProduct}
 use Rattle.hat_division.specs.Inner.Products.{ArePositive, IsPut, IsPartOfProduct, AreShiftsPut, AreRowsPut}
 use Rattle.hat_division.specs.declared.tables.TableRow.{TableRow}
 use Rattle.hat_division.proofs.SumLemmas.{sum_first-le, term-le, term-found, sum_first-scaled, sum-binomials, binomial-none, binomial-positive}
-use Rattle.hat_division.proofs.RankLemmas.{apart, apart_back, ordered_or_together, comes_before-transitive, degrees_of, stands_itself, rank_at-nil, rank_at-insert, part_at-here, part_at-elsewhere, rank_at-le, rank_at-none, row_found, rank_at-row}
+use Rattle.hat_division.proofs.RankLemmas.{apart, apart_back, ordered_or_together, degrees_of, stands_itself, rank_at-nil, rank_at-insert, part_at-here, part_at-elsewhere, rank_at-le, rank_at-none, row_found, rank_at-row}
 
 -- a term of the product
 abbrev pub product_term : ℕ → List TableRow → ℤ → ℤ → ℕ → ℕ
@@ -137,10 +139,11 @@ ArePositive-table rows h = record { ordered = h.ordered; positive = λ k d l. (h
 
 -- a row is put at the place that parts those before it from the others
 module _ (old : List TableRow) (row : TableRow) (p : ℕ) (positive : ArePositive old) (one : 1 ≤ row.rank)
-    (le : p ≤ length old) (before : (k : ℕ) (d : TableRow) → k < p → comes_before (get_or old k d) row ≡ true)
-    (rest : (d : TableRow) → p < length old → comes_before (get_or old p d) row ≡ false)
+    (le : p ≤ length old) (before : (k : ℕ) (d : TableRow) → k < p
+    → stands_before (bidegree_of (get_or old k d)) (bidegree_of row) ≡ true)
+    (rest : (d : TableRow) → p < length old → stands_before (bidegree_of (get_or old p d)) (bidegree_of row) ≡ false)
     (free : (d : TableRow) → p < length old → stands_at (get_or old p d) row.m row.a ≡ false) where
-  next_after : (d : TableRow) → p < length old → comes_before row (get_or old p d) ≡ true
+  next_after : (d : TableRow) → p < length old → stands_before (bidegree_of row) (bidegree_of (get_or old p d)) ≡ true
   next_after d l = elim (ordered_or_together row (get_or old p d)) [
     | inl h ↦ h
     | inr other ↦ elim other [
@@ -149,11 +152,14 @@ module _ (old : List TableRow) (row : TableRow) (p : ℕ) (positive : ArePositiv
     ]
   ]
 
-  all_after : (k : ℕ) (d : TableRow) → p ≤ k → k < length old → comes_before row (get_or old k d) ≡ true
+  all_after : (k : ℕ) (d : TableRow) → p ≤ k → k < length old
+      → stands_before (bidegree_of row) (bidegree_of (get_or old k d)) ≡ true
   all_after k d b l = elim (cases_eq k p) [
-    | inl e ↦ subst (λ n. comes_before row (get_or old n d) ≡ true) (sym e) (next_after d (omega arith))
+    | inl e ↦ subst (λ n. stands_before (bidegree_of row) (bidegree_of (get_or old n d)) ≡ true) (sym e)
+        (next_after d (omega arith))
     | inr later ↦
-        comes_before-transitive row (get_or old p d) (get_or old k d) (next_after d (omega arith))
+        stands_before-transitive (bidegree_of row) (bidegree_of (get_or old p d)) (bidegree_of (get_or old k d))
+        (next_after d (omega arith))
         (positive.ordered p k d (omega arith) l)
   ]
 
@@ -177,7 +183,8 @@ module _ (old : List TableRow) (row : TableRow) (p : ℕ) (positive : ArePositiv
   pub put-inserted : IsPut row old (insert old p row)
   put-inserted = record {
     positive = record {
-      ordered = AllPairs-insert (λ q r. IsTrue (comes_before q r)) old p row le positive.ordered before all_after;
+      ordered = AllPairs-insert (λ q r. IsTrue (stands_before (bidegree_of q) (bidegree_of r))) old p row le
+          positive.ordered before all_after;
       positive =
           All-append (λ r. 1 ≤ r.rank) (take p old) (row ∷ drop p old)
           (All-take (λ r. 1 ≤ r.rank) p old positive.positive)

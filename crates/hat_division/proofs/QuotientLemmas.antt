@@ -9,13 +9,14 @@ use Rattle.std.proofs.lemmas.List.{get_or-drop, get_or-take, get_or_default, len
 use Rattle.std.proofs.lemmas.List.Elements.{All-push}
 use Rattle.std.proofs.lemmas.List.Quantifiers.{all_pairs_push}
 use Rattle.std.proofs.Math.Nat.{mul-le-mul_left}
-use Rattle.hat_division.specs.Table.{comes_before}
+use Rattle.f2_algebra.specs.Bigraded.{stands_before}
+use Rattle.hat_division.specs.Table.{bidegree_of}
 use Rattle.hat_division.specs.Product.{stands_at, rank_at, binomial, product_rank, IsProduct, IsQuotient, IsSmall}
 use Rattle.hat_division.specs.Inner.Products.{ArePositive}
 use Rattle.hat_division.specs.Inner.Quotients.{IsCandidate}
 use Rattle.hat_division.specs.declared.tables.TableRow.{TableRow}
 use Rattle.hat_division.proofs.SumLemmas.{sum_first-first, sum_first-le}
-use Rattle.hat_division.proofs.RankLemmas.{not_higher, later_not_higher, comes_before-degrees, degrees_of, together_back, stands_itself, rank_at-nil, rank_at-push, rank_at-more, rank_at-take-drop, part_at-here, part_at-elsewhere, rank_at-le, rank_at-none, row_found, rank_at-row, same_rows}
+use Rattle.hat_division.proofs.RankLemmas.{not_higher, later_not_higher, stands_before-degrees, degrees_of, together_back, stands_itself, rank_at-nil, rank_at-push, rank_at-more, rank_at-take-drop, part_at-here, part_at-elsewhere, rank_at-le, rank_at-none, row_found, rank_at-row, same_rows}
 use Rattle.hat_division.proofs.ProductLemmas.{product_term, term-first, product_rank-sum, product_rank-ge, product-step}
 
 -- what is left of a row's rank, in its bidegree
@@ -156,7 +157,7 @@ module _ (k : ℕ) (rows : List TableRow) (positive : ArePositive rows) (n : ℕ
 
   -- the rows so far come before it
   all_before : (new : TableRow) → stands_at new row.m row.a ≡ true → (i : ℕ) (e : TableRow) → i < length now
-      → IsTrue (comes_before (get_or now i e) new)
+      → IsTrue (stands_before (bidegree_of (get_or now i e)) (bidegree_of new))
   all_before new s i e l =
       let old = get_or now i e in
       let own = rank_at-le now i e old.m old.a l (stands_itself old) in
@@ -165,7 +166,7 @@ module _ (k : ℕ) (rows : List TableRow) (positive : ArePositive rows) (n : ℕ
       let short : t.0 < n = omega (arith, t.1, length-take-le n rows (omega arith)) in
       let there : stands_at (get_or rows t.0 d) old.m old.a ≡ true =
       subst (λ r. stands_at r old.m old.a ≡ true) (get_or-take n rows t.0 d short) (t.2 d) in
-      comes_before-degrees (get_or rows t.0 d) row old new (positive.ordered t.0 n d short within)
+      stands_before-degrees (get_or rows t.0 d) row old new (positive.ordered t.0 n d short within)
       (together_back old (get_or rows t.0 d) there) s
 
   -- the row with the rest of its rank is added
@@ -174,7 +175,7 @@ module _ (k : ℕ) (rows : List TableRow) (positive : ArePositive rows) (n : ℕ
       → IsCandidate k rows (n + 1) (now ++ new ∷ [])
   candidate-pushed new em ea er less = done (now ++ new ∷ []) (record {
     ordered =
-        all_pairs_push (λ p q. IsTrue (comes_before p q)) now new so_far.positive.ordered
+        all_pairs_push (λ p q. IsTrue (stands_before (bidegree_of p) (bidegree_of q))) now new so_far.positive.ordered
         (all_before new (moved row.m row.a (stands_itself row)));
     positive = All-push (λ r. 1 ≤ r.rank) now new so_far.positive.positive (omega arith);
   }) (λ m a. rank_at-push now new m a

@@ -8,35 +8,37 @@ use Rattle.std.proofs.lemmas.Bool.Decides.{Decides-int_eq}
 use Rattle.std.proofs.lemmas.Int.{ints}
 use Rattle.std.proofs.lemmas.List.Elements.{All-head, All-tail}
 use Rattle.std.proofs.lemmas.List.Sums.{sum_by-cons, sum_by_push, sum_by_more, sum_by-take-drop, sum_by-insert, get_or-le-sum_by}
-use Rattle.hat_division.specs.Table.{comes_before, AreOrdered}
+use Rattle.f2_algebra.specs.Bigraded.{stands_before}
+use Rattle.f2_algebra.proofs.Ranks.OrderLemmas.{stands_before-transitive}
+use Rattle.hat_division.specs.Table.{bidegree_of, AreOrdered}
 use Rattle.hat_division.specs.Product.{stands_at, part_at, rank_at}
 use Rattle.hat_division.specs.Inner.Products.{ArePositive}
 use Rattle.hat_division.specs.declared.tables.TableRow.{TableRow}
 
 -- ---- the order of rows
 -- rows of which one comes before the other stand in different bidegrees
-pub apart : (p q : TableRow) (m a : ℤ) → comes_before p q ≡ true → stands_at p m a ≡ true → stands_at q m a ≡ false
+pub apart : (p q : TableRow) (m a : ℤ) → stands_before (bidegree_of p) (bidegree_of q) ≡ true → stands_at p m a ≡ true
+    → stands_at q m a ≡ false
 apart p q m a h s = grind (arith, ints)
 
-pub apart_back : (p q : TableRow) (m a : ℤ) → comes_before p q ≡ true → stands_at q m a ≡ true → stands_at p m a ≡ false
+pub apart_back : (p q : TableRow) (m a : ℤ) → stands_before (bidegree_of p) (bidegree_of q) ≡ true
+    → stands_at q m a ≡ true → stands_at p m a ≡ false
 apart_back p q m a h s = grind (arith, ints)
 
 -- of two rows one comes before the other, or they stand in one bidegree
-pub ordered_or_together : (p q : TableRow) → (comes_before p q ≡ true) ⊎ ((comes_before q p ≡ true) ⊎ (stands_at q p.m p.a ≡ true))
-ordered_or_together p q = elim (cases_Bool (comes_before p q)) [
+pub ordered_or_together : (p q : TableRow) → (stands_before (bidegree_of p) (bidegree_of q) ≡ true)
+    ⊎ ((stands_before (bidegree_of q) (bidegree_of p) ≡ true) ⊎ (stands_at q p.m p.a ≡ true))
+ordered_or_together p q = elim (cases_Bool (stands_before (bidegree_of p) (bidegree_of q))) [
   | inl h ↦ inl h
-  | inr h ↦ elim (cases_Bool (comes_before q p)) [
+  | inr h ↦ elim (cases_Bool (stands_before (bidegree_of q) (bidegree_of p))) [
     | inl k ↦ inr (inl k)
     | inr k ↦ inr (inr (together p q h k))
   ]
 ]
   where
-    together : (p q : TableRow) → comes_before p q ≡ false → comes_before q p ≡ false → stands_at q p.m p.a ≡ true
+    together : (p q : TableRow) → stands_before (bidegree_of p) (bidegree_of q) ≡ false
+        → stands_before (bidegree_of q) (bidegree_of p) ≡ false → stands_at q p.m p.a ≡ true
     together p q h k = grind (arith, ints)
-
-pub comes_before-transitive : (p q r : TableRow) → comes_before p q ≡ true → comes_before q r ≡ true
-    → comes_before p r ≡ true
-comes_before-transitive p q r h k = grind (arith, ints)
 
 -- the degrees of a row
 pub degrees_of : (row : TableRow) (m a : ℤ) → stands_at row m a ≡ true → (row.m ≡ m) × (row.a ≡ a)
@@ -58,13 +60,15 @@ together_back p q s = grind (arith, ints)
 pub not_higher : (p : TableRow) (m a : ℤ) → p.a <ℤ a → stands_at p m a ≡ false
 not_higher p m a l = grind (arith, ints)
 
-pub later_not_higher : (p q : TableRow) (m a : ℤ) → comes_before p q ≡ true → p.a <ℤ a → stands_at q m a ≡ false
+pub later_not_higher : (p q : TableRow) (m a : ℤ) → stands_before (bidegree_of p) (bidegree_of q) ≡ true → p.a <ℤ a
+    → stands_at q m a ≡ false
 later_not_higher p q m a h l = grind (arith, ints)
 
 -- what comes before a row comes before each row in its bidegree, and so does a row in the bidegree of the first
-pub comes_before-degrees : (p q r s : TableRow) → comes_before p q ≡ true → stands_at r p.m p.a ≡ true
-    → stands_at s q.m q.a ≡ true → comes_before r s ≡ true
-comes_before-degrees p q r s h e f = grind (arith, ints)
+pub stands_before-degrees : (p q r s : TableRow) → stands_before (bidegree_of p) (bidegree_of q) ≡ true
+    → stands_at r p.m p.a ≡ true
+    → stands_at s q.m q.a ≡ true → stands_before (bidegree_of r) (bidegree_of s) ≡ true
+stands_before-degrees p q r s h e f = grind (arith, ints)
 
 -- ---- ranks
 pub rank_at-cons : (row : TableRow) (rows : List TableRow) (m a : ℤ)
@@ -159,7 +163,8 @@ rank_at-row (row ∷ rows) (suc i) d m a ordered l s =
 
 -- ---- tables with the same ranks
 -- a row that stands before all others of a list stands in no bidegree of theirs
-before_all : (row next : TableRow) (rows : List TableRow) → AreOrdered (next ∷ rows) → comes_before row next ≡ true
+before_all : (row next : TableRow) (rows : List TableRow) → AreOrdered (next ∷ rows)
+    → stands_before (bidegree_of row) (bidegree_of next) ≡ true
     → rank_at (next ∷ rows) row.m row.a ≡ 0
 before_all row next rows ordered h = rank_at-none (next ∷ rows) row.m row.a each
   where
@@ -167,7 +172,8 @@ before_all row next rows ordered h = rank_at-none (next ∷ rows) row.m row.a ea
     each zero d l = apart row next row.m row.a h (stands_itself row)
     each (suc k) d l =
         apart row (get_or rows k d) row.m row.a
-        (comes_before-transitive row next (get_or rows k d) h (ordered 0 (suc k) d (omega arith) l))
+        (stands_before-transitive (bidegree_of row) (bidegree_of next) (bidegree_of (get_or rows k d)) h
+        (ordered 0 (suc k) d (omega arith) l))
         (stands_itself row)
 
 -- the rank at the first row

@@ -1,20 +1,19 @@
 -- Tables of ranks by bidegree.
---     comes_before p q    p stands before q: its Alexander degree is higher, or that is the same and its
---                         Maslov degree is higher
---     AreOrdered rows     the rows are in this order, and no degree comes twice
+--     bidegree_of row     its Maslov degree and its Alexander degree
+--     AreOrdered rows     each row stands before the later ones, by its bidegree, so that none comes twice
 --     greatest_rank       2^48, the greatest rank of a table
 --     HasRank row         the rank of the row is from 1 to 2^48
 --     IsTable rows        the rows are in this order, no degree comes twice, and each has a rank
-use Rattle.std.specs.Prelude.{ℕ, ◌≤◌, ◌^◌, Bool, List, IsTrue}
+use Rattle.std.specs.Prelude.{ℕ, ◌≤◌, ◌^◌, ℤ, List, IsTrue}
 use Rattle.std.specs.List.{All, AllPairs}
 use Rattle.f2_algebra.specs.Bigraded.{stands_before}
 use Rattle.hat_division.specs.declared.tables.TableRow.{TableRow}
 
-abbrev pub comes_before : TableRow → TableRow → Bool
-comes_before p q = stands_before (p.m, p.a) (q.m, q.a)
+abbrev pub bidegree_of : TableRow → ℤ × ℤ
+bidegree_of row = (row.m, row.a)
 
 abbrev pub AreOrdered : List TableRow → Type 0
-AreOrdered rows = AllPairs (λ p q. IsTrue (comes_before p q)) rows
+AreOrdered rows = AllPairs (λ p q. IsTrue (stands_before (bidegree_of p) (bidegree_of q))) rows
 
 abbrev pub greatest_rank : ℕ
 greatest_rank = 2 ^ 48

@@ -1,7 +1,8 @@
 //! Products of tables and powers of 1 + q^-1 t^-1.
 ghost use Rattle.std.specs.Prelude.{◌≡◌, ◌+◌, ◌<◌, ◌≤◌, ◌^◌, ℕ, pos, ◌≤ℤ◌, true, false, length, slice_index_or, IfOk, OnOk};
 ghost use Rattle.std.specs.List.{All, Contains};
-ghost use Rattle.hat_division.specs.Table.{comes_before, AreOrdered};
+ghost use Rattle.f2_algebra.specs.Bigraded.{stands_before};
+ghost use Rattle.hat_division.specs.Table.{bidegree_of, AreOrdered};
 ghost use Rattle.hat_division.specs.Product.{rank_at as rank_at_of, product_rank as product_rank_of, IsProduct, IsSmall};
 ghost use Rattle.hat_division.specs.Inner.Products.{ArePositive, IsPut, IsPartOfProduct, AreShiftsPut};
 ghost use Rattle.hat_division.specs.declared.tables.TableRow.{TableRow};
@@ -70,12 +71,12 @@ fn put_row(rows: &mut Vec<TableRow>, row: TableRow) -> Result<(), NoMemory>
 fn place_of(rows: &[TableRow], row: &TableRow) -> usize
     ensures within { result ≤ length rows.now }
     ensures before { (k : ℕ) (d : TableRow) → k < result
-        → comes_before (slice_index_or rows.now k d) row.now ≡ true }
+        → stands_before (bidegree_of (slice_index_or rows.now k d)) (bidegree_of row.now) ≡ true }
     ensures rest { (d : TableRow) → result < length rows.now
-        → comes_before (slice_index_or rows.now result d) row.now ≡ false }
+        → stands_before (bidegree_of (slice_index_or rows.now result d)) (bidegree_of row.now) ≡ false }
 {
     for (i, other) in rows.iter().enumerate() {
-        if !other.comes_before(row) {
+        if !other.stands_before(row) {
             return i;
         }
     }

@@ -1,7 +1,8 @@
 //! Tables of ranks.
 ghost use Rattle.std.specs.Prelude.{◌≡◌, ℕ, ◌↔◌, ◌≤◌, IsTrue, IsSome, IfSome, length};
 ghost use Rattle.std.specs.List.{All, sum_by};
-ghost use Rattle.hat_division.specs.Table.{IsTable, comes_before, AreOrdered, HasRank, greatest_rank};
+ghost use Rattle.f2_algebra.specs.Bigraded.{stands_before};
+ghost use Rattle.hat_division.specs.Table.{IsTable, bidegree_of, AreOrdered, HasRank, greatest_rank};
 ghost use Rattle.hat_division.specs.Product.{stands_at};
 
 use std::marker::Model;
@@ -20,8 +21,8 @@ pub struct TableRow {
 impl TableRow {
     /// Whether this row stands before `other` in a table: its Alexander degree is higher, or that is the
     /// same and its Maslov degree is higher.
-    pub(crate) fn comes_before(&self, other: &TableRow) -> bool
-        ensures { result ≡ comes_before self.now other.now }
+    pub(crate) fn stands_before(&self, other: &TableRow) -> bool
+        ensures { result ≡ stands_before (bidegree_of self.now) (bidegree_of other.now) }
     {
         self.a > other.a || (self.a == other.a && self.m > other.m)
     }
@@ -44,7 +45,7 @@ fn are_ordered(rows: &[TableRow]) -> bool
     ensures { IsTrue result ↔ AreOrdered rows.now }
 {
     for i in 1..rows.len() {
-        if !rows[i - 1].comes_before(&rows[i]) {
+        if !rows[i - 1].stands_before(&rows[i]) {
             return false;
         }
     }

@@ -6,8 +6,6 @@
 --     StepPair              a step and its probe
 --     Cell                  a bidegree (Maslov degree, Alexander degree), its cycle pairs and its step pairs
 --     Certificate           a grid and its cells
---     comes_first p q       p stands before q: its Alexander degree is higher, or that is the same and its Maslov
---                           degree is higher
 --     AreSmallDegrees d     both degrees are from -1,000 to 1,000
 --     entry_count cells     the number of entries: the cells, the cycle pairs and the step pairs
 --     HasPairStates n c     the pairs of a cell are chains of states of size n
@@ -38,9 +36,6 @@ pub record Certificate : Type 0 where
   pub grid : Marks
   pub cells : List Cell
 
-abbrev pub comes_first : Cell → Cell → Bool
-comes_first p q = stands_before p.at q.at
-
 pub record AreSmallDegrees (d : ℤ × ℤ) : Type 0 where
   pub maslov : IsSmallDegree d.0
   pub alexander : IsSmallDegree d.1
@@ -55,7 +50,7 @@ pub record HasPairStates (n : ℕ) (c : Cell) : Type 0 where
 pub record IsCertificate (c : Certificate) : Type 0 where
   pub grid : IsGrid c.grid
   pub small : size c.grid ≤ max_certified_size
-  pub ordered : AllPairs (λ p q. IsTrue (comes_first p q)) c.cells
+  pub ordered : AllPairs (λ (p q : Cell). IsTrue (stands_before p.at q.at)) c.cells
   pub degrees : All (λ (cell : Cell). AreSmallDegrees cell.at) c.cells
   pub states : All (HasPairStates (size c.grid)) c.cells
   pub few : entry_count c.cells < 2 ^ 32 - 1

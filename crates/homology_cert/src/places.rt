@@ -5,7 +5,8 @@ ghost use Rattle.state_rank.specs.Bijection.{IsBijection};
 ghost use Rattle.torus_geom.specs.Marks.{Marks, size, IsGrid};
 ghost use Rattle.homology_cert.specs.CertificateCodes.{Cell};
 ghost use Rattle.homology_cert.specs.Certificates.{AreSmallDegrees};
-ghost use Rattle.homology_cert.specs.Inner.CodeCertificates.{AreStates, comes_first as comes_first_of};
+ghost use Rattle.f2_algebra.specs.Bigraded.{stands_before as stands_before_of};
+ghost use Rattle.homology_cert.specs.Inner.CodeCertificates.{AreStates};
 ghost use Rattle.homology_cert.specs.CertificateText.{marks_line, degree_line};
 ghost use Rattle.text_lines.specs.Lines.{set_line};
 ghost use Rattle.homology_cert.specs.Inner.Reading.{size_line, IsSmallSize, LeadsTo, IsAt, new_cell, with_cycle, with_step};
@@ -154,7 +155,7 @@ fn cell_place(
     let Some(d) = degree_of(line) else {
         return pair_place(alloc, g, cell, line);
     };
-    if !comes_first(cell.degree(), &d) {
+    if !stands_before(cell.degree(), &d) {
         return Ok(None);
     }
     cells.push(cell)?;
@@ -235,9 +236,9 @@ fn is_last_line(line: &[u8]) -> bool
     line == b"end".as_slice()
 }
 
-// Whether a cell of the one bidegree stands before a cell of the other.
-fn comes_first(d: &Bidegree, e: &Bidegree) -> bool
-    ensures { result ≡ comes_first_of (new_cell (d.now.m, d.now.a)) (new_cell (e.now.m, e.now.a)) }
+// Whether the one bidegree stands before the other.
+fn stands_before(d: &Bidegree, e: &Bidegree) -> bool
+    ensures { result ≡ stands_before_of (d.now.m, d.now.a) (e.now.m, e.now.a) }
 {
     d.a > e.a || (d.a == e.a && d.m > e.m)
 }

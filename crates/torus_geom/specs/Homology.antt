@@ -1,8 +1,6 @@
 -- The homology of the fully blocked grid complex over the field of two elements (Ozsváth, Stipsicz and Szabó, "Grid
 -- Homology for Knots and Links", chapter 4), degree by degree.
 --     Row                        a Maslov degree, an Alexander degree and a rank
---     StandsBefore p q           the Alexander degree of p is higher than that of q, or that is the same and the Maslov
---                                degree is higher
 --     HasDegree g m a x          x is a state of g with Maslov degree m and Alexander degree a
 --     AreOfDegree g m a z        so is each state in z
 --     IsCycle g m a z            z is of this degree, and its border is empty
@@ -15,7 +13,7 @@ use Rattle.std.specs.List.{Contains, AllPairs}
 use Rattle.state_rank.specs.Bijection.{IsBijection}
 use Rattle.torus_geom.specs.Marks.{Marks, size}
 use Rattle.torus_geom.specs.Degrees.{maslov_o, alexander}
-use Rattle.f2_algebra.specs.Bigraded as bigraded
+use Rattle.f2_algebra.specs.Bigraded.{StandsBefore}
 use Rattle.f2_algebra.specs.Dimension.{IsDimension}
 use Rattle.torus_geom.specs.Chains.{Chain, nothing, chain_sums}
 use Rattle.torus_geom.specs.Border.{border}
@@ -40,9 +38,6 @@ IsHomologyRank g m a d = IsDimension chain_sums (IsCycle g m a) (IsBoundary g m 
 abbrev pub Row : Type 0
 Row = ℤ × ℤ × ℕ
 
-abbrev pub StandsBefore : Row → Row → Type 0
-StandsBefore p q = bigraded.StandsBefore (p.0, p.1) (q.0, q.1)
-
 pub record IsHomologyTable (g : Marks) (rows : List Row) : Type 0 where
-  pub ordered : AllPairs StandsBefore rows
+  pub ordered : AllPairs (λ (p q : Row). StandsBefore (p.0, p.1) (q.0, q.1)) rows
   pub complete : (m a : ℤ) (d : ℕ) → Contains rows (m, a, d) ↔ ((0 < d) × IsHomologyRank g m a d)

@@ -1,14 +1,14 @@
 -- Each grid has a table, and a hat or none.
-use Rattle.std.proofs.Common.{◌≡◌, ℕ, ◌<◌, ◌≤◌, List, [], ◌∷◌, map, length, get_or, All, Contains, Option, Some, None, inl, inr, true, refl, sym, ap, subst, ◌∙◌, arith}
-use Rattle.std.specs.Prelude.{◌<ℤ◌}
+use Rattle.std.proofs.Common.{◌≡◌, ℕ, ◌<◌, ◌≤◌, List, [], ◌∷◌, map, length, get_or, All, Contains, Option, Some, None, inl, inr, refl, sym, ap, subst, ◌∙◌, arith}
 use Rattle.std.specs.Prelude.{MatchOption}
-use Rattle.std.proofs.lemmas.Int.{ints}
 use Rattle.std.proofs.lemmas.List.{get_or-map}
 use Rattle.std.proofs.lemmas.List.Elements.{Contains-get_or}
 use Rattle.std.proofs.lemmas.List.Sums.{length-filter, count_by-le-length}
+use Rattle.f2_algebra.specs.Bigraded.{StandsBefore}
+use Rattle.f2_algebra.proofs.Ranks.OrderLemmas.{Decides-stands_before}
 use Rattle.state_rank.specs.Bijection.{ascending}
 use Rattle.state_rank.proofs.OrderLemmas.{length-tabulate}
-use Rattle.hat_division.specs.Table.{comes_before, AreOrdered}
+use Rattle.hat_division.specs.Table.{bidegree_of, AreOrdered}
 use Rattle.hat_division.specs.Product.{IsQuotient}
 use Rattle.hat_division.specs.Inner.Products.{ArePositive}
 use Rattle.hat_division.specs.declared.tables.TableRow.{TableRow}
@@ -18,7 +18,7 @@ use Rattle.homology_cert.proofs.Homology.StateTables.{exists_homology_table, one
 use Rattle.report_text.specs.Lines.{table_lines, hat_lines}
 use Rattle.torus_geom.specs.Components.{is_first, components}
 use Rattle.torus_geom.specs.Homology.{IsHomologyTable}
-use Rattle.torus_geom.specs.Homology.{Row, StandsBefore}
+use Rattle.torus_geom.specs.Homology.{Row}
 use Rattle.torus_geom.specs.Marks.{Marks, size, IsGrid}
 use Rattle.grid_job.specs.Hat.{hat_exponent, IsHat, IsHatText}
 use Rattle.grid_job.specs.Report.{IsTableText}
@@ -57,16 +57,6 @@ one_table g rows others table other =
     ∙ table_rows others
 
 -- ---- its rows are in order, with ranks above 0
-comes_first : (p q : TableRow) → StandsBefore (homology_row p) (homology_row q) → comes_before p q ≡ true
-comes_first p q (inl higher) = above p q higher
-  where
-    above : (p q : TableRow) → q.a <ℤ p.a → comes_before p q ≡ true
-    above p q h = grind (arith, ints)
-comes_first p q (inr level) = beside p q level.0 level.1
-  where
-    beside : (p q : TableRow) → q.a ≡ p.a → q.m <ℤ p.m → comes_before p q ≡ true
-    beside p q e h = grind (arith, ints)
-
 module _ (g : Marks) (rows : List TableRow) (table : IsHomologyTable g (map homology_row rows)) where
   at_row : (k : ℕ) (d : TableRow) → k < length rows
       → get_or (map homology_row rows) k (homology_row d) ≡ homology_row (get_or rows k d)
@@ -76,10 +66,9 @@ module _ (g : Marks) (rows : List TableRow) (table : IsHomologyTable g (map homo
   in_order i j d l within =
       let pair = table.ordered i j (homology_row d) l (below-map homology_row rows j within) in
       let first =
-      subst (λ r. StandsBefore r (get_or (map homology_row rows) j (homology_row d)))
-      (at_row i d (omega (arith, l, within))) pair in
-      comes_first (get_or rows i d) (get_or rows j d)
-      (subst (StandsBefore (homology_row (get_or rows i d))) (at_row j d within) first)
+      subst (λ (t : Row × Row). StandsBefore (t.0.0, t.0.1) (t.1.0, t.1.1))
+      (λ k. (at_row i d (omega (arith, l, within)) k, at_row j d within k)) pair in
+      (Decides-stands_before (bidegree_of (get_or rows i d)) (bidegree_of (get_or rows j d))).1 first
 
   above_zero : All (λ (row : TableRow). 1 ≤ row.rank) rows
   above_zero k d l =

@@ -15,8 +15,9 @@ use Rattle.std.proofs.lemmas.Int.{ints}
 use Rattle.std.proofs.lemmas.Map.Views.{Contains-from_any}
 use Rattle.f2_algebra.specs.Chain.{Chain, holds, codes, nothing, pairs_oddly}
 use Rattle.f2_algebra.specs.Complex.{Complex, AllOfDegree, IsCycle, IsComplex, IsRank, border as border_in}
-use Rattle.f2_algebra.specs.Bigraded.{up_m}
+use Rattle.f2_algebra.specs.Bigraded.{up_m, stands_before, StandsBefore}
 use Rattle.f2_algebra.specs.Certificate.{CyclePair, StepPair, IsAllCells, AreCyclePairs, AreStepPairs, IsCertCell, Passes, steps_at}
+use Rattle.f2_algebra.proofs.Ranks.OrderLemmas.{Decides-stands_before}
 use Rattle.f2_algebra.proofs.Chains.Sets.{any, IsApart, same_chain, holds-codes, holds-nothing, pairs_oddly-weight, weight-nothing, each_code}
 use Rattle.f2_algebra.proofs.Cancelling.Cancellation.{same_some}
 use Rattle.f2_algebra.proofs.Ranks.Existence.{cells_of, cells_of-all, has_degree as has_degree_in}
@@ -33,13 +34,13 @@ use Rattle.torus_geom.specs.Marks.{Marks, size, IsGrid}
 use Rattle.torus_geom.specs.Degrees.{bidegree}
 use Rattle.torus_geom.specs.Inner.CodeBorder.{border_of_state, border}
 use Rattle.torus_geom.specs.Inner.GridComplex.{grid_complex}
-use Rattle.torus_geom.specs.Homology.{Row, StandsBefore}
+use Rattle.torus_geom.specs.Homology.{Row}
 use Rattle.torus_geom.specs.Inner.CodeHomology.{IsHomologyTable, IsHomologyRank}
 use Rattle.torus_geom.proofs.Sums.AllBelowLemmas.{at_all_below}
 use Rattle.rectangles.proofs.Square.BorderLemmas.{border-grid_complex}
 use Rattle.rectangles.proofs.Law.GridComplexLemmas.{grid_complex_rules}
 use Rattle.homology_cert.specs.CertificateCodes.{Cell, Certificate}
-use Rattle.homology_cert.specs.Inner.CodeCertificates.{comes_first, AreStates, HasCycleStates, HasStepStates, HasPairStates, IsCertificate}
+use Rattle.homology_cert.specs.Inner.CodeCertificates.{AreStates, HasCycleStates, HasStepStates, HasPairStates, IsCertificate}
 use Rattle.homology_cert.specs.CertificateTests.{same_degree, one_below}
 use Rattle.homology_cert.specs.Inner.CodeTests.{has_bidegree, all_have, state_count_at, is_empty_chain, is_cocycle, verdict_of, certified_rows}
 use Rattle.homology_cert.specs.declared.verdicts.CertVerdict.TheVariants.{Yes}
@@ -330,22 +331,12 @@ module _ (c : Certificate) (is : IsCertificate c) (told : verdict_of c ≡ Yes) 
           (no_cell_at at c.cells h)) in
           absurd (omega arith)
 
-  before : (p q : Cell) → IsTrue (comes_first p q) → StandsBefore (row_of p) (row_of q)
-  before p q h = elim (or_cases (int_lt q.at.1 p.at.1) (int_eq q.at.1 p.at.1 && int_lt q.at.0 p.at.0) h) [
-    | inl higher ↦ inl (int_lt-true q.at.1 p.at.1 higher)
-    | inr same ↦
-        let parts = and_parts (int_eq q.at.1 p.at.1) (int_lt q.at.0 p.at.0) same in
-        inr ((Decides-int_eq q.at.1 p.at.1).0 parts.0, int_lt-true q.at.0 p.at.0 parts.1)
-  ]
-    where
-      int_lt-true : (x y : ℤ) → int_lt x y ≡ true → x <ℤ y
-      int_lt-true x y h = omega (arith, ints, h)
-
   -- the rows are the table of the ranks of the grid
   pub table_of_certificate : IsHomologyTable c.grid (certified_rows c.cells)
   table_of_certificate = record {
     ordered =
-        pairs_map (λ p q. IsTrue (comes_first p q)) StandsBefore row_of (filter has_cycles c.cells) before
-        (pairs_filter (λ p q. IsTrue (comes_first p q)) has_cycles c.cells is.ordered);
+        pairs_map (λ (p q : Cell). IsTrue (stands_before p.at q.at)) (λ (p q : Row). StandsBefore (p.0, p.1) (q.0, q.1))
+        row_of (filter has_cycles c.cells) (λ p q. (Decides-stands_before p.at q.at).0)
+        (pairs_filter (λ (p q : Cell). IsTrue (stands_before p.at q.at)) has_cycles c.cells is.ordered);
     complete = λ m a d. (told_row m a d, λ h. row_of_rank m a d h.0 h.1);
   }

@@ -13,7 +13,8 @@ use Rattle.state_rank.proofs.OrderLemmas.{Contains-ascending, ascending_rises}
 use Rattle.torus_geom.specs.Marks.{Marks, size, IsGrid}
 use Rattle.torus_geom.specs.Degrees.{maslov_o, alexander}
 use Rattle.torus_geom.specs.Inner.CodeHomology.{IsHomologyRank, IsHomologyTable}
-use Rattle.torus_geom.specs.Homology.{Row, StandsBefore}
+use Rattle.f2_algebra.specs.Bigraded.{StandsBefore}
+use Rattle.torus_geom.specs.Homology.{Row}
 use Rattle.homology_cert.proofs.Homology.SliceRanks.{one_homology_rank}
 use Rattle.homology_cert.proofs.Homology.TableLemmas.{no_homology}
 use Rattle.homology_cert.proofs.Homology.LawLemmas.{some_homology_rank}
@@ -96,7 +97,7 @@ row_of : ℤ → ℤ → ℕ → List Row
 row_of m a zero = []
 row_of m a (suc d) = (m, a, suc d) ∷ []
 
-row_of-pairs : (m a : ℤ) (d : ℕ) → AllPairs StandsBefore (row_of m a d)
+row_of-pairs : (m a : ℤ) (d : ℕ) → AllPairs (λ (p q : Row). StandsBefore (p.0, p.1) (q.0, q.1)) (row_of m a d)
 unfolding row_of
 row_of-pairs m a zero = λ i j e l k. absurd (omega (arith, k))
 row_of-pairs m a (suc d) = λ i j e l k. absurd (omega (arith, l, k))
@@ -132,10 +133,11 @@ module _ (g : Marks) (grid : IsGrid g) (b : ℕ) where
       let told = member_of_row found.0 a (rank_of found.0 a) row found.2 in
       (found.0, told.0, told.1)
 
-  rows_at-ordered : (a : ℤ) → AllPairs StandsBefore (rows_at a)
+  rows_at-ordered : (a : ℤ) → AllPairs (λ (p q : Row). StandsBefore (p.0, p.1) (q.0, q.1)) (rows_at a)
   unfolding rows_at
   rows_at-ordered a =
-      pairs_flat_map (λ x y. y <ℤ x) StandsBefore (λ m. row_of m a (rank_of m a)) (window b) (window-falls b)
+      pairs_flat_map (λ x y. y <ℤ x) (λ (p q : Row). StandsBefore (p.0, p.1) (q.0, q.1))
+      (λ m. row_of m a (rank_of m a)) (window b) (window-falls b)
       (λ m inside. row_of-pairs m a (rank_of m a))
       (λ m n less p q in_m in_n.
       let at_m = (member_of_row m a (rank_of m a) p in_m).1 in
@@ -145,10 +147,11 @@ module _ (g : Marks) (grid : IsGrid g) (b : ℕ) where
         subst (λ x. q.0 <ℤ x) (ap (λ r. r.0) at_m) (subst (λ x. x <ℤ m) (ap (λ r. r.0) at_n) less),
       ))
 
-  all_rows-ordered : AllPairs StandsBefore all_rows
+  all_rows-ordered : AllPairs (λ (p q : Row). StandsBefore (p.0, p.1) (q.0, q.1)) all_rows
   unfolding all_rows
   all_rows-ordered =
-      pairs_flat_map (λ x y. y <ℤ x) StandsBefore rows_at (window b) (window-falls b)
+      pairs_flat_map (λ x y. y <ℤ x) (λ (p q : Row). StandsBefore (p.0, p.1) (q.0, q.1)) rows_at (window b)
+      (window-falls b)
       (λ a inside. rows_at-ordered a)
       (λ a c less p q in_a in_c.
       let at_a = (member_of_rows_at a p in_a).2 in

@@ -15,7 +15,9 @@ use Rattle.torus_geom.specs.Marks.{Marks, size, IsGrid}
 use Rattle.torus_geom.specs.Degrees.{bidegree}
 use Rattle.torus_geom.specs.Inner.GridComplex.{grid_complex}
 use Rattle.torus_geom.specs.Inner.CodeHomology.{IsHomologyRank, IsHomologyTable}
-use Rattle.torus_geom.specs.Homology.{Row, StandsBefore}
+use Rattle.f2_algebra.specs.Bigraded.{StandsBefore}
+use Rattle.f2_algebra.proofs.Ranks.OrderLemmas.{StandsBefore-asymmetric}
+use Rattle.torus_geom.specs.Homology.{Row}
 use Rattle.rectangles.proofs.Law.GridComplexLemmas.{grid_complex_rules}
 
 -- ---- each bidegree has a rank
@@ -84,15 +86,10 @@ module _ {A : Type 0} (R : A → A → Type 0) (one_way : (x y : A) → R x y �
       λ i. first i ∷ tails i
 
 -- ---- a grid has one table
-one_way : (p q : Row) → StandsBefore p q → StandsBefore q p → ⊥
-one_way p q (inl a) (inl b) = omega (arith, ints, a, b)
-one_way p q (inl a) (inr b) = omega (arith, ints, a, b.0)
-one_way p q (inr a) (inl b) = omega (arith, ints, a.0, b)
-one_way p q (inr a) (inr b) = omega (arith, ints, a.1, b.1)
-
 pub one_homology_table : (g : Marks) (s t : List Row) → IsHomologyTable g s → IsHomologyTable g t → s ≡ t
 one_homology_table g s t p q =
-    same_list StandsBefore one_way s t p.ordered q.ordered (λ z. (
+    same_list (λ (p q : Row). StandsBefore (p.0, p.1) (q.0, q.1))
+    (λ p q. StandsBefore-asymmetric (p.0, p.1) (q.0, q.1)) s t p.ordered q.ordered (λ z. (
       λ inside. (q.complete z.0 z.1 z.2).1 ((p.complete z.0 z.1 z.2).0 inside),
       λ inside. (p.complete z.0 z.1 z.2).1 ((q.complete z.0 z.1 z.2).0 inside),
     ))

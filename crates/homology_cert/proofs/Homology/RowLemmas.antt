@@ -1,4 +1,5 @@
 -- The rows of a table: the entries of the map from bidegrees to ranks, from the last to the first.
+use Rattle.f2_algebra.specs.Bigraded.{stands_before}
 use Rattle.hat_division.proofs.WordLemmas.{IfSome-value}
 use Rattle.std.proofs.Common.{◌≡◌, ℕ, ◌-◌, ◌<◌, ◌^◌, ℤ, true, List, [], ◌∷◌, map, reverse, length, get_or, AllPairs, Contains, IsTrue, Option, Some, None, inl, inr, refl, sym, ap, subst, ◌∙◌, arith}
 use Rattle.std.specs.Prelude.{◌<ℤ◌}
@@ -19,25 +20,26 @@ use Rattle.std.proofs.lemmas.Map.Views.{btree_map_get_iff}
 use Rattle.state_rank.proofs.MemberLemmas.{member_cases, no_member, Contains-map, member_of_map, pairs_cons}
 use Rattle.torus_geom.specs.Marks.{Marks}
 use Rattle.torus_geom.specs.Inner.CodeHomology.{IsHomologyRank}
-use Rattle.hat_division.specs.Table.{comes_before}
+use Rattle.hat_division.specs.Table.{bidegree_of}
 use Rattle.hat_division.specs.declared.tables.TableRow.{TableRow}
 use Rattle.homology_cert.specs.Inner.Ranks.{degree_cmp, Ranks, rank_in, row_of, HasHomology, IsTold, IsDone, AreReversed, AreRows}
 use Rattle.homology_cert.proofs.Homology.CountLemmas.{degree_cmp_total, exact_degrees}
 use Rattle.homology_cert.proofs.Homology.SliceRanks.{one_homology_rank}
 
 -- ---- from the map to rows
-before-higher : (p q : TableRow) → q.a <ℤ p.a → comes_before p q ≡ true
+before-higher : (p q : TableRow) → q.a <ℤ p.a → stands_before (bidegree_of p) (bidegree_of q) ≡ true
 before-higher p q h = grind (arith, ints)
 
-before-level : (p q : TableRow) → q.a ≡ p.a → q.m <ℤ p.m → comes_before p q ≡ true
+before-level : (p q : TableRow) → q.a ≡ p.a → q.m <ℤ p.m → stands_before (bidegree_of p) (bidegree_of q) ≡ true
 before-level p q e h = grind (arith, ints)
 
 -- a lower key has the later row
-later_row : (e f : (ℤ × ℤ) × ℕ) → degree_cmp e.0 f.0 ≡ Less → comes_before (row_of f) (row_of e) ≡ true
+later_row : (e f : (ℤ × ℤ) × ℕ) → degree_cmp e.0 f.0 ≡ Less
+    → stands_before (bidegree_of (row_of f)) (bidegree_of (row_of e)) ≡ true
 later_row e f less = by (int_cmp e.0.0 f.0.0) refl less
   where
     by : (o : Ordering) → o ≡ int_cmp e.0.0 f.0.0 → ordering_then o (int_cmp e.0.1 f.0.1) ≡ Less
-        → comes_before (row_of f) (row_of e) ≡ true
+        → stands_before (bidegree_of (row_of f)) (bidegree_of (row_of e)) ≡ true
     by Less is h = before-higher (row_of f) (row_of e) (int_ranked e.0.0 f.0.0 Less is)
     by Equal is h =
         before-level (row_of f) (row_of e) (int_ranked e.0.0 f.0.0 Equal is) (int_ranked e.0.1 f.0.1 Less (sym h))
@@ -45,20 +47,22 @@ later_row e f less = by (int_cmp e.0.0 f.0.0) refl less
 
 -- all keys after one are above it
 all_later : (e : (ℤ × ℤ) × ℕ) (es : List ((ℤ × ℤ) × ℕ)) → AllByRecursion (λ q. degree_cmp e.0 q ≡ Less) (keys_of es)
-    → (row : TableRow) → Contains (map row_of es) row → IsTrue (comes_before row (row_of e))
+    → (row : TableRow) → Contains (map row_of es) row
+    → IsTrue (stands_before (bidegree_of row) (bidegree_of (row_of e)))
 all_later e [] h row inside = absurd (no_member row inside)
 all_later e (f ∷ es) h row inside = elim (member_cases (row_of f) (map row_of es) row inside) [
-  | inl is ↦ subst (λ r. IsTrue (comes_before r (row_of e))) is (later_row e f h.0)
+  | inl is ↦ subst (λ r. IsTrue (stands_before (bidegree_of r) (bidegree_of (row_of e)))) is (later_row e f h.0)
   | inr later ↦ all_later e es h.1 row later
 ]
 
 -- the rows of a map stand in the other order
 rows-ascend : (es : List ((ℤ × ℤ) × ℕ)) → IsStrictlySortedBy degree_cmp (keys_of es)
-    → AllPairs (λ p q. IsTrue (comes_before q p)) (map row_of es)
+    → AllPairs (λ p q. IsTrue (stands_before (bidegree_of q) (bidegree_of p))) (map row_of es)
 unfolding IsStrictlySortedBy
 rows-ascend [] s = λ i j d l m. absurd (omega arith)
 rows-ascend (e ∷ es) s =
-    pairs_cons (λ p q. IsTrue (comes_before q p)) (row_of e) (map row_of es) (all_later e es s.0) (rows-ascend es s.1)
+    pairs_cons (λ p q. IsTrue (stands_before (bidegree_of q) (bidegree_of p))) (row_of e) (map row_of es)
+    (all_later e es s.0) (rows-ascend es s.1)
 
 -- a list that was reversed
 pub AreReversed-reverse : (xs ys : List TableRow) → ys ≡ reverse xs → AreReversed xs ys
@@ -69,12 +73,13 @@ AreReversed-reverse xs ys e = record {
 
 -- what stands in the other order is in order
 module _ (xs ys : List TableRow) (r : AreReversed xs ys) where
-  turned : AllPairs (λ p q. IsTrue (comes_before q p)) xs → AllPairs (λ p q. IsTrue (comes_before p q)) ys
+  turned : AllPairs (λ p q. IsTrue (stands_before (bidegree_of q) (bidegree_of p))) xs
+      → AllPairs (λ p q. IsTrue (stands_before (bidegree_of p) (bidegree_of q))) ys
   turned pairs i j d below within =
       let long = r.long in
       let in_j : j < length xs = omega arith in
       let in_i : i < length xs = omega arith in
-      subst (λ (t : TableRow × TableRow). IsTrue (comes_before t.0 t.1))
+      subst (λ (t : TableRow × TableRow). IsTrue (stands_before (bidegree_of t.0) (bidegree_of t.1)))
       (λ k. (sym (r.places i d in_i) k, sym (r.places j d in_j) k))
       (pairs (length xs - 1 - j) (length xs - 1 - i) d (omega arith) (omega arith))
 

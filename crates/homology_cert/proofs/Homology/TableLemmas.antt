@@ -20,6 +20,8 @@ use Rattle.std.proofs.lemmas.Map.Lookups.{exact_signed}
 use Rattle.std.proofs.lemmas.Map.Views.{btree_set_contains_iff}
 use Rattle.f2_algebra.specs.Chain.{Chain, holds, nothing, ◌⊕◌}
 use Rattle.f2_algebra.specs.Complex.{Complex, IsRank}
+use Rattle.f2_algebra.specs.Bigraded.{stands_before, StandsBefore}
+use Rattle.f2_algebra.proofs.Ranks.OrderLemmas.{Decides-stands_before}
 use Rattle.f2_algebra.proofs.Cancelling.LogLemmas.{none_where}
 use Rattle.f2_algebra.proofs.Ranks.RankLemmas.{degree-nothing}
 use Rattle.f2_algebra.proofs.Cancelling.Cancellation.{border-nothing}
@@ -31,9 +33,9 @@ use Rattle.torus_geom.specs.Marks.{Marks, size}
 use Rattle.torus_geom.specs.Degrees.{alexander, bidegree}
 use Rattle.torus_geom.specs.Inner.GridComplex.{grid_complex}
 use Rattle.torus_geom.specs.Inner.CodeHomology.{IsHomologyRank, IsHomologyTable}
-use Rattle.torus_geom.specs.Homology.{Row, StandsBefore}
+use Rattle.torus_geom.specs.Homology.{Row}
 use Rattle.sparse_complex.specs.declared.slices.Cell.{Cell}
-use Rattle.hat_division.specs.Table.{comes_before, IsTable}
+use Rattle.hat_division.specs.Table.{bidegree_of, IsTable}
 use Rattle.hat_division.specs.declared.tables.TableRow.{TableRow}
 use Rattle.gradings.specs.Degrees.{IsSmallDegree}
 use Rattle.rectangles.proofs.Homology.HomologyLemmas.{degree_if}
@@ -211,21 +213,6 @@ order_of x y = elim (cases_Bool (int_lt x y)) [
 ]
 
 -- ---- the whole table
-stands_before : (p q : TableRow) → comes_before p q ≡ true → StandsBefore (homology_row p) (homology_row q)
-stands_before p q h = elim (order_of q.a p.a) [
-  | inl same ↦ inr (same, level p q h same)
-  | inr other ↦ elim other [
-    | inl less ↦ inl less
-    | inr more ↦ absurd (not_more p q h more)
-  ]
-]
-  where
-    level : (p q : TableRow) → comes_before p q ≡ true → q.a ≡ p.a → q.m <ℤ p.m
-    level p q h e = grind (arith, ints)
-
-    not_more : (p q : TableRow) → comes_before p q ≡ true → p.a <ℤ q.a → ⊥
-    not_more p q h m = grind (arith, ints)
-
 -- a row of three numbers
 table_row : Row → TableRow
 table_row r = record { m = r.0; a = r.1; rank = r.2 }
@@ -263,10 +250,11 @@ module _ (g : Marks) (small : AreSmall g) (rows : List TableRow) (all : AreRows 
         let j_in = shorter j within in
         let i_in : i < length rows = omega (arith, l, j_in) in
         let before =
-        stands_before (get_or rows i (table_row d)) (get_or rows j (table_row d))
+        (Decides-stands_before (bidegree_of (get_or rows i (table_row d)))
+        (bidegree_of (get_or rows j (table_row d)))).0
         (all.ordered i j (table_row d) l j_in) in
-        subst (λ p. StandsBefore p (get_or (map homology_row rows) j d)) (sym (at_map i d i_in))
-        (subst (λ q. StandsBefore (homology_row (get_or rows i (table_row d))) q) (sym (at_map j d j_in)) before);
+        subst (λ (t : Row × Row). StandsBefore (t.0.0, t.0.1) (t.1.0, t.1.1))
+        (λ k. (sym (at_map i d i_in) k, sym (at_map j d j_in) k)) before;
     complete = λ m a d. (
       λ inside.
           let k_in = shorter inside.0 inside.1 in

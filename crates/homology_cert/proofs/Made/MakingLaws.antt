@@ -9,6 +9,7 @@ use Rattle.std.specs.List.{filter, flat_map, list_any}
 use Rattle.std.proofs.lemmas.Int.{ints}
 use Rattle.std.proofs.lemmas.List.Elements.{Contains-get_or}
 use Rattle.f2_algebra.specs.Cancel.{after}
+use Rattle.f2_algebra.specs.Bigraded.{stands_before}
 use Rattle.f2_algebra.proofs.Ranks.Existence.{Reduced, reduce}
 use Rattle.f2_algebra.proofs.Ranks.Bigraded.{at_alexander_IsComplex}
 use Rattle.f2_algebra.proofs.Certificates.Span.{Every}
@@ -26,7 +27,7 @@ use Rattle.torus_geom.proofs.Sums.AllBelowLemmas.{all_below-true}
 use Rattle.rectangles.proofs.Law.GridComplexLemmas.{grid_complex_rules}
 use Rattle.gradings.proofs.TableLemmas.{maslov_small, alexander_small}
 use Rattle.homology_cert.specs.CertificateCodes.{Cell, Certificate}
-use Rattle.homology_cert.specs.Inner.CodeCertificates.{comes_first, HasPairStates, IsCertificate, entry_count}
+use Rattle.homology_cert.specs.Inner.CodeCertificates.{HasPairStates, IsCertificate, entry_count}
 use Rattle.homology_cert.specs.Certificates.{AreSmallDegrees}
 use Rattle.homology_cert.specs.Inner.CodeTests.{has_bidegree, state_count_at, verdict_of}
 use Rattle.homology_cert.specs.Inner.CodeText.{certificate_text}
@@ -150,7 +151,7 @@ module _ (g : Marks) (grid : IsGrid g) where
   Contains-cell_if d (x ∷ xs) s inside = member_head (cell_at d) []
 
   -- there is at most one
-  cell_if-pairs : (d : ℤ × ℤ) (xs : List ℕ) → AllPairs (λ p q. IsTrue (comes_first p q)) (cell_if d xs)
+  cell_if-pairs : (d : ℤ × ℤ) (xs : List ℕ) → AllPairs (λ (p q : Cell). IsTrue (stands_before p.at q.at)) (cell_if d xs)
   unfolding cell_if
   cell_if-pairs d [] i j e l k = absurd (omega (arith, k))
   cell_if-pairs d (x ∷ xs) i j e l k = absurd (omega (arith, l, k))
@@ -177,7 +178,8 @@ module _ (g : Marks) (grid : IsGrid g) where
   at_of m a cell is = ap (λ (e : Cell). e.at) (sym is) ∙ at-cell_at (m, a)
 
   -- of two cells of one Alexander degree that of the higher Maslov degree comes first
-  in_column : (p q : Cell) (m n a : ℤ) → cell_at (m, a) ≡ p → cell_at (n, a) ≡ q → n <ℤ m → IsTrue (comes_first p q)
+  in_column : (p q : Cell) (m n a : ℤ) → cell_at (m, a) ≡ p → cell_at (n, a) ≡ q → n <ℤ m
+      → IsTrue (stands_before p.at q.at)
   in_column p q m n a at_p at_q less = first p.at.0 p.at.1 q.at.0 q.at.1 (ap (λ (d : ℤ × ℤ). d.0) (at_of m a p at_p))
       (ap (λ (d : ℤ × ℤ). d.1) (at_of m a p at_p)) (ap (λ (d : ℤ × ℤ). d.0) (at_of n a q at_q))
       (ap (λ (d : ℤ × ℤ). d.1) (at_of n a q at_q))
@@ -186,7 +188,8 @@ module _ (g : Marks) (grid : IsGrid g) where
       first x y z w e f h k = grind (arith, ints)
 
   -- of two others that of the higher Alexander degree
-  in_columns : (p q : Cell) (m n a b : ℤ) → cell_at (m, a) ≡ p → cell_at (n, b) ≡ q → b <ℤ a → IsTrue (comes_first p q)
+  in_columns : (p q : Cell) (m n a b : ℤ) → cell_at (m, a) ≡ p → cell_at (n, b) ≡ q → b <ℤ a
+      → IsTrue (stands_before p.at q.at)
   in_columns p q m n a b at_p at_q less = first p.at.0 p.at.1 q.at.0 q.at.1 (ap (λ (d : ℤ × ℤ). d.1) (at_of m a p at_p))
       (ap (λ (d : ℤ × ℤ). d.1) (at_of n b q at_q))
     where
@@ -194,20 +197,22 @@ module _ (g : Marks) (grid : IsGrid g) where
       first x y z w f k = grind (arith, ints)
 
   -- the cells of an Alexander degree are in order
-  column-ordered : (a : ℤ) → AllPairs (λ p q. IsTrue (comes_first p q)) (column a)
+  column-ordered : (a : ℤ) → AllPairs (λ (p q : Cell). IsTrue (stands_before p.at q.at)) (column a)
   unfolding column
   column-ordered a =
-      pairs_flat_map (λ x y. y <ℤ x) (λ p q. IsTrue (comes_first p q)) (λ m. cell_if (m, a) (found (m, a)))
+      pairs_flat_map (λ x y. y <ℤ x) (λ (p q : Cell). IsTrue (stands_before p.at q.at))
+      (λ m. cell_if (m, a) (found (m, a)))
       (window 1000) (window-falls 1000)
       (λ m inside. cell_if-pairs (m, a) (found (m, a)))
       (λ m n less p q in_m in_n. in_column p q m n a (member_of_cell_if (m, a) (found (m, a)) p in_m).0
       (member_of_cell_if (n, a) (found (n, a)) q in_n).0 less)
 
   -- and so are all
-  all_cells-ordered : AllPairs (λ p q. IsTrue (comes_first p q)) all_cells
+  all_cells-ordered : AllPairs (λ (p q : Cell). IsTrue (stands_before p.at q.at)) all_cells
   unfolding all_cells
   all_cells-ordered =
-      pairs_flat_map (λ x y. y <ℤ x) (λ p q. IsTrue (comes_first p q)) column (window 1000) (window-falls 1000)
+      pairs_flat_map (λ x y. y <ℤ x) (λ (p q : Cell). IsTrue (stands_before p.at q.at)) column (window 1000)
+      (window-falls 1000)
       (λ a inside. column-ordered a)
       (λ a b less p q in_a in_b.
       let at_p = member_of_column a p in_a in

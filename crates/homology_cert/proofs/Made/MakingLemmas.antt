@@ -19,6 +19,7 @@ use Rattle.f2_algebra.specs.Complex.{Complex, IsComplex}
 use Rattle.f2_algebra.specs.Cancel.{Entry, IsLog, after, cancelled}
 use Rattle.f2_algebra.specs.Certificate.{CyclePair, StepPair}
 use Rattle.f2_algebra.specs.Slice.{Slice, slice_complex, IsReduced}
+use Rattle.f2_algebra.specs.Bigraded.{stands_before}
 use Rattle.f2_algebra.proofs.Cancelling.Cancellation.{cancelled_IsComplex}
 use Rattle.f2_algebra.proofs.Cancelling.LogLemmas.{live_below}
 use Rattle.f2_algebra.proofs.Ranks.Bigraded.{at_alexander_IsComplex}
@@ -34,7 +35,6 @@ use Rattle.torus_geom.proofs.Sums.TabulateLemmas.{tabulate-suc}
 use Rattle.torus_geom.proofs.Sums.AllBelowLemmas.{all_below-true}
 use Rattle.rectangles.proofs.Law.GridComplexLemmas.{grid_complex_rules}
 use Rattle.homology_cert.specs.CertificateCodes.{Cell}
-use Rattle.homology_cert.specs.Inner.CodeCertificates.{comes_first}
 use Rattle.homology_cert.specs.Inner.CodeTests.{has_bidegree}
 use Rattle.homology_cert.specs.Inner.Ranks.{degree_cmp}
 use Rattle.homology_cert.specs.Inner.Making.{cycle_pair, left_codes, step_pair, steps_after, key_of, HasState, HasBidegrees, IsMadeCell, AreMade}
@@ -259,7 +259,7 @@ higher m a n b less = by (int_cmp a b) refl less
 
 -- cells whose keys rise stand in the other order
 cells-rise : (cells : List Cell) → AllPairs (λ p q. degree_cmp p q ≡ Less) (keys_of cells)
-    → AllPairs (λ p q. IsTrue (comes_first q p)) cells
+    → AllPairs (λ (p q : Cell). IsTrue (stands_before q.at p.at)) cells
 cells-rise cells pairs i j d less within =
     let k = λ (c : Cell). key_of c.at in
     let p = get_or cells i d in
@@ -271,13 +271,13 @@ cells-rise cells pairs i j d less within =
 
 module _ (cells : List Cell) where
   -- so the other way round they stand in order
-  reversed-pairs : AllPairs (λ p q. IsTrue (comes_first q p)) cells
-      → AllPairs (λ p q. IsTrue (comes_first p q)) (reverse cells)
+  reversed-pairs : AllPairs (λ (p q : Cell). IsTrue (stands_before q.at p.at)) cells
+      → AllPairs (λ (p q : Cell). IsTrue (stands_before p.at q.at)) (reverse cells)
   reversed-pairs pairs i j d less within =
       let long = length-reverse cells in
       let in_j : j < length cells = omega (arith, within, long) in
       let in_i : i < length cells = omega (arith, in_j, less) in
-      subst (λ (t : Cell × Cell). IsTrue (comes_first t.0 t.1))
+      subst (λ (t : Cell × Cell). IsTrue (stands_before t.0.at t.1.at))
       (λ k. (sym (get_or-reverse cells i d in_i) k, sym (get_or-reverse cells j d in_j) k))
       (pairs (length cells - 1 - j) (length cells - 1 - i) d (omega (arith, less, in_j)) (omega (arith, in_i)))
 

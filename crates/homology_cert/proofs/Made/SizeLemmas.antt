@@ -16,6 +16,7 @@ use Rattle.std.proofs.lemmas.List.{length-map}
 use Rattle.std.proofs.lemmas.List.Sums.{sum_by-cons}
 use Rattle.f2_algebra.specs.Chain.{Chain, codes as ranks}
 use Rattle.f2_algebra.specs.Certificate.{CyclePair, StepPair}
+use Rattle.f2_algebra.specs.Bigraded.{stands_before}
 use Rattle.f2_algebra.proofs.Chains.Lists.{rising-codes, rises}
 use Rattle.f2_algebra.proofs.Certificates.Span.{Every}
 use Rattle.f2_algebra.proofs.Certificates.Certificate.{Every-All, every_weaker}
@@ -30,7 +31,7 @@ use Rattle.torus_geom.specs.Marks.{Marks, size, IsGrid}
 use Rattle.torus_geom.specs.Degrees.{bidegree}
 use Rattle.gradings.specs.Degrees.{IsSmallDegree}
 use Rattle.homology_cert.specs.CertificateCodes.{Cell, Certificate}
-use Rattle.homology_cert.specs.Inner.CodeCertificates.{comes_first, AreStates, HasCycleStates, HasStepStates, HasPairStates, entry_count}
+use Rattle.homology_cert.specs.Inner.CodeCertificates.{AreStates, HasCycleStates, HasStepStates, HasPairStates, entry_count}
 use Rattle.homology_cert.specs.Certificates.{AreSmallDegrees}
 use Rattle.homology_cert.specs.CertificateTests.{same_degree}
 use Rattle.homology_cert.specs.Inner.CodeTests.{has_bidegree, state_count_at}
@@ -124,7 +125,7 @@ module _ (g : Marks) where
       omega (arith, parts, here, later)
 
 -- cells in order have different bidegrees
-ordered-apart : (p q : Cell) → IsTrue (comes_first p q) → p.at ≢ q.at
+ordered-apart : (p q : Cell) → IsTrue (stands_before p.at q.at) → p.at ≢ q.at
 ordered-apart p q h same = loop p.at.0 p.at.1 q.at.0 q.at.1 (ap (λ (d : ℤ × ℤ). d.0) same)
     (ap (λ (d : ℤ × ℤ). d.1) same) h
   where
@@ -138,14 +139,15 @@ few_states n small = let grown = factorial_grows n 6 small in omega (arith, grow
 
 -- cells with no more pairs than states have few entries
 module _ (g : Marks) (small : size g ≤ 6) (cells : List Cell)
-    (ordered : AllPairs (λ p q. IsTrue (comes_first p q)) cells)
+    (ordered : AllPairs (λ (p q : Cell). IsTrue (stands_before p.at q.at)) cells)
     (some : Every (λ (c : Cell). state_count_at g c.at ≢ 0) cells)
     (most : Every (λ (c : Cell). length c.cycles + length c.steps ≤ state_count_at g c.at) cells) where
   -- the cells together count at most all states
   states_within : total (λ (c : Cell). state_count_at g c.at) cells ≤ 720
   states_within =
       let within = counts_within g cells (pairwise (λ (p q : Cell). p.at ≢ q.at) cells
-      (pairs_weaker (λ p q. IsTrue (comes_first p q)) (λ (p q : Cell). p.at ≢ q.at) cells ordered-apart ordered))
+      (pairs_weaker (λ (p q : Cell). IsTrue (stands_before p.at q.at)) (λ (p q : Cell). p.at ≢ q.at) cells
+      ordered-apart ordered))
       (ascending (factorial (size g))) in
       let long = length-ascending (factorial (size g)) in
       let few = few_states (size g) small in

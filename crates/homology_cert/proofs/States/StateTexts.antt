@@ -1,5 +1,6 @@
 -- The text of a certificate is that of its states, and each certificate over states is one of sets of ranks; so a text has
 -- the same first bad line.
+use Rattle.f2_algebra.specs.Bigraded.{stands_before}
 use Rattle.homology_cert.specs.Inner.CodeTests as over_codes_tests
 use Rattle.homology_cert.proofs.Certified.CertifiedLemmas as code_laws
 use Rattle.homology_cert.proofs.Made.MakingLaws as made_laws
@@ -25,7 +26,7 @@ use Rattle.homology_cert.specs.CertificateText.{degree_line, head_lines, text_of
 use Rattle.torus_geom.specs.Chains.{Chain, IsChain}
 use Rattle.torus_geom.specs.Codes.{states_of}
 use Rattle.torus_geom.specs.Inner.CodeBorder.{codes_of}
-use Rattle.homology_cert.specs.Certificates.{CyclePair, StepPair, Cell, Certificate, HasPairStates, IsCertificate, comes_first, entry_count, AreSmallDegrees}
+use Rattle.homology_cert.specs.Certificates.{CyclePair, StepPair, Cell, Certificate, HasPairStates, IsCertificate, entry_count, AreSmallDegrees}
 use Rattle.homology_cert.specs.CertificateCodes.{cycle_pair_of, step_pair_of, cell_of, certificate_of}
 use Rattle.text_lines.specs.Lines.{chain_line, set_line}
 use Rattle.homology_cert.specs.CertificateText.{cycle_lines, step_lines, cell_lines, certificate_lines, certificate_text, HasFirstLines, IsFirstBadLine}
@@ -141,8 +142,8 @@ IsCertificate-states c is =
       grid = is.grid;
       small = is.small;
       ordered =
-          pairs_map (λ p q. IsTrue (code_certificates.comes_first p q)) (λ p q. IsTrue (comes_first p q)) (cell_of n)
-          c.cells (λ p q h. h) is.ordered;
+          pairs_map (λ (p q : kept.Cell). IsTrue (stands_before p.at q.at))
+          (λ (p q : Cell). IsTrue (stands_before p.at q.at)) (cell_of n) c.cells (λ p q h. h) is.ordered;
       degrees =
           All-map (λ (cell : Cell). AreSmallDegrees cell.at) (cell_of n) c.cells is.degrees;
       states =
@@ -171,8 +172,8 @@ IsCertificate-codes c is =
       grid = is.grid;
       small = is.small;
       ordered =
-          pairs_map (λ p q. IsTrue (comes_first p q)) (λ p q. IsTrue (code_certificates.comes_first p q)) (cell_codes n)
-          c.cells (λ p q h. h) is.ordered;
+          pairs_map (λ (p q : Cell). IsTrue (stands_before p.at q.at))
+          (λ (p q : kept.Cell). IsTrue (stands_before p.at q.at)) (cell_codes n) c.cells (λ p q h. h) is.ordered;
       degrees =
           All-map (λ (cell : kept.Cell). AreSmallDegrees cell.at) (cell_codes n) c.cells is.degrees;
       states =

@@ -8,11 +8,13 @@ use Rattle.std.proofs.lemmas.List.Concat.{flat_map-append}
 use Rattle.std.proofs.lemmas.List.Elements.{All-nil, All-append, All-cons, Contains-append_left, Contains-append_right, Contains-append_cases}
 use Rattle.f2_algebra.specs.Chain.{Chain}
 use Rattle.f2_algebra.specs.Certificate.{CyclePair, StepPair}
+use Rattle.f2_algebra.specs.Bigraded.{stands_before}
+use Rattle.f2_algebra.proofs.Ranks.OrderLemmas.{stands_before-transitive}
 use Rattle.state_rank.specs.Bijection.{IsBijection}
 use Rattle.state_rank.proofs.MemberLemmas.{member_cases, member_head, no_member, pairs_append, pairs_head, pairs_tail, pairs_cons}
 use Rattle.torus_geom.specs.Marks.{Marks, size}
 use Rattle.homology_cert.specs.CertificateCodes.{Cell}
-use Rattle.homology_cert.specs.Inner.CodeCertificates.{comes_first, AreStates, HasCycleStates, HasStepStates, HasPairStates}
+use Rattle.homology_cert.specs.Inner.CodeCertificates.{AreStates, HasCycleStates, HasStepStates, HasPairStates}
 use Rattle.homology_cert.specs.Certificates.{AreSmallDegrees}
 use Rattle.homology_cert.specs.CertificateText.{marks_line, degree_line, head_lines}
 use Rattle.homology_cert.specs.Inner.CodeText.{cycle_lines, step_lines, cell_lines}
@@ -23,10 +25,7 @@ use Rattle.homology_cert.specs.declared.places.Place.TheVariants.{Start, Size, O
 
 -- ---- the last cell
 abbrev Before : Cell → Cell → Type 0
-Before p q = IsTrue (comes_first p q)
-
-comes_first-transitive : (p q r : Cell) → Before p q → Before q r → Before p r
-comes_first-transitive p q r h k = grind (arith, ints)
+Before p q = IsTrue (stands_before p.at q.at)
 
 -- each cell before the last stands before it
 before_last : (ds : List Cell) (c : Cell) → AllPairs Before (ds ++ c ∷ []) → (e : Cell) → Contains ds e → Before e c
@@ -99,7 +98,7 @@ module _ (g : Marks) where
     where
       first : (x : Cell) → Contains (ds ++ c ∷ []) x → Before x (new_cell d)
       first x inside = elim (Contains-append_cases ds (c ∷ []) x inside) [
-        | inl earlier ↦ comes_first-transitive x c (new_cell d) (before_last ds c h.ordered x earlier) after
+        | inl earlier ↦ stands_before-transitive x.at c.at d (before_last ds c h.ordered x earlier) after
         | inr last ↦ elim (member_cases c [] x last) [
           | inl is ↦ subst (λ e. Before e (new_cell d)) is after
           | inr none ↦

@@ -10,13 +10,14 @@ use Rattle.std.proofs.Math.ListN.{length-drop}
 use Rattle.std.proofs.Math.Seq.{drop-append_seam}
 use Rattle.f2_algebra.specs.Chain.{Chain, nothing, single, ◌⊕◌, codes as ranks}
 use Rattle.f2_algebra.specs.Certificate.{StepPair}
+use Rattle.f2_algebra.specs.Bigraded.{stands_before}
 use Rattle.state_rank.specs.Bijection.{IsBijection}
 use Rattle.state_rank.specs.States.{factorial, rank, unrank}
 use Rattle.state_rank.proofs.RankLemmas.{IsBijection-unrank, unrank-rank, rank-below}
 use Rattle.gradings.specs.Degrees.{IsSmallDegree}
 use Rattle.torus_geom.specs.Marks.{Marks, size, IsGrid}
 use Rattle.homology_cert.specs.CertificateCodes.{Cell, Certificate}
-use Rattle.homology_cert.specs.Inner.CodeCertificates.{IsCertificate, comes_first, AreStates}
+use Rattle.homology_cert.specs.Inner.CodeCertificates.{IsCertificate, AreStates}
 use Rattle.homology_cert.specs.Certificates.{AreSmallDegrees}
 use Rattle.homology_cert.specs.CertificateText.{marks_line, degree_line}
 use Rattle.homology_cert.specs.Inner.CodeText.{certificate_text, IsFirstBadLine}
@@ -240,7 +241,7 @@ leads-in_cell : (g : Marks) (c : Cell) (ds : List Cell) (line : List ℕ) → Le
 leads-in_cell g c ds line = elim (same_list line (codes "end")) [
   | inl last ↦ inl (End g, ds ++ c ∷ [], inl (last, refl, refl))
   | inr not_last ↦ elim (some_degrees line) [
-    | inl found ↦ elim (is_true (comes_first c (new_cell found.0))) [
+    | inl found ↦ elim (is_true (stands_before c.at found.0)) [
       | inl after ↦ inl (
         InCell g (new_cell found.0),
         ds ++ c ∷ [],

@@ -7,10 +7,11 @@ use Rattle.std.proofs.Common.{◌≡◌, ℕ, suc, List, [], ◌∷◌, ◌++◌
 use Rattle.std.specs.List.{flat_map}
 use Rattle.std.proofs.lemmas.List.{append-nil}
 use Rattle.f2_algebra.specs.Certificate.{CyclePair, StepPair}
+use Rattle.f2_algebra.specs.Bigraded.{stands_before}
 use Rattle.state_rank.proofs.MemberLemmas.{pairs_tail}
 use Rattle.torus_geom.specs.Marks.{Marks, size}
 use Rattle.homology_cert.specs.CertificateCodes.{Cell, Certificate}
-use Rattle.homology_cert.specs.Inner.CodeCertificates.{IsCertificate, comes_first, HasCycleStates, HasStepStates, HasPairStates}
+use Rattle.homology_cert.specs.Inner.CodeCertificates.{IsCertificate, HasCycleStates, HasStepStates, HasPairStates}
 use Rattle.homology_cert.specs.Certificates.{AreSmallDegrees}
 use Rattle.homology_cert.specs.Inner.CodeText.{cycle_lines, step_lines, cell_lines, certificate_lines}
 use Rattle.homology_cert.specs.CertificateText.{head_lines}
@@ -117,7 +118,8 @@ module _ (g : Marks) (ds : List Cell) where
 
 -- the lines of the cells that come after an open one, and the last line
 module _ (g : Marks) where
-  path_of_cells : (ds : List Cell) (c : Cell) (es : List Cell) → AllPairs (λ p q. IsTrue (comes_first p q)) (c ∷ es)
+  path_of_cells : (ds : List Cell) (c : Cell) (es : List Cell)
+      → AllPairs (λ (p q : Cell). IsTrue (stands_before p.at q.at)) (c ∷ es)
       → All (λ (e : Cell). AreSmallDegrees e.at) es → All (HasPairStates g) es
       → LinesLead (InCell g c) ds (flat_map (cell_lines (size g)) es ++ codes "end" ∷ []) (End g) (ds ++ c ∷ es)
   path_of_cells ds c [] ordered degrees states = (End g, ds ++ c ∷ [], inl (refl, refl, refl), (refl, refl))
@@ -126,7 +128,8 @@ module _ (g : Marks) where
       let pairs = states 0 e (omega arith) in
       let before = ordered 0 1 e (omega arith) (omega arith) in
       let closed = ds ++ c ∷ [] in
-      let rest = path_of_cells closed e es (pairs_tail (λ p q. IsTrue (comes_first p q)) c (e ∷ es) ordered)
+      let rest = path_of_cells closed e es
+      (pairs_tail (λ (p q : Cell). IsTrue (stands_before p.at q.at)) c (e ∷ es) ordered)
       (λ k d l. degrees (suc k) d (omega arith)) (λ k d l. states (suc k) d (omega arith)) in
       let path = path-append (InCell g (new_cell e.at)) (InCell g e) (End g) closed closed (closed ++ e ∷ es)
       (flat_map (cycle_lines (size g)) e.cycles ++ flat_map (step_lines (size g)) e.steps)
@@ -146,7 +149,7 @@ module _ (g : Marks) where
             (sym lines) path),
       )
 
-  path_of_body : (es : List Cell) → AllPairs (λ p q. IsTrue (comes_first p q)) es
+  path_of_body : (es : List Cell) → AllPairs (λ (p q : Cell). IsTrue (stands_before p.at q.at)) es
       → All (λ (e : Cell). AreSmallDegrees e.at) es → All (HasPairStates g) es
       → LinesLead (NoCell g) [] (flat_map (cell_lines (size g)) es ++ codes "end" ∷ []) (End g) es
   path_of_body [] ordered degrees states = (End g, [], inl (refl, refl, refl), (refl, refl))

@@ -1,10 +1,10 @@
 -- A line leads from a place to one place alone; and where a path ends is known from its lines.
 use Rattle.std.proofs.Common.{◌≡◌, ℕ, ◌<◌, ◌≤◌, List, length, codes, slice_index, ◌==◌, if◌then◌else◌, ℤ, All, IsTrue, inl, inr, sym, ap, subst, ◌∙◌, arith}
 use Rattle.f2_algebra.specs.Chain.{Chain}
+use Rattle.f2_algebra.specs.Bigraded.{stands_before}
 use Rattle.state_rank.specs.Bijection.{IsBijection}
 use Rattle.torus_geom.specs.Marks.{Marks, size}
 use Rattle.homology_cert.specs.CertificateCodes.{Cell}
-use Rattle.homology_cert.specs.Inner.CodeCertificates.{comes_first}
 use Rattle.homology_cert.specs.Certificates.{AreSmallDegrees}
 use Rattle.homology_cert.specs.CertificateText.{degree_line}
 use Rattle.text_lines.specs.Lines.{set_line}
@@ -97,11 +97,11 @@ module _ (g : Marks) (ds : List Cell) (line : List ℕ) (q r : Place) (es fs : L
 -- after the line of a bidegree a line stands nowhere, if its own bidegree does not come later
 pub not_after : (g : Marks) (cell : Cell) (ds : List Cell) (line : List ℕ) (d : ℤ × ℤ) (q : Place) (es : List Cell)
     → AreSmallDegrees d → line ≡ degree_line d
-    → (IsTrue (comes_first cell (new_cell d)) → ⊥) → LeadsTo (InCell g cell) ds line q es → ⊥
+    → (IsTrue (stands_before cell.at d) → ⊥) → LeadsTo (InCell g cell) ds line q es → ⊥
 not_after g cell ds line d q es small is before (inl (l, e, f)) = differ line 1 0 (kind-degree g line d is)
     (kind-end g line l) (λ h. omega arith)
 not_after g cell ds line d q es small is before (inr (inl (t, small_t, after, l, e, f))) =
-    before (subst (λ u. IsTrue (comes_first cell (new_cell u))) (degree_line-injective t d small_t small (sym l ∙ is))
+    before (subst (λ u. IsTrue (stands_before cell.at u)) (degree_line-injective t d small_t small (sym l ∙ is))
     after)
 not_after g cell ds line d q es small is before (inr (inr (inl (z, states, none, l, e, f)))) =
     differ line 1 2 (kind-degree g line d is) (kind-cycle g line (size g) z l) (λ h. omega arith)

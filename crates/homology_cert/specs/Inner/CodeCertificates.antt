@@ -1,5 +1,4 @@
 -- Certificates over codes.
---     comes_first p q       p stands before q, by its bidegree
 --     AreStates g z         the codes of z are ranks of states of the grid
 --     HasCycleStates g p, HasStepStates g p, HasPairStates g c
 --                           so are those of both sets of a cycle pair, of a step pair, and of all pairs of a cell
@@ -16,9 +15,6 @@ use Rattle.homology_cert.specs.CertificateLimits.{max_certified_size}
 use Rattle.torus_geom.specs.Codes.{HasRanks}
 use Rattle.homology_cert.specs.CertificateCodes.{Cell, Certificate}
 use Rattle.homology_cert.specs.Certificates.{AreSmallDegrees}
-
-abbrev pub comes_first : Cell → Cell → Bool
-comes_first p q = stands_before p.at q.at
 
 abbrev pub AreStates : Marks → Chain → Type 0
 AreStates g z = HasRanks (size g) z
@@ -41,7 +37,7 @@ entry_count cells = sum_by (λ c. 1 + length c.cycles + length c.steps) cells
 pub record IsCertificate (c : Certificate) : Type 0 where
   pub grid : IsGrid c.grid
   pub small : size c.grid ≤ max_certified_size
-  pub ordered : AllPairs (λ p q. IsTrue (comes_first p q)) c.cells
+  pub ordered : AllPairs (λ (p q : Cell). IsTrue (stands_before p.at q.at)) c.cells
   pub degrees : All (λ (cell : Cell). AreSmallDegrees cell.at) c.cells
   pub states : All (HasPairStates c.grid) c.cells
   pub few : entry_count c.cells < 2 ^ 32 - 1

@@ -23,6 +23,7 @@ use Rattle.f2_algebra.specs.Complex.{Complex}
 use Rattle.f2_algebra.specs.Cancel.{Entry, IsLog, after, lift, pull}
 use Rattle.f2_algebra.specs.Bigraded.{at_alexander}
 use Rattle.f2_algebra.specs.Certificate.{CyclePair, StepPair}
+use Rattle.f2_algebra.specs.Bigraded.{stands_before}
 use Rattle.state_rank.specs.Bijection.{ascending}
 use Rattle.state_rank.specs.States.{factorial, unrank}
 use Rattle.torus_geom.specs.Counts.{all_below}
@@ -30,7 +31,6 @@ use Rattle.torus_geom.specs.Marks.{Marks, size}
 use Rattle.torus_geom.specs.Degrees.{bidegree}
 use Rattle.torus_geom.specs.Inner.GridComplex.{grid_complex}
 use Rattle.homology_cert.specs.CertificateCodes.{Cell}
-use Rattle.homology_cert.specs.Inner.CodeCertificates.{comes_first}
 use Rattle.homology_cert.specs.Inner.CodeTests.{has_bidegree}
 use Rattle.homology_cert.specs.Inner.Ranks.{degree_cmp}
 
@@ -76,6 +76,6 @@ pub record IsMadeCell (g : Marks) (cell : Cell) : Type 0 where
   pub steps : cell.steps ≡ steps_after (has_bidegree g cell.at) [] log
 
 pub record AreMade (g : Marks) (cells : List Cell) : Type 0 where
-  pub ordered : AllPairs (λ p q. IsTrue (comes_first p q)) cells
+  pub ordered : AllPairs (λ (p q : Cell). IsTrue (stands_before p.at q.at)) cells
   pub each : All (IsMadeCell g) cells
   pub complete : all_below (factorial (size g)) (λ s. list_any (λ (cell : Cell). has_bidegree g cell.at s) cells) ≡ true

@@ -25,12 +25,13 @@ use Rattle.std.specs.BTreeMap as tree
 use Rattle.std.specs.BTreeMap.{BTreeMap}
 use Rattle.std.specs.BTreeSet as sorted
 use Rattle.std.specs.BTreeSet.{BTreeSet}
+use Rattle.f2_algebra.specs.Bigraded.{stands_before}
 use Rattle.state_rank.specs.States.{factorial, unrank}
 use Rattle.torus_geom.specs.Marks.{Marks, size}
 use Rattle.torus_geom.specs.Degrees.{maslov_o, alexander}
 use Rattle.torus_geom.specs.Inner.CodeHomology.{IsHomologyRank}
 use Rattle.sparse_complex.specs.declared.slices.Cell.{Cell}
-use Rattle.hat_division.specs.Table.{comes_before}
+use Rattle.hat_division.specs.Table.{bidegree_of}
 use Rattle.hat_division.specs.declared.tables.TableRow.{TableRow}
 use Rattle.gradings.specs.Degrees.{IsSmallDegree}
 use Rattle.homology_cert.specs.Tables.{HasSmallRank}
@@ -86,6 +87,6 @@ pub record AreReversed {X : Type 0} (xs ys : List X) : Type 0 where
   pub places : ReversedBelow xs ys (length xs)
 
 pub record AreRows (g : Marks) (rows : List TableRow) : Type 0 where
-  pub ordered : AllPairs (λ p q. IsTrue (comes_before p q)) rows
+  pub ordered : AllPairs (λ p q. IsTrue (stands_before (bidegree_of p) (bidegree_of q))) rows
   pub complete : (row : TableRow) → Contains rows row ↔ HasHomology g row
   pub ranks : All HasSmallRank rows

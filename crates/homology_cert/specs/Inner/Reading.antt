@@ -20,11 +20,12 @@ use Rattle.std.specs.Prelude.{◌≡◌, ◌≢◌, ◌⊎◌, ℕ, ◌+◌, ◌
 use Rattle.std.specs.List.{All, AllPairs, flat_map}
 use Rattle.std.specs.Fmt.{decimal}
 use Rattle.f2_algebra.specs.Chain.{Chain}
+use Rattle.f2_algebra.specs.Bigraded.{stands_before}
 use Rattle.state_rank.specs.Bijection.{IsSize, IsBijection}
 use Rattle.torus_geom.specs.Marks.{Marks, size, IsGrid}
 use Rattle.homology_cert.specs.CertificateLimits.{max_certified_size}
 use Rattle.homology_cert.specs.CertificateCodes.{Cell}
-use Rattle.homology_cert.specs.Inner.CodeCertificates.{comes_first, AreStates, HasPairStates}
+use Rattle.homology_cert.specs.Inner.CodeCertificates.{AreStates, HasPairStates}
 use Rattle.homology_cert.specs.Certificates.{AreSmallDegrees}
 use Rattle.homology_cert.specs.CertificateText.{marks_line, degree_line, head_lines, text_of_lines}
 use Rattle.homology_cert.specs.Inner.CodeText.{cell_lines}
@@ -60,7 +61,7 @@ LeadsTo (NoCell g) ds line q es =
     ⊎ ((d : ℤ × ℤ) × AreSmallDegrees d × (line ≡ degree_line d) × (q ≡ InCell g (new_cell d)) × (es ≡ ds))
 LeadsTo (InCell g c) ds line q es =
     ((line ≡ codes "end") × (q ≡ End g) × (es ≡ ds ++ c ∷ []))
-    ⊎ ((d : ℤ × ℤ) × AreSmallDegrees d × IsTrue (comes_first c (new_cell d)) × (line ≡ degree_line d)
+    ⊎ ((d : ℤ × ℤ) × AreSmallDegrees d × IsTrue (stands_before c.at d) × (line ≡ degree_line d)
     × (q ≡ InCell g (new_cell d)) × (es ≡ ds ++ c ∷ []))
     ⊎ ((z : Chain) × AreStates g z × (c.steps ≡ []) × (line ≡ set_line (codes "cycle") (size g) z) × (q ≡ InCycle g c z)
     × (es ≡ ds))
@@ -93,7 +94,7 @@ lines_at (End g) ds = lines_in g ds ++ codes "end" ∷ []
 
 pub record AreClosed (g : Marks) (ds : List Cell) : Type 0 where
   pub grid : IsSmallGrid g
-  pub ordered : AllPairs (λ p q. IsTrue (comes_first p q)) ds
+  pub ordered : AllPairs (λ (p q : Cell). IsTrue (stands_before p.at q.at)) ds
   pub degrees : All (λ (c : Cell). AreSmallDegrees c.at) ds
   pub states : All (HasPairStates g) ds
 

@@ -5,7 +5,8 @@
 use Rattle.std.specs.Prelude.{◌↔◌, ℕ, ◌<◌, ℤ, List}
 use Rattle.std.specs.List.{Contains, AllPairs}
 use Rattle.f2_algebra.specs.Complex.{IsRank}
-use Rattle.torus_geom.specs.Homology.{Row, StandsBefore}
+use Rattle.f2_algebra.specs.Bigraded.{StandsBefore}
+use Rattle.torus_geom.specs.Homology.{Row}
 use Rattle.torus_geom.specs.Inner.GridComplex.{grid_complex}
 use Rattle.torus_geom.specs.Marks.{Marks}
 
@@ -13,5 +14,5 @@ abbrev pub IsHomologyRank : Marks → ℤ → ℤ → ℕ → Type 0
 IsHomologyRank g m a d = IsRank (grid_complex g) (m, a) d
 
 pub record IsHomologyTable (g : Marks) (rows : List Row) : Type 0 where
-  pub ordered : AllPairs StandsBefore rows
+  pub ordered : AllPairs (λ (p q : Row). StandsBefore (p.0, p.1) (q.0, q.1)) rows
   pub complete : (m a : ℤ) (d : ℕ) → Contains rows (m, a, d) ↔ ((0 < d) × IsHomologyRank g m a d)

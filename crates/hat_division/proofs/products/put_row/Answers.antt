@@ -4,7 +4,8 @@ use Rattle.std.specs.List.{insert}
 use Rattle.std.proofs.lemmas.List.{get_or_default}
 use mir.Syntax.{w32}
 use mir.Val.{SFits}
-use Rattle.hat_division.specs.Table.{comes_before}
+use Rattle.f2_algebra.specs.Bigraded.{stands_before}
+use Rattle.hat_division.specs.Table.{bidegree_of}
 use Rattle.hat_division.specs.Product.{stands_at}
 use Rattle.hat_division.specs.Inner.Products.{IsPut}
 use Rattle.hat_division.specs.declared.tables.TableRow.{TableRow}
@@ -32,12 +33,15 @@ returns c =
     let fits_m : SFits w32 c.args.row.m = search rules in
     let fits_a : SFits w32 c.args.row.a = search rules in
     let within : place ≤ length old = omega arith in
-    let before : (k : ℕ) (d : TableRow) → k < place → comes_before (get_or old k d) row ≡ true =
-    λ k d l. subst (λ (xs : List TableRow). comes_before (get_or xs k d) row ≡ true) c.as_slice.ensures.value
+    let before : (k : ℕ) (d : TableRow) → k < place
+    → stands_before (bidegree_of (get_or old k d)) (bidegree_of row) ≡ true =
+    λ k d l. subst (λ (xs : List TableRow). stands_before (bidegree_of (get_or xs k d)) (bidegree_of row) ≡ true)
+    c.as_slice.ensures.value
     (c.place_of-place.ensures.before k d l) in
-    let rest : (d : TableRow) → place < length old → comes_before (get_or old place d) row ≡ false =
+    let rest : (d : TableRow) → place < length old
+    → stands_before (bidegree_of (get_or old place d)) (bidegree_of row) ≡ false =
     λ d l. subst (λ (xs : List TableRow). place < length xs
-    → comes_before (get_or xs place d) row ≡ false) c.as_slice.ensures.value
+    → stands_before (bidegree_of (get_or xs place d)) (bidegree_of row) ≡ false) c.as_slice.ensures.value
     (c.place_of-place.ensures.rest d) l in
     subst (λ xs. IsPut row old xs) (sym c.in_ok-insert.ensures.items)
     (elim c.else-place-len.branch as (λ _. IsPut row old (insert old place row)) [
