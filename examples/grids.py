@@ -17,7 +17,7 @@ import re
 import sys
 
 COMMANDS = ["front", "hat", "class +", "class -"]
-MAX_COLUMNS = 9
+MAX_COLUMNS = 10
 
 
 def refuse(why):
