@@ -6,3 +6,4 @@ pub mod TableLemmas
 pub mod WeightLemmas
 pub mod RowLemmas
 pub mod SetLemmas
+pub mod OrderLemmas

@@ -4,18 +4,58 @@ ghost use Rattle.state_rank.specs.Bijection.{IsBijection};
 ghost use Rattle.torus_geom.specs.Counts.{count_below};
 ghost use Rattle.torus_geom.specs.Marks.{size};
 ghost use Rattle.torus_geom.specs.Degrees.{maslov as maslov_of, maslov_o as maslov_o_of, maslov_x as maslov_x_of, alexander as alexander_of, doubled_alexander};
-ghost use Rattle.gradings.specs.Degrees.{greatest_degree};
+ghost use Rattle.gradings.specs.Degrees.{greatest_degree, bidegree_cmp};
+ghost use Rattle.f2_algebra.specs.Bigraded.{stands_before as stands_before_of};
+ghost use Rattle.std.proofs.Common.{rules};
+ghost use Rattle.std.specs.Cmp.{partial_order_from_own_ties};
+ghost use Rattle.std.specs.Cmp.Rules.{comparing};
+ghost use Rattle.std.specs.Ordering.{as_partial_cmp};
 
 use state_rank::{MAX_SIZE, State};
+use std::cmp::Ordering;
 use torus_geom::Grid;
 
-/// The two degrees of a state.
+/// The two degrees of a state. They are ordered as in a table: the higher Alexander degree comes first, then the
+/// higher Maslov degree.
 #[derive(Clone, Copy, PartialEq, Eq, Debug)]
 pub struct Bidegree {
     /// The Maslov degree, by the O.
     pub m: i32,
     /// The Alexander degree.
     pub a: i32,
+}
+
+impl Bidegree {
+    /// Whether this bidegree stands before `other`.
+    pub fn stands_before(&self, other: &Bidegree) -> bool
+        ensures { result ≡ stands_before_of (self.now.m, self.now.a) (other.now.m, other.now.a) }
+    {
+        self < other
+    }
+}
+
+impl Ord for Bidegree {
+    ghost cmp = { bidegree_cmp };
+
+    ghost total = { Prim.search (comparing, rules) };
+
+    ghost matches_partial_cmp = { Prim.search (comparing, rules) };
+
+    ghost matches_eq = { Prim.search (comparing, rules) };
+
+    fn cmp(&self, other: &Bidegree) -> Ordering {
+        other.a.cmp(&self.a).then(other.m.cmp(&self.m))
+    }
+}
+
+impl PartialOrd for Bidegree {
+    ghost partial_cmp = { as_partial_cmp bidegree_cmp };
+
+    ghost laws = { partial_order_from_own_ties (Prim.search (comparing, rules)) (Prim.search (comparing, rules)) };
+
+    fn partial_cmp(&self, other: &Bidegree) -> Option<Ordering> {
+        Some(self.cmp(other))
+    }
 }
 
 /// The Maslov degree of `x` by the O of `g`: I(x,x) - I(x,O) - I(O,x) + I(O,O) + 1.

@@ -11,7 +11,7 @@
 --     HasPairStates n c     the pairs of a cell are chains of states of size n
 --     IsCertificate c       the grid is one of size at most six; the cells stand in order, no bidegree twice, with
 --                           small degrees and with chains of states; there are fewer than 2^32 - 1 entries
-use Rattle.std.specs.Prelude.{ℕ, ◌+◌, ◌-◌, ◌^◌, ◌<◌, ◌≤◌, IsTrue, Bool, List, length, ℤ}
+use Rattle.std.specs.Prelude.{ℕ, ◌+◌, ◌-◌, ◌^◌, ◌<◌, ◌≤◌, IsTrue, List, length, ℤ}
 use Rattle.std.specs.List.{All, AllPairs, sum_by}
 use Rattle.f2_algebra.specs.Bigraded.{stands_before}
 use Rattle.gradings.specs.Degrees.{IsSmallDegree}

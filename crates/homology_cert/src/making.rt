@@ -79,23 +79,21 @@ fn cells_of(alloc: Global, g: &Grid) -> Result<Vec<CertCell>, NoMemory>
     let degrees = bidegrees(alloc, g)?;
     let mut cells = Vec::new(alloc);
     for degree in degrees.iter() {
-        let cell = cell_at(alloc, g, degree.1, degree.0)?;
+        let cell = cell_at(alloc, g, degree.m, degree.a)?;
         cells.push(cell)?;
     }
-    cells.reverse();
     Ok(cells)
 }
 
-// The bidegrees of the states of the grid, the Alexander degree first.
-fn bidegrees(alloc: Global, g: &Grid) -> Result<BTreeSet<(i32, i32)>, NoMemory>
+// The bidegrees of the states of the grid.
+fn bidegrees(alloc: Global, g: &Grid) -> Result<BTreeSet<Bidegree>, NoMemory>
     ensures { IfOk result (λ degrees. HasBidegrees g.now (factorial (size g.now)) degrees) }
 {
     let tables = DegreeTables::of(g);
     let mut degrees = BTreeSet::new(alloc);
     let mut x = State::unrank(g.size(), 0);
     for _code in 0..state_count(g.size()) {
-        let degree = tables.degree(&x);
-        degrees.insert((degree.a, degree.m))?;
+        degrees.insert(tables.degree(&x))?;
         x.advance();
     }
     Ok(degrees)

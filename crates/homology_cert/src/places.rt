@@ -5,7 +5,6 @@ ghost use Rattle.state_rank.specs.Bijection.{IsBijection};
 ghost use Rattle.torus_geom.specs.Marks.{Marks, size, IsGrid};
 ghost use Rattle.homology_cert.specs.CertificateCodes.{Cell};
 ghost use Rattle.homology_cert.specs.Certificates.{AreSmallDegrees};
-ghost use Rattle.f2_algebra.specs.Bigraded.{stands_before as stands_before_of};
 ghost use Rattle.homology_cert.specs.Inner.CodeCertificates.{AreStates};
 ghost use Rattle.homology_cert.specs.CertificateText.{marks_line, degree_line};
 ghost use Rattle.text_lines.specs.Lines.{set_line};
@@ -155,7 +154,7 @@ fn cell_place(
     let Some(d) = degree_of(line) else {
         return pair_place(alloc, g, cell, line);
     };
-    if !stands_before(cell.degree(), &d) {
+    if !cell.degree().stands_before(&d) {
         return Ok(None);
     }
     cells.push(cell)?;
@@ -234,11 +233,4 @@ fn is_last_line(line: &[u8]) -> bool
     ensures { IsTrue result ↔ (line.now ≡ codes_of_text "end") }
 {
     line == b"end".as_slice()
-}
-
-// Whether the one bidegree stands before the other.
-fn stands_before(d: &Bidegree, e: &Bidegree) -> bool
-    ensures { result ≡ stands_before_of (d.now.m, d.now.a) (e.now.m, e.now.a) }
-{
-    d.a > e.a || (d.a == e.a && d.m > e.m)
 }

@@ -4,12 +4,12 @@
 -- complex: chains whose states have the bidegree are chains of this degree, borders are those of the complex, and as
 -- many states as are counted are its cells of this degree. So the number of cycle pairs of a cell is the rank in its
 -- bidegree, and the rank is 0 where there is no cell. The rows are in order because the cells are.
-use Rattle.std.proofs.Common.{◌≡◌, ◌≢◌, ℕ, zero, suc, ◌+◌, ◌<◌, Bool, true, false, not, ◌&&◌, ◌||◌, eqb, List, [], ◌∷◌, length, get_or, ℤ, pos, ◌+ℤ◌, ◌-ℤ◌, ◌<ℤ◌, int_lt, Any, All, AllPairs, Contains, IsTrue, ◌↔◌, if◌then◌else◌, inl, inr, refl, sym, ap, ap₂, subst, ◌∙◌, is_some, nat_lt, arith}
+use Rattle.std.proofs.Common.{◌≡◌, ◌≢◌, ℕ, zero, suc, ◌+◌, ◌<◌, Bool, true, false, not, ◌&&◌, ◌||◌, eqb, List, [], ◌∷◌, length, get_or, ℤ, pos, ◌+ℤ◌, ◌-ℤ◌, Any, All, AllPairs, Contains, IsTrue, ◌↔◌, if◌then◌else◌, inl, inr, refl, sym, ap, ap₂, subst, ◌∙◌, is_some, nat_lt, arith}
 use Rattle.std.specs.List.{filter, list_any, list_all}
 use Rattle.std.specs.Ordering.{int_eq}
 use Rattle.std.specs.declared.option.Option.TheVariants.{None, Some}
 use Rattle.std.proofs.Math.Bool.{or-true}
-use Rattle.std.proofs.lemmas.Bool.{and_parts, true≢false, false≢true, lt-ltb, ltb-true, eqb-true, eq-eqb, ne_eqb, or_cases, not-true}
+use Rattle.std.proofs.lemmas.Bool.{and_parts, true≢false, false≢true, lt-ltb, ltb-true, eqb-true, eq-eqb, ne_eqb, not-true}
 use Rattle.std.proofs.lemmas.Bool.Decides.{Decides-int_eq}
 use Rattle.std.proofs.lemmas.Int.{ints}
 use Rattle.std.proofs.lemmas.Map.Views.{Contains-from_any}

@@ -2,51 +2,36 @@
 use Rattle.std.proofs.Common.{◌≡◌, ℕ, ◌+◌, ◌<◌, ◌≤◌, ℤ, Bool, true, false, cond, List, [], ◌∷◌, ◌++◌, length, length-append, Option, Some, None, refl, sym, ap, subst, ◌∙◌, arith}
 use Rattle.std.specs.List.{filter}
 use Rattle.std.specs.Option.{unwrap_or, IfSome}
-use Rattle.std.specs.Ordering.{int_cmp, int_eq, is_eq, ordering_then}
+use Rattle.std.specs.Ordering.{int_eq, is_eq}
 use Rattle.std.specs.declared.cmp.Ordering.{Ordering}
 use Rattle.std.specs.declared.cmp.Ordering.TheVariants.{Less, Equal, Greater}
-use Rattle.std.specs.Cmp.{IsTotalOrder}
 use Rattle.std.specs.BTreeMap as tree
 use Rattle.std.proofs.lemmas.Bool.{false≢true, true≢false}
 use Rattle.std.proofs.lemmas.Bool.Decides.{Decides-int_eq}
-use Rattle.std.proofs.lemmas.Cmp.{int_cmp_total, tied_itself, then_total, on_total}
-use Rattle.std.proofs.lemmas.Map.Lookups.{CmpEqualImpliesEq, exact_signed}
+use Rattle.std.proofs.lemmas.Cmp.{tied_itself}
 use Rattle.f2_algebra.proofs.Cancelling.LogLemmas.{none_where}
 use Rattle.sparse_complex.specs.declared.slices.Cell.{Cell}
 use Rattle.torus_geom.specs.Marks.{Marks}
 use Rattle.torus_geom.specs.Inner.CodeHomology.{IsHomologyRank}
-use Rattle.homology_cert.specs.Inner.Ranks.{degree_cmp, Ranks, rank_in, degree_count, HasRanks, AreCounted, IsTold}
+use Rattle.gradings.specs.Degrees.{bidegree_cmp}
+use Rattle.gradings.specs.declared.degrees.Bidegree.{Bidegree}
+use Rattle.gradings.proofs.OrderLemmas.{bidegree_cmp_total, bidegree_cmp_exact}
+use Rattle.homology_cert.specs.Inner.Ranks.{key_of, Ranks, rank_in, degree_count, HasRanks, AreCounted, IsTold}
 
 -- ---- the order of the keys
-pub degree_cmp_total : IsTotalOrder degree_cmp
-degree_cmp_total =
-    then_total (on_total (λ (p : ℤ × ℤ). p.0) int_cmp_total) (on_total (λ (p : ℤ × ℤ). p.1) int_cmp_total)
-
-both_equal : (x y : Ordering) → ordering_then x y ≡ Equal → (x ≡ Equal) × (y ≡ Equal)
-both_equal Less y e = absurd (false≢true (ap is_eq e))
-both_equal Equal y e = (refl, e)
-both_equal Greater y e = absurd (false≢true (ap is_eq e))
-
--- keys that are tied are the same
-pub exact_degrees : CmpEqualImpliesEq degree_cmp
-exact_degrees p q e =
-    let (first, second) = both_equal (int_cmp p.0 q.0) (int_cmp p.1 q.1) e in
-    let at_first = exact_signed p.0 q.0 first in
-    let at_alexander = exact_signed p.1 q.1 second in
-    λ i. (at_first i, at_alexander i)
-
 is_equal : (o : Ordering) → is_eq o ≡ true → o ≡ Equal
 is_equal Less e = absurd (false≢true e)
 is_equal Equal e = refl
 is_equal Greater e = absurd (false≢true e)
 
 -- the test of a key finds the key itself
-key_itself : (p : ℤ × ℤ) → is_eq (degree_cmp p p) ≡ true
-key_itself p = ap is_eq (tied_itself degree_cmp_total p)
+key_itself : (p : Bidegree) → is_eq (bidegree_cmp p p) ≡ true
+key_itself p = ap is_eq (tied_itself bidegree_cmp_total p)
 
 -- and no other key
-key_other : (p q : ℤ × ℤ) → (p ≡ q → ⊥) → is_eq (degree_cmp p q) ≡ false
-key_other p q other = none_where (is_eq (degree_cmp p q)) (λ h. other (exact_degrees p q (is_equal (degree_cmp p q) h)))
+key_other : (p q : Bidegree) → (p ≡ q → ⊥) → is_eq (bidegree_cmp p q) ≡ false
+key_other p q other = none_where (is_eq (bidegree_cmp p q))
+    (λ h. other (bidegree_cmp_exact p q (is_equal (bidegree_cmp p q) h)))
 
 -- ---- how many cells have a degree
 count-none : (m : ℤ) → degree_count m [] ≡ 0
@@ -90,8 +75,8 @@ count_at_most m (x ∷ xs) = by (int_eq x.maslov m) (count_at_most m xs)
 
 -- ---- the cells of a degree, one by one
 -- none is counted where the degree is new
-pub counted-none : (a : ℤ) (ranks : Ranks) → ((m : ℤ) → tree.get degree_cmp ranks (a, m) ≡ None)
-    → ((b m : ℤ) → IfSome (tree.get degree_cmp ranks (b, m)) (λ d. 0 < d)) → AreCounted a [] ranks ranks
+pub counted-none : (a : ℤ) (ranks : Ranks) → ((m : ℤ) → tree.get bidegree_cmp ranks (key_of (m, a)) ≡ None)
+    → ((b m : ℤ) → IfSome (tree.get bidegree_cmp ranks (key_of (m, b))) (λ d. 0 < d)) → AreCounted a [] ranks ranks
 counted-none a ranks fresh positive = record {
   counts = λ m. ap (λ o. unwrap_or o 0) (fresh m);
   others = λ b m other. refl;
@@ -100,20 +85,22 @@ counted-none a ranks fresh positive = record {
 
 pub counted-next : (a : ℤ) (xs : List Cell) (c : Cell) (first old new : Ranks) (count : ℕ)
     → count ≡ rank_in old a c.maslov
-    → ((q : ℤ × ℤ)
-    → tree.get degree_cmp new q
-    ≡ cond (is_eq (degree_cmp (a, c.maslov) q)) (Some (count + 1)) (tree.get degree_cmp old q))
+    → ((q : Bidegree)
+    → tree.get bidegree_cmp new q
+    ≡ cond (is_eq (bidegree_cmp (key_of (c.maslov, a)) q)) (Some (count + 1)) (tree.get bidegree_cmp old q))
     → AreCounted a xs first old → AreCounted a (xs ++ c ∷ []) first new
 counted-next a xs c first old new count read adds before = record {
-  counts = λ m. ap (λ o. unwrap_or o 0) (adds (a, m)) ∙ at m (int_eq c.maslov m) refl ∙ sym (count-push m xs c);
+  counts = λ m. ap (λ o. unwrap_or o 0) (adds (key_of (m, a))) ∙ at m (int_eq c.maslov m) refl
+      ∙ sym (count-push m xs c);
   others = λ b m other.
-      adds (b, m)
-      ∙ ap (λ t. cond t (Some (count + 1)) (tree.get degree_cmp old (b, m)))
-      (key_other (a, c.maslov) (b, m) (λ e. other (sym (ap (λ (p : ℤ × ℤ). p.0) e))))
+      adds (key_of (m, b))
+      ∙ ap (λ t. cond t (Some (count + 1)) (tree.get bidegree_cmp old (key_of (m, b))))
+      (key_other (key_of (c.maslov, a)) (key_of (m, b)) (λ e. other (sym (ap (λ (p : Bidegree). p.a) e))))
       ∙ before.others b m other;
   positive =
-      λ b m. subst (λ o. IfSome o (λ d. 0 < d)) (sym (adds (b, m)))
-      (above (is_eq (degree_cmp (a, c.maslov) (b, m))) (tree.get degree_cmp old (b, m)) (before.positive b m));
+      λ b m. subst (λ o. IfSome o (λ d. 0 < d)) (sym (adds (key_of (m, b))))
+      (above (is_eq (bidegree_cmp (key_of (c.maslov, a)) (key_of (m, b)))) (tree.get bidegree_cmp old (key_of (m, b)))
+      (before.positive b m));
 }
   where
     above : (t : Bool) (o : Option ℕ) → IfSome o (λ d. 0 < d) → IfSome (cond t (Some (count + 1)) o) (λ d. 0 < d)
@@ -124,18 +111,19 @@ counted-next a xs c first old new count read adds before = record {
     no_more k = omega arith
 
     at : (m : ℤ) (t : Bool) → int_eq c.maslov m ≡ t
-        → unwrap_or (cond (is_eq (degree_cmp (a, c.maslov) (a, m))) (Some (count + 1))
-        (tree.get degree_cmp old (a, m))) 0 ≡ degree_count m xs + cond (int_eq c.maslov m) 1 0
+        → unwrap_or (cond (is_eq (bidegree_cmp (key_of (c.maslov, a)) (key_of (m, a)))) (Some (count + 1))
+        (tree.get bidegree_cmp old (key_of (m, a)))) 0 ≡ degree_count m xs + cond (int_eq c.maslov m) 1 0
     at m true e =
         let same : c.maslov ≡ m = (Decides-int_eq c.maslov m).0 e in
-        ap (λ t. unwrap_or (cond t (Some (count + 1)) (tree.get degree_cmp old (a, m))) 0)
-        (ap (λ n. is_eq (degree_cmp (a, c.maslov) (a, n))) (sym same) ∙ key_itself (a, c.maslov))
+        ap (λ t. unwrap_or (cond t (Some (count + 1)) (tree.get bidegree_cmp old (key_of (m, a)))) 0)
+        (ap (λ n. is_eq (bidegree_cmp (key_of (c.maslov, a)) (key_of (n, a)))) (sym same)
+        ∙ key_itself (key_of (c.maslov, a)))
         ∙ ap (λ k. k + 1) (read ∙ ap (rank_in old a) same ∙ before.counts m)
         ∙ ap (λ b. degree_count m xs + cond b 1 0) (sym e)
     at m false e =
-        ap (λ t. unwrap_or (cond t (Some (count + 1)) (tree.get degree_cmp old (a, m))) 0)
-        (key_other (a, c.maslov) (a, m)
-        (λ s. true≢false (sym ((Decides-int_eq c.maslov m).1 (ap (λ (p : ℤ × ℤ). p.1) s)) ∙ e)))
+        ap (λ t. unwrap_or (cond t (Some (count + 1)) (tree.get bidegree_cmp old (key_of (m, a)))) 0)
+        (key_other (key_of (c.maslov, a)) (key_of (m, a))
+        (λ s. true≢false (sym ((Decides-int_eq c.maslov m).1 (ap (λ (p : Bidegree). p.m) s)) ∙ e)))
         ∙ before.counts m ∙ no_more (degree_count m xs)
         ∙ ap (λ b. degree_count m xs + cond b 1 0) (sym e)
 

@@ -1,9 +1,8 @@
 -- Laws of the ranks and the tables of a grid: in each bidegree there is a rank, and a grid has one table.
-use Rattle.std.proofs.Common.{◌≡◌, ℕ, ◌<◌, ℤ, Bool, true, false, ◌&&◌, List, [], ◌∷◌, Contains, AllPairs, Some, None, if◌then◌else◌, is_some, ◌↔◌, inl, inr, refl, sym, ap, subst, ◌∙◌, arith}
+use Rattle.std.proofs.Common.{◌≡◌, ℕ, ◌<◌, ℤ, Bool, true, false, ◌&&◌, List, [], ◌∷◌, Contains, AllPairs, Some, None, if◌then◌else◌, is_some, ◌↔◌, inl, inr, refl, sym, ap, subst, ◌∙◌}
 use Rattle.std.specs.Ordering.{int_eq}
 use Rattle.std.proofs.lemmas.Bool.{ltb-true, and_parts, and_from}
 use Rattle.std.proofs.lemmas.Bool.Decides.{Decides-int_eq}
-use Rattle.std.proofs.lemmas.Int.{ints}
 use Rattle.cancel.proofs.ListLemmas.{any-Contains}
 use Rattle.state_rank.specs.Bijection.{ascending}
 use Rattle.state_rank.proofs.OrderLemmas.{Contains-ascending}

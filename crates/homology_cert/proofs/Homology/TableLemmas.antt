@@ -20,7 +20,7 @@ use Rattle.std.proofs.lemmas.Map.Lookups.{exact_signed}
 use Rattle.std.proofs.lemmas.Map.Views.{btree_set_contains_iff}
 use Rattle.f2_algebra.specs.Chain.{Chain, holds, nothing, ◌⊕◌}
 use Rattle.f2_algebra.specs.Complex.{Complex, IsRank}
-use Rattle.f2_algebra.specs.Bigraded.{stands_before, StandsBefore}
+use Rattle.f2_algebra.specs.Bigraded.{StandsBefore}
 use Rattle.f2_algebra.proofs.Ranks.OrderLemmas.{Decides-stands_before}
 use Rattle.f2_algebra.proofs.Cancelling.LogLemmas.{none_where}
 use Rattle.f2_algebra.proofs.Ranks.RankLemmas.{degree-nothing}
@@ -40,7 +40,8 @@ use Rattle.hat_division.specs.declared.tables.TableRow.{TableRow}
 use Rattle.gradings.specs.Degrees.{IsSmallDegree}
 use Rattle.rectangles.proofs.Homology.HomologyLemmas.{degree_if}
 use Rattle.homology_cert.specs.Tables.{homology_row, HasSmallDegrees}
-use Rattle.homology_cert.specs.Inner.Ranks.{degree_cmp, Ranks, rank_in, AreSmall, HasHomology, HasDegrees, HasRanks, AreCounted, IsTold, IsDone, AreRows}
+use Rattle.gradings.specs.Degrees.{bidegree_cmp}
+use Rattle.homology_cert.specs.Inner.Ranks.{key_of, Ranks, rank_in, AreSmall, HasHomology, HasDegrees, HasRanks, AreCounted, IsTold, IsDone, AreRows}
 use Rattle.homology_cert.proofs.Homology.CountLemmas.{told-counted, told-other}
 use Rattle.homology_cert.proofs.Homology.SliceRanks.{one_homology_rank}
 use Rattle.f2_algebra.proofs.Chains.Lists.{below-map}
@@ -141,8 +142,8 @@ done-none g degrees ranks empty has = record {
   positive = λ a m. subst (λ o. IfSome o (λ d. 0 < d)) (sym (no_value a m)) tt;
 }
   where
-    no_value : (a m : ℤ) → tree.get degree_cmp ranks (a, m) ≡ None
-    no_value a m = ap (λ es. lookup (tree.is_at (degree_cmp (a, m))) es) empty
+    no_value : (a m : ℤ) → tree.get bidegree_cmp ranks (key_of (m, a)) ≡ None
+    no_value a m = ap (λ es. lookup (tree.is_at (bidegree_cmp (key_of (m, a)))) es) empty
 
     nothing_at : (a m : ℤ) → rank_in ranks a m ≡ 0
     nothing_at a m = ap (λ o. unwrap_or o 0) (no_value a m)

@@ -1,17 +1,16 @@
 -- The loops that make a certificate: the bidegrees of the states so far, the cycle pairs of the codes so far, the step
 -- pairs of the entries so far, and the cells of the bidegrees so far.
-use Rattle.std.proofs.Common.{◌≡◌, ℕ, zero, suc, ◌+◌, ◌-◌, ◌<◌, ℤ, Bool, true, false, cond, ◌||◌, ◌&&◌, List, [], ◌∷◌, ◌++◌, map, length, get_or, take, drop, reverse, All, AllPairs, Contains, IsTrue, is_some, refl, sym, ap, ap₂, subst, ◌∙◌, arith, inl, inr, below_more, add-one, append_assoc, append-nil, int_lt, ◌<ℤ◌}
+use Rattle.std.proofs.Common.{◌≡◌, ℕ, zero, suc, ◌+◌, ◌<◌, ℤ, Bool, true, false, cond, ◌||◌, List, [], ◌∷◌, ◌++◌, map, length, get_or, take, drop, All, AllPairs, Contains, IsTrue, is_some, refl, sym, ap, ap₂, subst, ◌∙◌, arith, inl, inr, below_more, add-one, append_assoc, append-nil}
 use Rattle.std.specs.List.{filter, list_any, AllByRecursion}
 use Rattle.std.specs.List.Sorted.{IsStrictlySortedBy}
-use Rattle.std.specs.Ordering.{int_cmp, int_eq, is_eq, is_lt, ordering_then}
+use Rattle.std.specs.Ordering.{is_eq}
 use Rattle.std.specs.declared.cmp.Ordering.{Ordering}
 use Rattle.std.specs.declared.cmp.Ordering.TheVariants.{Less, Equal, Greater}
 use Rattle.std.specs.BTreeSet as sorted
 use Rattle.std.specs.BTreeSet.{BTreeSet}
 use Rattle.std.proofs.lemmas.Bool.{false≢true}
-use Rattle.std.proofs.lemmas.Cmp.{int_ranked, tied_itself}
-use Rattle.std.proofs.lemmas.Int.{ints}
-use Rattle.std.proofs.lemmas.List.{length-map, length-reverse, get_or-map, get_or-reverse, map-append, take_more, drop_more}
+use Rattle.std.proofs.lemmas.Cmp.{tied_itself}
+use Rattle.std.proofs.lemmas.List.{length-map, get_or-map, map-append, take_more, drop_more}
 use Rattle.std.proofs.lemmas.List.Elements.{filter-append, Contains-append_right, All-append, All-cons, All-nil}
 use Rattle.std.proofs.lemmas.Map.Views.{btree_set_contains_iff}
 use Rattle.f2_algebra.specs.Chain.{Chain}
@@ -36,11 +35,13 @@ use Rattle.torus_geom.proofs.Sums.AllBelowLemmas.{all_below-true}
 use Rattle.rectangles.proofs.Law.GridComplexLemmas.{grid_complex_rules}
 use Rattle.homology_cert.specs.CertificateCodes.{Cell}
 use Rattle.homology_cert.specs.Inner.CodeTests.{has_bidegree}
-use Rattle.homology_cert.specs.Inner.Ranks.{degree_cmp}
-use Rattle.homology_cert.specs.Inner.Making.{cycle_pair, left_codes, step_pair, steps_after, key_of, HasState, HasBidegrees, IsMadeCell, AreMade}
+use Rattle.gradings.specs.Degrees.{bidegree_cmp}
+use Rattle.gradings.specs.declared.degrees.Bidegree.{Bidegree}
+use Rattle.gradings.proofs.OrderLemmas.{bidegree_cmp_total, bidegree_cmp_exact, stands_before-bidegree_cmp}
+use Rattle.homology_cert.specs.Inner.Ranks.{key_of}
+use Rattle.homology_cert.specs.Inner.Making.{cycle_pair, left_codes, step_pair, steps_after, HasState, HasBidegrees, IsMadeCell, AreMade}
 use Rattle.homology_cert.proofs.Homology.SliceRanks.{slice_of, slice-below, reduction_of}
 use Rattle.homology_cert.proofs.Certified.CertifiedLemmas.{same_degree-is}
-use Rattle.homology_cert.proofs.Homology.CountLemmas.{degree_cmp_total, exact_degrees}
 
 -- ---- cycle pairs
 -- the codes that pass, with one more
@@ -133,26 +134,26 @@ sources-below g grid a entries stands k d within =
 
 -- ---- bidegrees
 -- before the first state there is none
-pub bidegrees-none : (g : Marks) (degrees : BTreeSet (ℤ × ℤ)) → degrees.keys ≡ [] → HasBidegrees g 0 degrees
+pub bidegrees-none : (g : Marks) (degrees : BTreeSet Bidegree) → degrees.keys ≡ [] → HasBidegrees g 0 degrees
 bidegrees-none g degrees empty = record {
   found = λ s l. absurd (omega (arith, l));
   of_states = λ q h. absurd (no_member q (subst (λ ks. Contains ks q) empty
-      ((btree_set_contains_iff degree_cmp_total exact_degrees degrees q).0 h)));
+      ((btree_set_contains_iff bidegree_cmp_total bidegree_cmp_exact degrees q).0 h)));
 }
 
 -- a state adds its bidegree
-pub bidegrees-next : (g : Marks) (n : ℕ) (d : ℤ × ℤ) (old new : BTreeSet (ℤ × ℤ))
+pub bidegrees-next : (g : Marks) (n : ℕ) (d : Bidegree) (old new : BTreeSet Bidegree)
     → d ≡ key_of (bidegree g (unrank (size g) n))
-    → ((q : ℤ × ℤ) → sorted.contains degree_cmp new q ≡ cond (is_eq (degree_cmp d q)) true
-    (sorted.contains degree_cmp old q))
+    → ((q : Bidegree) → sorted.contains bidegree_cmp new q ≡ cond (is_eq (bidegree_cmp d q)) true
+    (sorted.contains bidegree_cmp old q))
     → HasBidegrees g n old → HasBidegrees g (n + 1) new
 bidegrees-next g n d old new d_is adds before = record {
-  found = below_more (λ s. sorted.contains degree_cmp new (key_of (bidegree g (unrank (size g) s))) ≡ true) n
+  found = below_more (λ s. sorted.contains bidegree_cmp new (key_of (bidegree g (unrank (size g) s))) ≡ true) n
       (λ s l. adds (key_of (bidegree g (unrank (size g) s)))
-      ∙ kept (is_eq (degree_cmp d (key_of (bidegree g (unrank (size g) s))))) _ (before.found s l))
-      (subst (λ q. sorted.contains degree_cmp new q ≡ true) d_is
-      (adds d ∙ ap (λ o. cond (is_eq o) true (sorted.contains degree_cmp old d)) (tied_itself degree_cmp_total d)));
-  of_states = λ q h. by_test q (is_eq (degree_cmp d q)) refl h;
+      ∙ kept (is_eq (bidegree_cmp d (key_of (bidegree g (unrank (size g) s))))) _ (before.found s l))
+      (subst (λ q. sorted.contains bidegree_cmp new q ≡ true) d_is
+      (adds d ∙ ap (λ o. cond (is_eq o) true (sorted.contains bidegree_cmp old d)) (tied_itself bidegree_cmp_total d)));
+  of_states = λ q h. by_test q (is_eq (bidegree_cmp d q)) refl h;
 }
   where
     kept : (b c : Bool) → c ≡ true → cond b true c ≡ true
@@ -164,20 +165,22 @@ bidegrees-next g n d old new d_is adds before = record {
     equal Equal h = refl
     equal Greater h = absurd (false≢true h)
 
-    by_test : (q : ℤ × ℤ) (b : Bool) → is_eq (degree_cmp d q) ≡ b → sorted.contains degree_cmp new q ≡ true
+    by_test : (q : Bidegree) (b : Bool) → is_eq (bidegree_cmp d q) ≡ b → sorted.contains bidegree_cmp new q ≡ true
         → (s : ℕ) × (s < n + 1) × (key_of (bidegree g (unrank (size g) s)) ≡ q)
-    by_test q true e h = (n, omega arith, sym d_is ∙ exact_degrees d q (equal (degree_cmp d q) e))
+    by_test q true e h = (n, omega arith, sym d_is ∙ bidegree_cmp_exact d q (equal (bidegree_cmp d q) e))
     by_test q false e h =
         let (s, below, is) = before.of_states q (sym (adds q
-        ∙ ap (λ b. cond b true (sorted.contains degree_cmp old q)) e) ∙ h) in
+        ∙ ap (λ b. cond b true (sorted.contains bidegree_cmp old q)) e) ∙ h) in
         (s, omega (arith, below), is)
 
 -- a bidegree of the set is that of a state
-pub state_of-key : (g : Marks) (degrees : BTreeSet (ℤ × ℤ)) → HasBidegrees g (factorial (size g)) degrees → (q : ℤ × ℤ)
-    → Contains degrees.keys q → HasState g (q.1, q.0)
+pub state_of-key : (g : Marks) (degrees : BTreeSet Bidegree) → HasBidegrees g (factorial (size g)) degrees
+    → (q : Bidegree)
+    → Contains degrees.keys q → HasState g (q.m, q.a)
 state_of-key g degrees has q inside =
-    let (s, below, is) = has.of_states q ((btree_set_contains_iff degree_cmp_total exact_degrees degrees q).1 inside) in
-    (s, below, ap key_of is)
+    let (s, below, is) = has.of_states q
+    ((btree_set_contains_iff bidegree_cmp_total bidegree_cmp_exact degrees q).1 inside) in
+    (s, below, ap (λ (d : Bidegree). (d.m, d.a)) is)
 
 -- ---- a cell
 -- the pairs of a log of a slice that was built and reduced
@@ -202,16 +205,17 @@ made_cell g m a d old new log cycles steps at state built reduced cycles_are ste
       steps = subst (λ (e : ℤ × ℤ). steps ≡ steps_after (has_bidegree g e) [] log) (sym at) steps_are;
     }
 
--- ---- cells, the last first
-abbrev pub keys_of : List Cell → List (ℤ × ℤ)
+-- ---- cells, in order
+abbrev pub keys_of : List Cell → List Bidegree
 keys_of cells = map (λ (c : Cell). key_of c.at) cells
 
 -- what is ahead is among all
-pub ahead : (made ks all : List (ℤ × ℤ)) (q : ℤ × ℤ) → made ++ q ∷ ks ≡ all → Contains all q
+pub ahead : (made ks all : List Bidegree) (q : Bidegree) → made ++ q ∷ ks ≡ all → Contains all q
 ahead made ks all q e = subst (λ xs. Contains xs q) e (Contains-append_right made (q ∷ ks) q (member_head q ks))
 
 -- one cell more
-pub keys-pushed : (old new : List Cell) (cell : Cell) (ks all : List (ℤ × ℤ)) (q : ℤ × ℤ) → keys_of old ++ q ∷ ks ≡ all
+pub keys-pushed : (old new : List Cell) (cell : Cell) (ks all : List Bidegree) (q : Bidegree)
+    → keys_of old ++ q ∷ ks ≡ all
     → new ≡ old ++ cell ∷ [] → key_of cell.at ≡ q → keys_of new ++ ks ≡ all
 keys-pushed old new cell ks all q so_far pushed at =
     ap (λ cells. keys_of cells ++ ks) pushed
@@ -227,77 +231,30 @@ made-pushed g old new cell so_far pushed made = subst (All (IsMadeCell g)) (sym 
     (All-append (IsMadeCell g) old (cell ∷ []) so_far (All-cons (IsMadeCell g) cell [] made (All-nil (IsMadeCell g))))
 
 -- keys in order rise pair by pair
-keys-rise : (ks : List (ℤ × ℤ)) → IsStrictlySortedBy degree_cmp ks → AllPairs (λ p q. degree_cmp p q ≡ Less) ks
+keys-rise : (ks : List Bidegree) → IsStrictlySortedBy bidegree_cmp ks → AllPairs (λ p q. bidegree_cmp p q ≡ Less) ks
 unfolding IsStrictlySortedBy
 keys-rise [] h = λ i j d l k. absurd (omega (arith, k))
-keys-rise (p ∷ ks) h = pairs_cons (λ p q. degree_cmp p q ≡ Less) p ks (all_later ks h.0) (keys-rise ks h.1)
+keys-rise (p ∷ ks) h = pairs_cons (λ p q. bidegree_cmp p q ≡ Less) p ks (all_later ks h.0) (keys-rise ks h.1)
   where
-    all_later : (qs : List (ℤ × ℤ)) → AllByRecursion (λ q. degree_cmp p q ≡ Less) qs → (q : ℤ × ℤ) → Contains qs q
-        → degree_cmp p q ≡ Less
+    all_later : (qs : List Bidegree) → AllByRecursion (λ q. bidegree_cmp p q ≡ Less) qs → (q : Bidegree) → Contains qs q
+        → bidegree_cmp p q ≡ Less
     all_later [] h q inside = absurd (no_member q inside)
     all_later (r ∷ qs) h q inside = elim (member_cases r qs q inside) [
-      | inl is ↦ subst (λ s. degree_cmp p s ≡ Less) is h.0
+      | inl is ↦ subst (λ s. bidegree_cmp p s ≡ Less) is h.0
       | inr later ↦ all_later qs h.1 q later
     ]
 
--- a lower key stands later
-higher : (m a n b : ℤ) → ordering_then (int_cmp a b) (int_cmp m n) ≡ Less
-    → (int_lt a b || (int_eq a b && int_lt m n)) ≡ true
-higher m a n b less = by (int_cmp a b) refl less
-  where
-    first : (x y : ℤ) (other : Bool) → x <ℤ y → (int_lt x y || other) ≡ true
-    first x y other h = grind (arith, ints)
-
-    second : (x y z w : ℤ) → x ≡ y → z <ℤ w → (int_lt x y || (int_eq x y && int_lt z w)) ≡ true
-    second x y z w e h = grind (arith, ints)
-
-    by : (o : Ordering) → o ≡ int_cmp a b → ordering_then o (int_cmp m n) ≡ Less
-        → (int_lt a b || (int_eq a b && int_lt m n)) ≡ true
-    by Less is h = first a b (int_eq a b && int_lt m n) (int_ranked a b Less is)
-    by Equal is h = second a b m n (int_ranked a b Equal is) (int_ranked m n Less (sym h))
-    by Greater is h = absurd (false≢true (ap is_lt h))
-
--- cells whose keys rise stand in the other order
-cells-rise : (cells : List Cell) → AllPairs (λ p q. degree_cmp p q ≡ Less) (keys_of cells)
-    → AllPairs (λ (p q : Cell). IsTrue (stands_before q.at p.at)) cells
+-- cells whose keys rise are in order
+cells-rise : (cells : List Cell) → AllPairs (λ p q. bidegree_cmp p q ≡ Less) (keys_of cells)
+    → AllPairs (λ (p q : Cell). IsTrue (stands_before p.at q.at)) cells
 cells-rise cells pairs i j d less within =
     let k = λ (c : Cell). key_of c.at in
     let p = get_or cells i d in
     let q = get_or cells j d in
     let first : get_or (keys_of cells) i (k d) ≡ k p = get_or-map k cells i d (k d) (omega (arith, less, within)) in
     let second : get_or (keys_of cells) j (k d) ≡ k q = get_or-map k cells j d (k d) within in
-    higher p.at.0 p.at.1 q.at.0 q.at.1 (ap₂ degree_cmp (sym first) (sym second)
+    stands_before-bidegree_cmp (k p) (k q) (ap₂ bidegree_cmp (sym first) (sym second)
     ∙ pairs i j (k d) less (omega (arith, within, length-map cells k)))
-
-module _ (cells : List Cell) where
-  -- so the other way round they stand in order
-  reversed-pairs : AllPairs (λ (p q : Cell). IsTrue (stands_before q.at p.at)) cells
-      → AllPairs (λ (p q : Cell). IsTrue (stands_before p.at q.at)) (reverse cells)
-  reversed-pairs pairs i j d less within =
-      let long = length-reverse cells in
-      let in_j : j < length cells = omega (arith, within, long) in
-      let in_i : i < length cells = omega (arith, in_j, less) in
-      subst (λ (t : Cell × Cell). IsTrue (stands_before t.0.at t.1.at))
-      (λ k. (sym (get_or-reverse cells i d in_i) k, sym (get_or-reverse cells j d in_j) k))
-      (pairs (length cells - 1 - j) (length cells - 1 - i) d (omega (arith, less, in_j)) (omega (arith, in_i)))
-
-  -- what holds of each holds the other way round
-  reversed-all : (P : Cell → Type 0) → All P cells → All P (reverse cells)
-  reversed-all P all k d within =
-      let long = length-reverse cells in
-      let in_k : k < length cells = omega (arith, within, long) in
-      subst P (sym (get_or-reverse cells k d in_k)) (all (length cells - 1 - k) d (omega (arith, in_k)))
-
-  -- each stands there
-  reversed-member : (c : Cell) → Contains cells c → Contains (reverse cells) c
-  reversed-member c (k, within, is) =
-      let long = length-reverse cells in
-      let back : length cells - 1 - (length cells - 1 - k) ≡ k = omega (arith, within) in (
-        length cells - 1 - k,
-        omega (arith, within, long),
-        get_or-reverse cells (length cells - 1 - k) c
-            (omega (arith, within)) ∙ ap (λ n. get_or cells n c) back ∙ is,
-      )
 
 -- a member that passes is found
 any_member : (p : Cell → Bool) (cells : List Cell) (cell : Cell) → Contains cells cell → p cell ≡ true
@@ -312,24 +269,23 @@ any_member p (first ∷ cells) cell inside h = elim (member_cases first cells ce
     either true = refl
     either false = refl
 
--- cells that were made for all bidegrees in turn, the other way round
-pub made-reversed : (g : Marks) (degrees : BTreeSet (ℤ × ℤ)) (cells turned : List Cell)
-    → HasBidegrees g (factorial (size g)) degrees → IsStrictlySortedBy degree_cmp degrees.keys
-    → keys_of cells ≡ degrees.keys
-    → All (IsMadeCell g) cells → turned ≡ reverse cells → AreMade g turned
-made-reversed g degrees cells turned has ordered all made is = subst (AreMade g) (sym is) (record {
-  ordered = reversed-pairs cells (cells-rise cells (keys-rise (keys_of cells)
-      (subst (IsStrictlySortedBy degree_cmp) (sym all) ordered)));
-  each = reversed-all cells (IsMadeCell g) made;
-  complete = all_below-true (factorial (size g)) (λ s. list_any (λ (c : Cell). has_bidegree g c.at s) (reverse cells))
-      one;
-})
+-- cells that were made for all bidegrees in turn
+pub made-all : (g : Marks) (degrees : BTreeSet Bidegree) (cells : List Cell)
+    → HasBidegrees g (factorial (size g)) degrees
+    → IsStrictlySortedBy bidegree_cmp degrees.keys → keys_of cells ≡ degrees.keys → All (IsMadeCell g) cells
+    → AreMade g cells
+made-all g degrees cells has ordered all made = record {
+  ordered = cells-rise cells (keys-rise (keys_of cells) (subst (IsStrictlySortedBy bidegree_cmp) (sym all) ordered));
+  each = made;
+  complete = all_below-true (factorial (size g)) (λ s. list_any (λ (c : Cell). has_bidegree g c.at s) cells) one;
+}
   where
-    one : (s : ℕ) → s < factorial (size g) → list_any (λ (c : Cell). has_bidegree g c.at s) (reverse cells) ≡ true
+    one : (s : ℕ) → s < factorial (size g) → list_any (λ (c : Cell). has_bidegree g c.at s) cells ≡ true
     one s below =
         let d = bidegree g (unrank (size g) s) in
-        let stood = (btree_set_contains_iff degree_cmp_total exact_degrees degrees (key_of d)).0 (has.found s below) in
+        let stood = (btree_set_contains_iff bidegree_cmp_total bidegree_cmp_exact degrees (key_of d)).0
+        (has.found s below) in
         let (cell, inside, at) = member_of_map (λ (c : Cell). key_of c.at) cells (key_of d)
         (subst (λ ks. Contains ks (key_of d)) (sym all) stood) in
-        any_member (λ (c : Cell). has_bidegree g c.at s) (reverse cells) cell (reversed-member cells cell inside)
-        ((same_degree-is d cell.at).1 (sym (ap key_of at)))
+        any_member (λ (c : Cell). has_bidegree g c.at s) cells cell inside
+        ((same_degree-is d cell.at).1 (sym (ap (λ (b : Bidegree). (b.m, b.a)) at)))

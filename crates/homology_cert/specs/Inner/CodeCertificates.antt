@@ -5,7 +5,7 @@
 --     entry_count cells     the number of entries: the cells, the cycle pairs and the step pairs
 --     IsCertificate c       the grid is one of size at most six; the cells stand in order, no bidegree twice, with
 --                           small degrees and with sets of ranks; there are fewer than 2^32 - 1 entries
-use Rattle.std.specs.Prelude.{ℕ, ◌+◌, ◌-◌, ◌^◌, ◌<◌, ◌≤◌, Bool, List, length, IsTrue}
+use Rattle.std.specs.Prelude.{ℕ, ◌+◌, ◌-◌, ◌^◌, ◌<◌, ◌≤◌, List, length, IsTrue}
 use Rattle.std.specs.List.{All, AllPairs, sum_by}
 use Rattle.f2_algebra.specs.Bigraded.{stands_before}
 use Rattle.f2_algebra.specs.Chain.{Chain}

@@ -4,10 +4,8 @@
 --     cycle_pair log s         the cycle pair of a state that is left: its lift and its pull
 --     step_pair done e         the step pair of the entry after these: the lift of its x and the pull of its y by them
 --     steps_after p done log   the step pairs of the entries of a log whose x passes the test, after the entries done
---     key_of d                 the bidegree with its Alexander degree first
 --     HasState g d             some state has the bidegree d
---     HasBidegrees g n degrees the set has the bidegrees of the states with a rank below n, the Alexander degree first,
---                              and no other
+--     HasBidegrees g n degrees the set has the bidegrees of the states with a rank below n, and no other
 --     IsMadeCell g cell            some state has the bidegree of the cell, and its pairs come from a log of the slice at
 --                              its Alexander degree that leaves no arrow
 --     AreMade g cells          the cells are made so and stand in order, and none is missing
@@ -30,9 +28,11 @@ use Rattle.torus_geom.specs.Counts.{all_below}
 use Rattle.torus_geom.specs.Marks.{Marks, size}
 use Rattle.torus_geom.specs.Degrees.{bidegree}
 use Rattle.torus_geom.specs.Inner.GridComplex.{grid_complex}
+use Rattle.gradings.specs.Degrees.{bidegree_cmp}
+use Rattle.gradings.specs.declared.degrees.Bidegree.{Bidegree}
 use Rattle.homology_cert.specs.CertificateCodes.{Cell}
 use Rattle.homology_cert.specs.Inner.CodeTests.{has_bidegree}
-use Rattle.homology_cert.specs.Inner.Ranks.{degree_cmp}
+use Rattle.homology_cert.specs.Inner.Ranks.{key_of}
 
 abbrev pub degree_is : ℤ → Option ℤ → Bool
 degree_is m None = false
@@ -54,13 +54,9 @@ steps_after p done (e ∷ log) = cond (p e.x) (step_pair done e ∷ []) [] ++ st
 abbrev pub HasState : Marks → ℤ × ℤ → Type 0
 HasState g d = (s : ℕ) × (s < factorial (size g)) × (bidegree g (unrank (size g) s) ≡ d)
 
--- the Maslov degree last
-abbrev pub key_of : ℤ × ℤ → ℤ × ℤ
-key_of d = (d.1, d.0)
-
-pub record HasBidegrees (g : Marks) (n : ℕ) (degrees : BTreeSet (ℤ × ℤ)) : Type 0 where
-  pub found : (s : ℕ) → s < n → sorted.contains degree_cmp degrees (key_of (bidegree g (unrank (size g) s))) ≡ true
-  pub of_states : (q : ℤ × ℤ) → sorted.contains degree_cmp degrees q ≡ true
+pub record HasBidegrees (g : Marks) (n : ℕ) (degrees : BTreeSet Bidegree) : Type 0 where
+  pub found : (s : ℕ) → s < n → sorted.contains bidegree_cmp degrees (key_of (bidegree g (unrank (size g) s))) ≡ true
+  pub of_states : (q : Bidegree) → sorted.contains bidegree_cmp degrees q ≡ true
       → (s : ℕ) × (s < n) × (key_of (bidegree g (unrank (size g) s)) ≡ q)
 
 pub record IsMadeCell (g : Marks) (cell : Cell) : Type 0 where

@@ -1,6 +1,5 @@
--- What is kept while the table of a grid is made: the Alexander degrees of its states, and a map from
--- bidegrees, the Alexander degree first, to ranks.
---     degree_cmp p q                the order of the keys: by the Alexander degree, then by the Maslov degree
+-- What is kept while the table of a grid is made: the Alexander degrees of its states, and a map from bidegrees to ranks.
+--     key_of d                      the bidegree d as a key
 --     Ranks                         such a map
 --     rank_in ranks a m             what the map has at (a, m), or 0
 --     row_of e                      the row of an entry of the map
@@ -13,13 +12,11 @@
 --     AreCounted a cells old new    the map has the numbers of the cells at a, and at other degrees what it had
 --     IsTold g ranks a              the map has the ranks at a
 --     IsDone g left ranks           it has the ranks but at the degrees of the list, where it has nothing
---     AreReversed xs ys             ys is xs in the other order
 --     AreRows g rows                the rows are those of the table of the grid, in order
 use Rattle.std.specs.Prelude.{◌≡◌, ◌↔◌, ℕ, ◌^◌, ◌<◌, true, List, length, IsTrue, ℤ}
-use Rattle.std.specs.List.{All, AllPairs, Contains, ReversedBelow, filter}
+use Rattle.std.specs.List.{All, AllPairs, Contains, filter}
 use Rattle.std.specs.Option.{unwrap_or, IfSome}
-use Rattle.std.specs.Ordering.{int_cmp, int_eq, ordering_then}
-use Rattle.std.specs.declared.cmp.Ordering.{Ordering}
+use Rattle.std.specs.Ordering.{int_cmp, int_eq}
 use Rattle.std.specs.declared.option.Option.TheVariants.{None}
 use Rattle.std.specs.BTreeMap as tree
 use Rattle.std.specs.BTreeMap.{BTreeMap}
@@ -33,20 +30,21 @@ use Rattle.torus_geom.specs.Inner.CodeHomology.{IsHomologyRank}
 use Rattle.sparse_complex.specs.declared.slices.Cell.{Cell}
 use Rattle.hat_division.specs.Table.{bidegree_of}
 use Rattle.hat_division.specs.declared.tables.TableRow.{TableRow}
-use Rattle.gradings.specs.Degrees.{IsSmallDegree}
+use Rattle.gradings.specs.Degrees.{IsSmallDegree, bidegree_cmp}
+use Rattle.gradings.specs.declared.degrees.Bidegree.{Bidegree}
 use Rattle.homology_cert.specs.Tables.{HasSmallRank}
 
-abbrev pub degree_cmp : ℤ × ℤ → ℤ × ℤ → Ordering
-degree_cmp p q = ordering_then (int_cmp p.0 q.0) (int_cmp p.1 q.1)
+abbrev pub key_of : ℤ × ℤ → Bidegree
+key_of d = record { m = d.0; a = d.1 }
 
 abbrev pub Ranks : Type 0
-Ranks = BTreeMap (ℤ × ℤ) ℕ
+Ranks = BTreeMap Bidegree ℕ
 
 abbrev pub rank_in : Ranks → ℤ → ℤ → ℕ
-rank_in ranks a m = unwrap_or (tree.get degree_cmp ranks (a, m)) 0
+rank_in ranks a m = unwrap_or (tree.get bidegree_cmp ranks (key_of (m, a))) 0
 
-abbrev pub row_of : (ℤ × ℤ) × ℕ → TableRow
-row_of e = record { m = e.0.1; a = e.0.0; rank = e.1 }
+abbrev pub row_of : Bidegree × ℕ → TableRow
+row_of e = record { m = e.0.m; a = e.0.a; rank = e.1 }
 
 pub record AreSmall (g : Marks) : Type 0 where
   pub maslov : (s : ℕ) → s < factorial (size g) → IsSmallDegree (maslov_o g (unrank (size g) s))
@@ -70,8 +68,9 @@ pub record HasRanks (g : Marks) (a : ℤ) (cells : List Cell) : Type 0 where
 
 pub record AreCounted (a : ℤ) (cells : List Cell) (old new : Ranks) : Type 0 where
   pub counts : (m : ℤ) → rank_in new a m ≡ degree_count m cells
-  pub others : (b m : ℤ) → (b ≡ a → ⊥) → tree.get degree_cmp new (b, m) ≡ tree.get degree_cmp old (b, m)
-  pub positive : (b m : ℤ) → IfSome (tree.get degree_cmp new (b, m)) (λ d. 0 < d)
+  pub others : (b m : ℤ) → (b ≡ a → ⊥)
+      → tree.get bidegree_cmp new (key_of (m, b)) ≡ tree.get bidegree_cmp old (key_of (m, b))
+  pub positive : (b m : ℤ) → IfSome (tree.get bidegree_cmp new (key_of (m, b))) (λ d. 0 < d)
 
 pub record IsTold (g : Marks) (ranks : Ranks) (a : ℤ) : Type 0 where
   pub told : (m : ℤ) → IsHomologyRank g m a (rank_in ranks a m)
@@ -79,12 +78,8 @@ pub record IsTold (g : Marks) (ranks : Ranks) (a : ℤ) : Type 0 where
 
 pub record IsDone (g : Marks) (left : List ℤ) (ranks : Ranks) : Type 0 where
   pub done : (a : ℤ) → (Contains left a → ⊥) → IsTold g ranks a
-  pub fresh : (a m : ℤ) → Contains left a → tree.get degree_cmp ranks (a, m) ≡ None
-  pub positive : (a m : ℤ) → IfSome (tree.get degree_cmp ranks (a, m)) (λ d. 0 < d)
-
-pub record AreReversed {X : Type 0} (xs ys : List X) : Type 0 where
-  pub long : length ys ≡ length xs
-  pub places : ReversedBelow xs ys (length xs)
+  pub fresh : (a m : ℤ) → Contains left a → tree.get bidegree_cmp ranks (key_of (m, a)) ≡ None
+  pub positive : (a m : ℤ) → IfSome (tree.get bidegree_cmp ranks (key_of (m, a))) (λ d. 0 < d)
 
 pub record AreRows (g : Marks) (rows : List TableRow) : Type 0 where
   pub ordered : AllPairs (λ p q. IsTrue (stands_before (bidegree_of p) (bidegree_of q))) rows

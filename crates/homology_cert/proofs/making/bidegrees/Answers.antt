@@ -1,16 +1,11 @@
 -- Each state is visited, and adds its bidegree.
-use Rattle.std.proofs.Common.{◌≡◌, ◌<◌, ℤ, true, cond, w32, length, ap, sym, ◌∙◌, rules, subst, arith}
-use mir.Val.{SFits}
-use Rattle.std.specs.Ordering.{is_eq}
-use Rattle.std.specs.BTreeSet as sorted
-use Rattle.std.proofs.lemmas.Int.{to_z-of_z}
+use Rattle.std.proofs.Common.{◌≡◌, ◌<◌, length, ap, sym, ◌∙◌, subst, arith}
 use Rattle.state_rank.specs.States.{factorial, unrank}
 use Rattle.state_rank.proofs.LehmerLemmas.{factorial_positive}
 use Rattle.state_rank.proofs.RankLemmas.{length-unrank}
 use Rattle.torus_geom.specs.Marks.{size}
 use Rattle.torus_geom.specs.Degrees.{maslov_o, alexander}
 use Rattle.sparse_complex.proofs.BuildLemmas.{visited-next}
-use Rattle.homology_cert.specs.Inner.Ranks.{degree_cmp}
 use Rattle.homology_cert.specs.Inner.Making.{HasBidegrees}
 use Rattle.homology_cert.proofs.Made.MakingLemmas.{bidegrees-none, bidegrees-next}
 use Rattle.homology_cert.proofs.making.bidegrees.Goals as goal
@@ -24,8 +19,8 @@ loop-code-init c = record {
   visited = λ l. c.unrank-x.ensures.state ∙ ap (λ n. unrank n 0) c.size.ensures.size;
 }
 
-pub degree-degree-requires : goal.degree-degree-requires
-degree-degree-requires c =
+pub degree-requires : goal.degree-requires
+degree-requires c =
     let count : c.state_count-code-end.result ≡ factorial (size c.args.g.now) = c.state_count-code-end.ensures
     ∙ ap factorial c.size-2.ensures.size in
     let below : c.loop-code._code < factorial (size c.args.g.now) = omega arith in
@@ -42,22 +37,14 @@ loop-code-preserved c =
     ∙ ap factorial c.size-2.ensures.size in
     let below : c.loop-code._code < factorial (size c.args.g.now) = omega arith in
     let x_is = c.loop-code.invariant.visited below in
-    let degree = c.degree-degree.result in
-    let fits_m : SFits w32 c.degree-degree.result.m = search rules in
-    let fits_a : SFits w32 c.degree-degree.result.a = search rules in
-    let adds : (q : ℤ × ℤ) → sorted.contains degree_cmp c.insert.new.self q ≡ cond
-    (is_eq (degree_cmp (degree.a, degree.m) q)) true (sorted.contains degree_cmp c.loop-code.degrees q) =
-    subst (λ (d : ℤ × ℤ). (q : ℤ × ℤ) → sorted.contains degree_cmp c.insert.new.self q ≡ cond (is_eq (degree_cmp d q))
-    true (sorted.contains degree_cmp c.loop-code.degrees q))
-    (λ i. (to_z-of_z w32 c.degree-degree.result.a fits_a i, to_z-of_z w32 c.degree-degree.result.m fits_m i))
-    c.in_ok-insert.ensures.updates.0 in
+    let degree = c.degree.result in
     record {
-      degrees = bidegrees-next g n (degree.a, degree.m) c.loop-code.degrees c.insert.new.self
-          (λ i. (
-            (c.degree-degree.ensures.alexander ∙ (λ j. alexander (c.of-tables.ensures j) (x_is j))) i,
-            (c.degree-degree.ensures.maslov ∙ (λ j. maslov_o (c.of-tables.ensures j) (x_is j))) i,
-          ))
-          adds c.loop-code.invariant.degrees;
+      degrees = bidegrees-next g n degree c.loop-code.degrees c.insert.new.self
+          (λ i. record {
+            m = (c.degree.ensures.maslov ∙ (λ j. maslov_o (c.of-tables.ensures j) (x_is j))) i;
+            a = (c.degree.ensures.alexander ∙ (λ j. alexander (c.of-tables.ensures j) (x_is j))) i;
+          })
+          c.in_ok-insert.ensures.updates.0 c.loop-code.invariant.degrees;
       visited = visited-next (size g) n c.loop-code.x c.advance.new.self c.advance.result below
           c.loop-code.invariant.visited c.advance.ensures.state c.advance.ensures.last;
     }

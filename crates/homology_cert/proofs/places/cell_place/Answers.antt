@@ -1,6 +1,5 @@
 use Rattle.std.proofs.Common.{◌≡◌, sym, ap, ◌∙◌, false}
 use Rattle.f2_algebra.specs.Bigraded.{stands_before}
-use Rattle.homology_cert.specs.Inner.Cells.{new_cell}
 use Rattle.homology_cert.proofs.Texts.NextLemmas.{next-in_cell, not_told, not_true}
 use Rattle.homology_cert.proofs.Texts.PlaceLemmas.{not_after}
 use Rattle.homology_cert.proofs.places.cell_place.Goals as goal

@@ -7,7 +7,9 @@ use Rattle.std.specs.BTreeMap as tree
 use Rattle.std.proofs.lemmas.Int.{to_z-of_z}
 use Rattle.std.proofs.lemmas.List.{take_more, length-take-le}
 use Rattle.sparse_complex.specs.Inner.Graph.{no_cell}
-use Rattle.homology_cert.specs.Inner.Ranks.{degree_cmp, rank_in, AreCounted}
+use Rattle.gradings.specs.Degrees.{bidegree_cmp}
+use Rattle.gradings.specs.declared.degrees.Bidegree.{Bidegree}
+use Rattle.homology_cert.specs.Inner.Ranks.{key_of, rank_in, AreCounted}
 use Rattle.homology_cert.proofs.Homology.CountLemmas.{counted-none, counted-next, count_fits}
 use Rattle.homology_cert.proofs.ranks.count_cells.Goals as goal
 
@@ -43,14 +45,14 @@ loop-cell-preserved c =
     let fits : SFits w32 cell.maslov = search rules in
     let read : c.unwrap_or-count.result ≡ rank_in c.loop-cell.ranks a (to_z w32 (of_z w32 cell.maslov)) =
     c.unwrap_or-count.ensures ∙ ap (λ o. unwrap_or o 0) (c.copied.ensures ∙ c.get.ensures.value) in
-    let adds : (q : ℤ × ℤ)
-    → tree.get degree_cmp c.insert.new.self q
-    ≡ cond (is_eq (degree_cmp (a, cell.maslov) q)) (Some (c.unwrap_or-count.result + 1))
-    (tree.get degree_cmp c.loop-cell.ranks q) =
-    subst (λ (m : ℤ). (q : ℤ × ℤ)
-    → tree.get degree_cmp c.insert.new.self q
-    ≡ cond (is_eq (degree_cmp (a, m) q)) (Some (c.unwrap_or-count.result + 1))
-    (tree.get degree_cmp c.loop-cell.ranks q))
+    let adds : (q : Bidegree)
+    → tree.get bidegree_cmp c.insert.new.self q
+    ≡ cond (is_eq (bidegree_cmp (key_of (cell.maslov, a)) q)) (Some (c.unwrap_or-count.result + 1))
+    (tree.get bidegree_cmp c.loop-cell.ranks q) =
+    subst (λ (m : ℤ). (q : Bidegree)
+    → tree.get bidegree_cmp c.insert.new.self q
+    ≡ cond (is_eq (bidegree_cmp (key_of (m, a)) q)) (Some (c.unwrap_or-count.result + 1))
+    (tree.get bidegree_cmp c.loop-cell.ranks q))
     (to_z-of_z w32 cell.maslov fits) c.in_ok-insert.ensures.updates.0 in
     subst (λ xs. AreCounted a xs c.args.ranks.now c.insert.new.self)
     (sym (take_more cells i no_cell c.loop-cell-test.true))

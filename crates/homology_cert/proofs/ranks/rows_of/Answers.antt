@@ -1,9 +1,9 @@
 -- Each entry gives its row.
-use Rattle.std.proofs.Common.{◌≡◌, ℕ, ◌++◌, ◌∷◌, [], ℤ, map, reverse, w32, sym, ap, ◌∙◌, append_assoc, append-nil, rules}
+use Rattle.std.proofs.Common.{◌≡◌, ℕ, ◌++◌, ◌∷◌, [], map, w32, sym, ap, ◌∙◌, append_assoc, append-nil, rules}
 use mir.Val.{SFits}
 use Rattle.std.proofs.lemmas.Int.{to_z-of_z}
+use Rattle.gradings.specs.declared.degrees.Bidegree.{Bidegree}
 use Rattle.homology_cert.specs.Inner.Ranks.{row_of}
-use Rattle.homology_cert.proofs.Homology.RowLemmas.{AreReversed-reverse}
 use Rattle.homology_cert.proofs.ranks.rows_of.Goals as goal
 
 pub loop-bidegree-init : goal.loop-bidegree-init
@@ -15,15 +15,15 @@ pub loop-bidegree-preserved : goal.loop-bidegree-preserved
 loop-bidegree-preserved c =
     let rows = c.loop-bidegree.rows.items in
     let rest = map row_of c.next.new.self in
-    let entry : (ℤ × ℤ) × ℕ = (c.in-Some.bidegree.now, c.in-Some.rank.now) in
-    let fits_m : SFits w32 c.in-Some.bidegree.now.1 = search rules in
-    let fits_a : SFits w32 c.in-Some.bidegree.now.0 = search rules in
+    let entry : Bidegree × ℕ = (c.in-Some.bidegree.now, c.in-Some.rank.now) in
+    let fits_m : SFits w32 c.in-Some.bidegree.now.m = search rules in
+    let fits_a : SFits w32 c.in-Some.bidegree.now.a = search rules in
     let pushed : c.push.new.self.items ≡ rows ++ row_of entry ∷ [] =
     c.in_ok-push.ensures.items
     ∙ (λ i. rows
     ++ record {
-      m = to_z-of_z w32 c.in-Some.bidegree.now.1 fits_m i;
-      a = to_z-of_z w32 c.in-Some.bidegree.now.0 fits_a i;
+      m = to_z-of_z w32 c.in-Some.bidegree.now.m fits_m i;
+      a = to_z-of_z w32 c.in-Some.bidegree.now.a fits_a i;
       rank = c.in-Some.rank.now;
     } ∷ []) in
     ap (λ xs. xs ++ rest) pushed
@@ -33,9 +33,6 @@ loop-bidegree-preserved c =
 
 pub returns-clause-rows : goal.returns-clause-rows
 returns-clause-rows c =
-    let all : c.loop-bidegree.rows.items ≡ map row_of c.args.ranks.now.entries =
     sym (append-nil c.loop-bidegree.rows.items)
     ∙ ap (λ es. c.loop-bidegree.rows.items ++ map row_of es) (sym c.in-None.ensures.steps.0)
-    ∙ c.loop-bidegree.invariant in
-    AreReversed-reverse (map row_of c.args.ranks.now.entries) c.reverse.new.self.items
-    (c.reverse.ensures.items ∙ ap reverse all)
+    ∙ c.loop-bidegree.invariant

@@ -6,8 +6,9 @@ use Rattle.std.proofs.lemmas.Int.{to_z-of_z}
 use Rattle.state_rank.proofs.MemberLemmas.{member_head}
 use Rattle.sparse_complex.specs.declared.slices.Cell.{Cell}
 use Rattle.torus_geom.specs.Inner.CodeHomology.{IsHomologyTable}
+use Rattle.gradings.specs.Degrees.{bidegree_cmp}
 use Rattle.homology_cert.specs.Tables.{homology_row, HasSmallDegrees, HasSmallRank}
-use Rattle.homology_cert.specs.Inner.Ranks.{degree_cmp, HasRanks, AreCounted, AreRows}
+use Rattle.homology_cert.specs.Inner.Ranks.{key_of, HasRanks, AreCounted, AreRows}
 use Rattle.homology_cert.proofs.Homology.DegreeLemmas.{small-degrees}
 use Rattle.homology_cert.proofs.Homology.TableLemmas.{AreLeft, done-none, done-next, rows-homology_table, rows-small, rows-homology}
 use Rattle.hat_division.proofs.WordLemmas.{IfSome-value}
@@ -32,7 +33,8 @@ count_cells-requires-clause-fresh c =
     let fits : SFits w32 c.in-Some.a.now = search rules in
     let left : AreLeft c.args.g.now (c.in-Some.a.now ∷ c.next.new.self) c.loop-a.ranks =
     subst (λ left. AreLeft c.args.g.now left c.loop-a.ranks) c.in-Some.ensures.steps c.loop-a.invariant in
-    λ m. subst (λ (a : ℤ). tree.get degree_cmp c.loop-a.ranks (a, m) ≡ None) (sym (to_z-of_z w32 c.in-Some.a.now fits))
+    λ m. subst (λ (a : ℤ). tree.get bidegree_cmp c.loop-a.ranks (key_of (m, a)) ≡ None)
+    (sym (to_z-of_z w32 c.in-Some.a.now fits))
     (left.1.fresh c.in-Some.a.now m (member_head c.in-Some.a.now c.next.new.self))
 
 pub count_cells-requires-clause-positive : goal.count_cells-requires-clause-positive
