@@ -3,6 +3,7 @@
 use Rattle.std.proofs.Common.{◌≡◌, ◌↔◌, ℕ, ◌<◌, pos, ◌+ℤ◌, List, sym, ap, subst, ◌∙◌, arith, inl, inr}
 use Rattle.std.proofs.Math.Path.{subst₂}
 use Rattle.std.proofs.lemmas.Bool.{cases_lt, false_from_ne_true, false≢true}
+use Rattle.f2_algebra.specs.Bigraded.{up_m}
 use Rattle.f2_algebra.specs.Chain.{Chain as Codes, holds, single as one_code}
 use Rattle.f2_algebra.specs.Chain as over_codes
 use Rattle.state_rank.specs.Bijection.{IsBijection}
@@ -10,7 +11,7 @@ use Rattle.state_rank.specs.States.{is_before, rank, unrank, factorial}
 use Rattle.state_rank.proofs.RankLemmas.{rank-below, rank-unrank, unrank-rank, rank_order, is_before-unrank, IsBijection-unrank}
 use Rattle.torus_geom.specs.Inner.CodeBorder as code_border
 use Rattle.torus_geom.specs.Inner.CodeBorder.{border_of_state}
-use Rattle.torus_geom.specs.Degrees.{maslov_o, alexander}
+use Rattle.torus_geom.specs.Degrees.{maslov_o, alexander, bidegree}
 use Rattle.torus_geom.specs.Marks.{Marks, IsGrid, size}
 use Rattle.rectangles.proofs.Square.BorderLemmas.{border-below, border_of_state-below}
 use Rattle.legendrian_class.specs.Inner.CodeVerdicts as verdicts
@@ -23,7 +24,7 @@ use Rattle.torus_geom.specs.Codes.{states_of}
 use Rattle.torus_geom.specs.Inner.CodeBorder.{codes_of}
 use Rattle.legendrian_class.specs.VerdictCodes.{HasVerdictRanks, verdict_of}
 use Rattle.legendrian_class.specs.Verdicts.Verdict.{NotCycle, Null, Alive}
-use Rattle.legendrian_class.specs.Verdicts.{Verdict, IsOneAbove, HaveOneDegree, IsBorderOf, Bounds, IsNotCycle, IsNull, IsAlive, IsVerdict, HasVerdict, HasOneVerdict}
+use Rattle.legendrian_class.specs.Verdicts.{Verdict, IsBorderOf, Bounds, IsNotCycle, IsNull, IsAlive, IsVerdict, HasVerdict, HasOneVerdict}
 use Rattle.torus_geom.proofs.Chains.CodesLemmas.{AreRanks, by_ranks, ranks_from_All, All_from_ranks, states_of-unrank, in_states_of, IsChain-states_of, AreRanks-codes_of, states_of-codes_of, states_of-single, AreRanks-single, states_of_one_to_one, states_of-nothing, nothing_from_states_of, pairs_oddly-states_of}
 use Rattle.rectangles.proofs.Homology.BorderLaws.{border-border}
 use Rattle.torus_geom.proofs.Chains.ReachedLemmas.{states_of-border_of_state, states_of-border, IsChain-border}
@@ -66,19 +67,16 @@ IsNotCycle-codes g z s below l v =
 -- ---- null
 -- the degrees of states are those of their ranks
 above_states : (g : Marks) (x y : List ℕ) → IsBijection (size g) x → IsBijection (size g) y
-    → verdicts.IsOneAbove g (rank x) (rank y) → IsOneAbove g x y
-above_states g x y sx sy up = record {
-  maslov = ap (maslov_o g) (sym (unrank-rank (size g) x sx)) ∙ up.maslov
-      ∙ ap (λ w. maslov_o g w +ℤ pos 1) (unrank-rank (size g) y sy);
-  alexander = ap (alexander g) (sym (unrank-rank (size g) x sx)) ∙ up.alexander
-      ∙ ap (alexander g) (unrank-rank (size g) y sy);
-}
+    → verdicts.IsOneAbove g (rank x) (rank y) → bidegree g x ≡ up_m (bidegree g y)
+above_states g x y sx sy up =
+    ap (bidegree g) (sym (unrank-rank (size g) x sx)) ∙ (λ i. (up.maslov i, up.alexander i))
+    ∙ ap (λ w. up_m (bidegree g w)) (unrank-rank (size g) y sy)
 
-above_codes : (g : Marks) (s : ℕ) (y : List ℕ) → IsBijection (size g) y → IsOneAbove g (unrank (size g) s) y
-    → verdicts.IsOneAbove g s (rank y)
+above_codes : (g : Marks) (s : ℕ) (y : List ℕ) → IsBijection (size g) y
+    → bidegree g (unrank (size g) s) ≡ up_m (bidegree g y) → verdicts.IsOneAbove g s (rank y)
 above_codes g s y sy up = record {
-  maslov = up.maslov ∙ ap (λ w. maslov_o g w +ℤ pos 1) (sym (unrank-rank (size g) y sy));
-  alexander = up.alexander ∙ ap (alexander g) (sym (unrank-rank (size g) y sy));
+  maslov = ap (λ d. d.0) up ∙ ap (λ w. maslov_o g w +ℤ pos 1) (sym (unrank-rank (size g) y sy));
+  alexander = ap (λ d. d.1) up ∙ ap (alexander g) (sym (unrank-rank (size g) y sy));
 }
 
 pub IsBorderOf-states : (g : Marks) (b z : Codes) → verdicts.IsBorderOf g b z
@@ -150,13 +148,10 @@ even-state g f x sx =
     ∙ pairs_oddly-states_of (size g) (border_of_state g x) f (border_of_state-below g x)
 
 degree_states : (g : Marks) (x y : List ℕ) → IsBijection (size g) x → IsBijection (size g) y
-    → verdicts.HaveOneDegree g (rank x) (rank y) → HaveOneDegree g x y
-degree_states g x y sx sy one = record {
-  maslov = ap (maslov_o g) (sym (unrank-rank (size g) x sx)) ∙ one.maslov
-      ∙ ap (maslov_o g) (unrank-rank (size g) y sy);
-  alexander = ap (alexander g) (sym (unrank-rank (size g) x sx)) ∙ one.alexander
-      ∙ ap (alexander g) (unrank-rank (size g) y sy);
-}
+    → verdicts.HaveOneDegree g (rank x) (rank y) → bidegree g x ≡ bidegree g y
+degree_states g x y sx sy one =
+    ap (bidegree g) (sym (unrank-rank (size g) x sx)) ∙ (λ i. (one.maslov i, one.alexander i))
+    ∙ ap (bidegree g) (unrank-rank (size g) y sy)
 
 pub IsAlive-states : (g : Marks) (z f : Codes) → AreRanks (size g) z → verdicts.IsAlive g z f
     → IsAlive g (states_of (size g) z) (states_of (size g) f)
@@ -198,8 +193,8 @@ IsAlive-codes g z f below below_f alive =
         rank y,
         held,
         λ s h. let d = one (unrank n s) (states_of-unrank n f s (below_f s h) ∙ h) in record {
-          maslov = d.maslov ∙ ap (maslov_o g) (sym (unrank-rank n y sy));
-          alexander = d.alexander ∙ ap (alexander g) (sym (unrank-rank n y sy));
+          maslov = ap (λ p. p.0) d ∙ ap (maslov_o g) (sym (unrank-rank n y sy));
+          alexander = ap (λ p. p.1) d ∙ ap (alexander g) (sym (unrank-rank n y sy));
         },
       );
     }

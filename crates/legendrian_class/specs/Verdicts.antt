@@ -3,8 +3,6 @@
 -- of the link vanish there (Ozsváth, Szabó and Thurston, "Legendrian knots, transverse knots and combinatorial knot
 -- Floer homology"; Ng, Ozsváth and Thurston, "Transverse knots distinguished by knot Floer homology"; Ozsváth, Stipsicz
 -- and Szabó, "Grid Homology for Knots and Links", chapter 12). A cochain is a chain of states too.
---     IsOneAbove g x y       x is one Maslov degree above y, in one Alexander degree
---     HaveOneDegree g x y    x and y have one Maslov degree, and one Alexander degree
 --     IsBorderOf g b z       z is the border of the chain b of states
 --     Bounds g z             z is the border of some chain
 --     IsNotCycle g z x       z is no cycle: x is the least state of its border, in lexicographic order
@@ -16,21 +14,14 @@
 --     IsVerdict g z v        v is a verdict of z
 --     HasVerdict g z         z has a verdict, with some evidence
 --     HasOneVerdict g z      z has no two of the three; if it bounds anything, it is neither alive nor no cycle
-use Rattle.std.specs.Prelude.{◌≡◌, ℕ, pos, ◌+ℤ◌, true, false, List}
+use Rattle.std.specs.Prelude.{◌≡◌, ℕ, true, false, List}
+use Rattle.f2_algebra.specs.Bigraded.{up_m}
 use Rattle.state_rank.specs.Bijection.{IsBijection}
 use Rattle.state_rank.specs.States.{is_before}
 use Rattle.torus_geom.specs.Marks.{Marks, size}
-use Rattle.torus_geom.specs.Degrees.{maslov_o, alexander}
+use Rattle.torus_geom.specs.Degrees.{bidegree}
 use Rattle.torus_geom.specs.Chains.{Chain, IsChain, nothing, single, pairs_oddly}
 use Rattle.torus_geom.specs.Border.{border}
-
-pub record IsOneAbove (g : Marks) (x y : List ℕ) : Type 0 where
-  pub maslov : maslov_o g x ≡ maslov_o g y +ℤ pos 1
-  pub alexander : alexander g x ≡ alexander g y
-
-pub record HaveOneDegree (g : Marks) (x y : List ℕ) : Type 0 where
-  pub maslov : maslov_o g x ≡ maslov_o g y
-  pub alexander : alexander g x ≡ alexander g y
 
 pub record IsBorderOf (g : Marks) (b z : Chain) : Type 0 where
   pub states : IsChain (size g) b
@@ -45,14 +36,14 @@ pub record IsNotCycle (g : Marks) (z : Chain) (x : List ℕ) : Type 0 where
 
 pub record IsNull (g : Marks) (z b : Chain) : Type 0 where
   pub bounds : IsBorderOf g b z
-  pub degrees : (x : List ℕ) → b x ≡ true → (y : List ℕ) × (z y ≡ true) × IsOneAbove g x y
+  pub degrees : (x : List ℕ) → b x ≡ true → (y : List ℕ) × (z y ≡ true) × (bidegree g x ≡ up_m (bidegree g y))
 
 pub record IsAlive (g : Marks) (z f : Chain) : Type 0 where
   pub states : IsChain (size g) f
   pub cycle : border g z ≡ nothing
   pub even : (x : List ℕ) → IsBijection (size g) x → pairs_oddly (size g) (border g (single x)) f ≡ false
   pub odd : pairs_oddly (size g) z f ≡ true
-  pub degrees : (y : List ℕ) × (z y ≡ true) × ((x : List ℕ) → f x ≡ true → HaveOneDegree g x y)
+  pub degrees : (y : List ℕ) × (z y ≡ true) × ((x : List ℕ) → f x ≡ true → bidegree g x ≡ bidegree g y)
 
 pub data Verdict : Type 0 where
   NotCycle : List ℕ → Verdict
