@@ -27,12 +27,9 @@
 --     has_mark_in_rows g d low high    column d has a mark in the rows from low up to high
 --     crossing_row g c corner          w: for `Over` the first row of R met on the way up from L, for `Under` the last
 --                                      row of L met on the way up from R
---     is_on_circle c r                 the left or the right of r is circle c
 --     has_row n r w                    row w is in r
 --     is_unmarked_beside g c r         no column of r other than c - 1 and c has a mark in a row of r
---     is_right_unmarked_below g c w r  column c has no mark from the low row of r up to w: r meets no row of R there
---     is_left_unmarked_above g c w r   column c - 1 has no mark above w below the high row of r: it meets no row of L
---     is_pentagonal g c w r            all five: r has the crossing in row w as its fifth corner, and is unmarked
+--     is_pentagonal g c w r            r has the crossing in row w as its fifth corner, and is unmarked
 --     is_pentagon g c w x y r          r is a pentagon from the state x to the state y, of the crossing in row w
 --     column_image g c corner z        the states y for which the number of pairs of a state x in z and a pentagon from
 --                                      x to y is odd
@@ -64,36 +61,27 @@ last_met n i j k = if nat_lt (offset n i j) (offset n i k) then k else j
 abbrev pub crossing_row : Marks → ℕ → Corner → ℕ
 crossing_row g c Over =
     first_met (size g) (slice_index g.o (one_down (size g) c)) (slice_index g.o c) (slice_index g.x c)
-crossing_row g c Under =
-    last_met (size g) (slice_index g.o c) (slice_index g.o (one_down (size g) c))
-    (slice_index g.x (one_down (size g) c))
+crossing_row g c Under = last_met
+    (size g) (slice_index g.o c) (slice_index g.o (one_down (size g) c)) (slice_index g.x (one_down (size g) c))
 
 abbrev pub has_mark_in_rows : Marks → ℕ → ℕ → ℕ → Bool
-has_mark_in_rows g d low high =
-    in_range (size g) low high (slice_index g.o d) || in_range (size g) low high (slice_index g.x d)
-
-abbrev pub is_on_circle : ℕ → Rect → Bool
-is_on_circle c r = r.left == c || r.right == c
+has_mark_in_rows g d a b = in_range (size g) a b (slice_index g.o d) || in_range (size g) a b (slice_index g.x d)
 
 abbrev pub has_row : ℕ → Rect → ℕ → Bool
 has_row n r w = in_range n r.low r.high w
 
 abbrev pub is_unmarked_beside : Marks → ℕ → Rect → Bool
-is_unmarked_beside g c r =
-    all_below (size g) (λ d. (d == one_down (size g) c || d == c)
+is_unmarked_beside g c r = all_below (size g) (λ d. (d == one_down (size g) c || d == c)
     || not (in_range (size g) r.left r.right d && has_mark_in_rows g d r.low r.high))
 
--- a range from a row up to itself is empty
-abbrev pub is_right_unmarked_below : Marks → ℕ → ℕ → Rect → Bool
-is_right_unmarked_below g c w r = not (has_mark_in_rows g c r.low w)
-
-abbrev pub is_left_unmarked_above : Marks → ℕ → ℕ → Rect → Bool
-is_left_unmarked_above g c w r = not (has_mark_in_rows g (one_down (size g) c) (one_up (size g) w) r.high)
+-- the left or the right of r is circle c; r has row w; no other column has a mark in r; column c has none from the low
+-- row of r up to w, so r meets no row of R there; column c - 1 has none above w below the high row, so r meets no row
+-- of L there (a range from a row up to itself is empty)
 
 abbrev pub is_pentagonal : Marks → ℕ → ℕ → Rect → Bool
-is_pentagonal g c w r =
-    is_on_circle c r && (has_row (size g) r w && (is_unmarked_beside g c r
-    && (is_right_unmarked_below g c w r && is_left_unmarked_above g c w r)))
+is_pentagonal g c w r = (r.left == c || r.right == c) && (has_row (size g) r w && (is_unmarked_beside g c r
+    && (not (has_mark_in_rows g c r.low w)
+    && not (has_mark_in_rows g (one_down (size g) c) (one_up (size g) w) r.high))))
 
 abbrev pub is_pentagon : Marks → ℕ → ℕ → List ℕ → List ℕ → Rect → Bool
 is_pentagon g c w x y r = leads r x y && (is_empty x r && is_pentagonal g c w r)
@@ -103,5 +91,4 @@ column_image g c corner z = reached (size g) (is_pentagon g c (crossing_row g c 
 
 abbrev pub image : Axis → Marks → ℕ → Corner → Chain → Chain
 image Cols g c corner z = column_image g c corner z
-image Rows g c corner z =
-    transposed_chain (size g) (column_image (transposed g) c corner (transposed_chain (size g) z))
+image Rows g c v z = transposed_chain (size g) (column_image (transposed g) c v (transposed_chain (size g) z))

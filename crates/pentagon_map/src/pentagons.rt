@@ -6,7 +6,7 @@ ghost use Rattle.torus_geom.specs.Range.{one_up as one_up_of, one_down as one_do
 ghost use Rattle.torus_geom.specs.Marks.{size, IsGrid};
 ghost use Rattle.torus_geom.specs.Range.{offset as offset_of, in_range as in_range_of};
 ghost use Rattle.torus_geom.specs.Rectangle.{IsProper};
-ghost use Rattle.pentagon_map.specs.Pentagon.{crossing_row as crossing_row_of, has_mark_in_rows as has_mark_in_rows_of, is_on_circle, has_row, is_right_unmarked_below, is_left_unmarked_above, is_unmarked_beside as is_unmarked_beside_of, is_pentagonal as is_pentagonal_of};
+ghost use Rattle.pentagon_map.specs.Pentagon.{crossing_row as crossing_row_of, has_mark_in_rows as has_mark_in_rows_of, has_row, is_unmarked_beside as is_unmarked_beside_of, is_pentagonal as is_pentagonal_of};
 ghost use Rattle.pentagon_map.specs.Inner.Exchanges.{is_pentagon_at as is_pentagon_at_of, is_odd_circle};
 
 use crate::Corner;
@@ -107,9 +107,10 @@ fn crosses(g: &Grid, c: u8, w: u8, r: &Rect) -> bool
     requires c_below { c < size g.now }
     requires w_below { w < size g.now }
     requires proper { IsProper (size g.now) r.now }
-    ensures { result ≡ (is_on_circle c r.now
+    ensures { result ≡ ((r.now.left == c || r.now.right == c)
         && (has_row (size g.now) r.now w
-        && (is_right_unmarked_below g.now c w r.now && is_left_unmarked_above g.now c w r.now))) }
+        && (not (has_mark_in_rows_of g.now c r.now.low w)
+        && not (has_mark_in_rows_of g.now (one_down_of (size g.now) c) (one_up_of (size g.now) w) r.now.high)))) }
 {
     let n = g.size();
     (r.left == c || r.right == c)
