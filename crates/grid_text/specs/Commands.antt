@@ -93,8 +93,7 @@ command_words c = (command_row c).0 ∷ map argument_word (command_row c).1
 
 -- the states of a chain may stand in any order; all other words stand as in the table
 abbrev pub IsLineOf : List Word → Command → Type 0
-IsLineOf words (command.Chain z) =
-    (xs : List (List ℕ)) × IsPermutation xs z × (words ≡ command_words (command.Chain xs))
+IsLineOf ws (command.Chain z) = (xs : List (List ℕ)) × IsPermutation xs z × (ws ≡ command_words (command.Chain xs))
 IsLineOf words c = words ≡ command_words c
 
 -- ---- what commands ask and make

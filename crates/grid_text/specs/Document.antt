@@ -11,7 +11,6 @@
 --     Leads p words q        a line with these words is allowed at the place p and leads to q: a blank line to p
 --                            itself, another by its form
 --     Path p lines q         these lines, in order, lead from p to q
---     AreLinesOf lines s     lines with these words are a document of the script s
 --     IsDocument text s      the text is a document of the script s
 --     IsHeadLine lines line  the line of this number, counted from 1, is the first of the head: the lines before it
 --                            are blank, and it leads on from the head
@@ -57,22 +56,15 @@ abbrev pub below_row : ℕ → List ℕ → List ℕ → Place
 below_row n o x = if length o == n then body_of (grid_of_rows o x) else picture n o x
 
 abbrev pub LeadsOn : Place → List Word → Place → Type 0
-LeadsOn head words q =
-    (n : ℕ) × IsSize n
-    × (((words ≡ grid_word ∷ decimal n ∷ []) × (q ≡ o_line n))
+LeadsOn head words q = (n : ℕ) × IsSize n × (((words ≡ grid_word ∷ decimal n ∷ []) × (q ≡ o_line n))
     ⊎ ((words ≡ picture_word ∷ decimal n ∷ []) × (q ≡ picture n [] [])))
-LeadsOn (o_line n) words q =
-    (o : List ℕ) × IsBijection n o × (words ≡ o_word ∷ map decimal o) × (q ≡ x_line n o)
-LeadsOn (x_line n o) words q =
-    (x : List ℕ) × IsBijection n x × ((c : ℕ) → c < n → slice_index o c ≢ slice_index x c)
+LeadsOn (o_line n) words q = (o : List ℕ) × IsBijection n o × (words ≡ o_word ∷ map decimal o) × (q ≡ x_line n o)
+LeadsOn (x_line n o) words q = (x : List ℕ) × IsBijection n x × ((c : ℕ) → c < n → slice_index o c ≢ slice_index x c)
     × (words ≡ x_word ∷ map decimal x) × (q ≡ body_of (record { o = o; x = x }))
-LeadsOn (picture n o x) words q =
-    (c : ℕ) × (d : ℕ) × FitsRow n o x c d × (symbols words ≡ row_symbols n c d)
-    × (q ≡ below_row n (c ∷ o) (d ∷ x))
-LeadsOn (body s) words q =
-    ((words ≡ end_word ∷ []) × (q ≡ ended s))
-    ⊎ ((c : Command) × IsLineOf words c × IsAllowed (grid_in_force s) c × (length s.commands < max_commands)
-    × (q ≡ body (with_command s c)))
+LeadsOn (picture n o x) words q = (c : ℕ) × (d : ℕ) × FitsRow n o x c d
+    × (symbols words ≡ row_symbols n c d) × (q ≡ below_row n (c ∷ o) (d ∷ x))
+LeadsOn (body s) words q = ((words ≡ end_word ∷ []) × (q ≡ ended s)) ⊎ ((c : Command) × IsLineOf words c
+    × IsAllowed (grid_in_force s) c × (length s.commands < max_commands) × (q ≡ body (with_command s c)))
 LeadsOn (ended s) words q = ⊥
 
 abbrev pub Leads : Place → List Word → Place → Type 0
@@ -82,11 +74,8 @@ abbrev pub Path : Place → List (List Word) → Place → Type 0
 Path p [] q = p ≡ q
 Path p (words ∷ lines) q = (r : Place) × Leads p words r × Path r lines q
 
-abbrev pub AreLinesOf : List (List Word) → GridScript → Type 0
-AreLinesOf lines s = Path head lines (ended s)
-
 abbrev pub IsDocument : List ℕ → GridScript → Type 0
-IsDocument text s = AreLinesOf (words_of_lines text) s
+IsDocument text s = Path head (words_of_lines text) (ended s)
 
 pub record IsHeadLine (lines : List (List Word)) (line : ℕ) : Type 0 where
   pub before : List (List Word)

@@ -3,8 +3,6 @@
 --
 -- Kinds of words, and forms of lines:
 --     Kind                what a word may be: one of some words, a number between two, a state of a size
---     is_fault_of f k     f is the fault of a word that is not of the kind
---     is_bad k word       the word is not of the kind
 --     kind_of n a         the kind of the words for an argument of a command, for a grid of size n
 --     Form                the kinds of the words after the first: exactly some, or any number of one
 --     form_of n c         the form of the lines of a command, for a grid of size n
@@ -13,7 +11,6 @@
 --     size_form           the form of the first line of the head: one number, the size
 --     row_form n          the form of the lines O and X of a grid of size n
 --     symbol_words        the symbols of a row of a picture, each as a word
---     picture_form n      the form of a row of a picture of size n: its symbols are n of these words
 --     form_among rows word   the form of the first of these words that the word is
 --     form_at p word      the form of a line at the place p that begins with the word, if one may
 --     form_of_line p words   the same of a line with these words
@@ -79,17 +76,6 @@ pub data Kind : Type 0 where
   number_between : (low high : ℕ) → Kind
   state_of_size : (n : ℕ) → Kind
 
-abbrev pub is_fault_of : TextFault → Kind → Bool
-is_fault_of fault.BadChoice (choice_of words) = true
-is_fault_of fault.BadNumber (number_between low high) = true
-is_fault_of fault.BadState (state_of_size n) = true
-is_fault_of f kind = false
-
-abbrev pub is_bad : Kind → Word → Bool
-is_bad (choice_of words) word = not (list_any (λ w. is_word w word) words)
-is_bad (number_between low high) word = is_none (numeral low high word)
-is_bad (state_of_size n) word = is_none (state_of n word)
-
 abbrev pub kind_of : ℕ → Argument → Kind
 kind_of n (sign v) = choice_of (map sign_word signs)
 kind_of n (side v) = choice_of (map side_word sides)
@@ -125,9 +111,6 @@ row_form n = exactly (replicate n (number_between 0 (n - 1)))
 abbrev pub symbol_words : List Word
 symbol_words = (empty_symbol ∷ []) ∷ o_word ∷ x_word ∷ []
 
-abbrev pub picture_form : ℕ → Form
-picture_form n = exactly (replicate n (choice_of symbol_words))
-
 abbrev pub form_among : List (Word × Form) → Word → Option Form
 form_among [] word = None
 form_among (row ∷ rows) word = if is_word row.0 word then Some row.1 else form_among rows word
@@ -136,7 +119,7 @@ abbrev pub form_at : Place → Word → Option Form
 form_at head word = form_among ((grid_word, size_form) ∷ (picture_word, size_form) ∷ []) word
 form_at (o_line n) word = form_among ((o_word, row_form n) ∷ []) word
 form_at (x_line n o) word = form_among ((x_word, row_form n) ∷ []) word
-form_at (picture n o x) word = Some (picture_form n)
+form_at (picture n o x) word = Some (exactly (replicate n (choice_of symbol_words)))
 form_at (body s) word = form_among (body_forms (size (grid_in_force s))) word
 form_at (ended s) word = None
 
@@ -151,7 +134,10 @@ is_bad_count (exactly kinds) arguments = not (length kinds == length arguments)
 is_bad_count (any_number_of kind) arguments = false
 
 abbrev pub is_bad_by : TextFault → Kind → Word → Bool
-is_bad_by f kind word = is_fault_of f kind && is_bad kind word
+is_bad_by fault.BadChoice (choice_of words) word = not (list_any (λ w. is_word w word) words)
+is_bad_by fault.BadNumber (number_between low high) word = is_none (numeral low high word)
+is_bad_by fault.BadState (state_of_size n) word = is_none (state_of n word)
+is_bad_by f kind word = false
 
 abbrev pub has_bad : TextFault → Form → List Word → Bool
 has_bad f (exactly kinds) arguments = list_any (λ (a : Kind × Word). is_bad_by f a.0 a.1) (zip kinds arguments)
@@ -170,9 +156,8 @@ stands_in columns word arguments = list_any (λ c. is_word word (slice_index_or 
 abbrev pub is_not_permutation : Place → List Word → Bool
 is_not_permutation (o_line n) arguments = has_repeated arguments
 is_not_permutation (x_line n o) arguments = has_repeated arguments
-is_not_permutation (picture n o x) arguments =
-    not (stands_once o_word arguments) || not (stands_once x_word arguments) || stands_in o o_word arguments
-    || stands_in x x_word arguments
+is_not_permutation (picture n o x) arguments = not (stands_once o_word arguments)
+    || not (stands_once x_word arguments) || stands_in o o_word arguments || stands_in x x_word arguments
 is_not_permutation p arguments = false
 
 abbrev pub has_same_square : Place → List Word → Bool
@@ -187,9 +172,8 @@ abbrev pub fails_to_commute : Axis → Marks → Word → Bool
 fails_to_commute axis g word = option_map_or (λ c. not (are_commuting axis g c)) (numeral 0 (size g - 1) word) false
 
 abbrev pub is_not_commuting : Place → List Word → Bool
-is_not_commuting (body s) (axis ∷ c ∷ choice ∷ []) =
-    (is_word (axis_word Cols) axis && fails_to_commute Cols (grid_in_force s) c)
-    || (is_word (axis_word Rows) axis && fails_to_commute Rows (grid_in_force s) c)
+is_not_commuting (body s) (v ∷ c ∷ w ∷ []) = (is_word (axis_word Cols) v && fails_to_commute Cols (grid_in_force s) c)
+    || (is_word (axis_word Rows) v && fails_to_commute Rows (grid_in_force s) c)
 is_not_commuting p words = false
 
 abbrev pub is_one_too_many : Place → List Word → Bool
@@ -208,20 +192,16 @@ arguments_at p words = drop 1 words
 
 abbrev pub rows_of_form : Place → Form → List Word → List Word → List (TextFault × Bool)
 rows_of_form p form arguments words =
-    (fault.BadCount, is_bad_count form arguments)
-    ∷ (fault.BadChoice, has_bad fault.BadChoice form arguments)
+    (fault.BadCount, is_bad_count form arguments) ∷ (fault.BadChoice, has_bad fault.BadChoice form arguments)
     ∷ (fault.BadNumber, has_bad fault.BadNumber form arguments)
-    ∷ (fault.NotPermutation, is_not_permutation p arguments)
-    ∷ (fault.SameSquare, has_same_square p arguments)
+    ∷ (fault.NotPermutation, is_not_permutation p arguments) ∷ (fault.SameSquare, has_same_square p arguments)
     ∷ (fault.BadState, has_bad fault.BadState form arguments)
-    ∷ (fault.RepeatedState, has_repeated_state form arguments)
-    ∷ (fault.NotCommuting, is_not_commuting p words)
+    ∷ (fault.RepeatedState, has_repeated_state form arguments) ∷ (fault.NotCommuting, is_not_commuting p words)
     ∷ (fault.TooMany, is_one_too_many p words) ∷ []
 
 abbrev pub table : Place → List Word → List (TextFault × Bool)
 table p words =
-    (fault.AfterEnd, is_after_end p)
-    ∷ (fault.BadWord, is_none (form_of_line p words))
+    (fault.AfterEnd, is_after_end p) ∷ (fault.BadWord, is_none (form_of_line p words))
     ∷ option_map_or (λ form. rows_of_form p form (arguments_at p words) words) (form_of_line p words) []
 
 abbrev pub first_passed : List (TextFault × Bool) → Option TextFault

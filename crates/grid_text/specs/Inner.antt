@@ -2,3 +2,4 @@ pub mod Stored
 pub mod Pictures
 pub mod Reading
 pub mod Next
+pub mod Kinds

@@ -20,8 +20,7 @@ abbrev pub empty_symbol : ℕ
 empty_symbol = 46
 
 abbrev pub row_symbols : ℕ → ℕ → ℕ → List ℕ
-row_symbols n c d =
-    tabulate n (λ i. if i == c then o_symbol else (if i == d then x_symbol else empty_symbol))
+row_symbols n c d = tabulate n (λ i. if i == c then o_symbol else (if i == d then x_symbol else empty_symbol))
 
 pub record FitsRow (n : ℕ) (o x : List ℕ) (c d : ℕ) : Type 0 where
   pub o_within : c < n

@@ -26,8 +26,7 @@ abbrev pub command_line : Command → List ℕ
 command_line c = line_of (command_words c)
 
 abbrev pub head_lines : Marks → List ℕ
-head_lines g =
-    line_of (grid_word ∷ decimal (size g) ∷ []) ++ line_of (o_word ∷ map decimal g.o)
+head_lines g = line_of (grid_word ∷ decimal (size g) ∷ []) ++ line_of (o_word ∷ map decimal g.o)
     ++ line_of (x_word ∷ map decimal g.x)
 
 unfoldable pub plain_form : GridScript → List ℕ

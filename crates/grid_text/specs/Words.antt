@@ -3,8 +3,6 @@
 --     parts is_end bytes     the bytes up to each byte that ends a part, and where bytes follow the last such
 --                            byte, these as one more part
 --     before_parts b parts   the parts, with the byte before the first
---     is_line_feed b         the byte is 10
---     is_space b             the byte is a space or a tab, 32 or 9
 --     is_filled bytes        there are some
 --     without_return bytes   the bytes, without a carriage return, 13, at their end
 --     lines_of text          its lines: each is ended by a line feed, but the last may be ended by the text; one
@@ -28,12 +26,6 @@ use Rattle.state_rank.specs.States.{states, state_word}
 abbrev pub Word : Type 0
 Word = List ℕ
 
-abbrev pub is_line_feed : ℕ → Bool
-is_line_feed = is_one_of (codes "\n")
-
-abbrev pub is_space : ℕ → Bool
-is_space = is_one_of (codes " \t")
-
 abbrev pub before_parts : ℕ → List (List ℕ) → List (List ℕ)
 before_parts b [] = (b ∷ []) ∷ []
 before_parts b (part ∷ parts) = (b ∷ part) ∷ parts
@@ -52,10 +44,10 @@ without_return (b ∷ []) = if b == 13 then [] else b ∷ []
 without_return (b ∷ c ∷ bytes) = b ∷ without_return (c ∷ bytes)
 
 abbrev pub lines_of : List ℕ → List (List ℕ)
-lines_of text = map without_return (parts is_line_feed text)
+lines_of text = map without_return (parts (is_one_of (codes "\n")) text)
 
 abbrev pub words_of : List ℕ → List Word
-words_of line = filter is_filled (parts is_space line)
+words_of line = filter is_filled (parts (is_one_of (codes " \t")) line)
 
 abbrev pub words_of_lines : List ℕ → List (List Word)
 words_of_lines text = map words_of (lines_of text)

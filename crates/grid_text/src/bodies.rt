@@ -6,7 +6,8 @@ ghost use Rattle.state_rank.specs.Bijection.{IsSize, IsBijection};
 ghost use Rattle.grid_text.specs.Commands.{axis_word};
 ghost use Rattle.grid_text.specs.Words.{state_of};
 ghost use Rattle.grid_text.specs.Script.{GridScript};
-ghost use Rattle.grid_text.specs.Faults.{state_of_size, is_bad};
+ghost use Rattle.grid_text.specs.Faults.{state_of_size};
+ghost use Rattle.grid_text.specs.Inner.Kinds.{is_bad};
 ghost use Rattle.grid_text.specs.Inner.Reading.{IsRead, keyword_word, stands_alone};
 ghost use Rattle.grid_text.specs.declared.keywords.Keyword.TheVariants as keyword;
 

@@ -5,7 +5,8 @@ ghost use Rattle.state_rank.specs.Bijection.{IsSize};
 ghost use Rattle.grid_text.specs.Words.{Word, symbols as symbols_of_words, is_word, is_blank};
 ghost use Rattle.grid_text.specs.Picture.{row_symbols, FitsRow};
 ghost use Rattle.grid_text.specs.Document.{picture as picture_at};
-ghost use Rattle.grid_text.specs.Faults.{choice_of, is_bad, symbol_words, stands_once, fault_in_table};
+ghost use Rattle.grid_text.specs.Faults.{choice_of, symbol_words, stands_once, fault_in_table};
+ghost use Rattle.grid_text.specs.Inner.Kinds.{is_bad};
 ghost use Rattle.grid_text.specs.Inner.Pictures.{IsOnly, row_words};
 
 use crate::faults::TextFault;

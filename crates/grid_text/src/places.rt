@@ -6,7 +6,8 @@ ghost use Rattle.state_rank.specs.Bijection.{IsSize, IsBijection};
 ghost use Rattle.grid_text.specs.Words.{Word, is_blank};
 ghost use Rattle.grid_text.specs.Picture.{FitsRow};
 ghost use Rattle.grid_text.specs.Document.{Place as PlaceOf, head, o_line, x_line, picture as picture_at, body, below_row as below};
-ghost use Rattle.grid_text.specs.Faults.{form_at, size_form, fault_in_table, number_between, is_bad};
+ghost use Rattle.grid_text.specs.Faults.{form_at, size_form, fault_in_table, number_between};
+ghost use Rattle.grid_text.specs.Inner.Kinds.{is_bad};
 ghost use Rattle.grid_text.specs.Inner.Reading.{IsPlace, IsRowPlace, AreNumerals};
 ghost use Rattle.grid_text.specs.Inner.Next.{place_of, IsNextOn};
 

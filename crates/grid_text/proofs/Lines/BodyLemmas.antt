@@ -23,7 +23,8 @@ use Rattle.grid_text.specs.States.{AreStates, AreAscending}
 use Rattle.grid_text.specs.Commands.{sign_word, signs, side_word, sides, corner_word, corners, axis_word, IsLineOf, IsAllowed, IsStateOf}
 use Rattle.grid_text.specs.Script.{GridScript, IsScript, grid_in_force}
 use Rattle.grid_text.specs.Document.{body}
-use Rattle.grid_text.specs.Faults.{Form, exactly, any_number_of, choice_of, number_between, state_of_size, is_bad, is_bad_by, is_bad_count, has_bad, form_at, has_repeated, fails_to_commute, is_not_commuting, fault_in_table}
+use Rattle.grid_text.specs.Faults.{Form, exactly, any_number_of, choice_of, number_between, state_of_size, is_bad_by, is_bad_count, has_bad, form_at, has_repeated, fails_to_commute, is_not_commuting, fault_in_table}
+use Rattle.grid_text.specs.Inner.Kinds.{is_bad}
 use Rattle.grid_text.specs.Inner.Reading.{example, keyword_word, keyword_form, stands_alone, IsReadLine, IsRead}
 use Rattle.grid_text.specs.declared.commands.Sign.{Sign}
 use Rattle.grid_moves.specs.declared.turns.Side.{Side}

@@ -26,7 +26,8 @@ use Rattle.grid_text.specs.Words.{Word, is_comment, is_blank, is_word}
 use Rattle.grid_text.specs.Commands.{sign_word, side_word, corner_word, axis_word, state, argument_word, command_row, command_words, IsLineOf, IsAllowed, IsStateOf}
 use Rattle.grid_text.specs.Script.{GridScript, IsScript, grid_in_force}
 use Rattle.grid_text.specs.Document.{body, end_word}
-use Rattle.grid_text.specs.Faults.{Form, exactly, any_number_of, state_of_size, kind_of, is_bad, is_bad_by, form_at, has_repeated, fails_to_commute, is_not_commuting, fault_in_table}
+use Rattle.grid_text.specs.Faults.{Form, exactly, any_number_of, state_of_size, kind_of, is_bad_by, form_at, has_repeated, fails_to_commute, is_not_commuting, fault_in_table}
+use Rattle.grid_text.specs.Inner.Kinds.{is_bad}
 use Rattle.grid_text.specs.declared.commands.Sign.{Sign}
 use Rattle.grid_text.specs.declared.commands.Sign.TheVariants.{Plus, Minus}
 use Rattle.grid_text.specs.declared.commands.Command.{Command}

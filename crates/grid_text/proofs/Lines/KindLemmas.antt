@@ -16,10 +16,12 @@ use Rattle.pentagon_map.specs.declared.Corner.{Corner}
 use Rattle.pentagon_map.specs.declared.Corner.TheVariants.{Over, Under}
 use Rattle.grid_text.specs.Words.{Word, is_word, numeral, state_of}
 use Rattle.grid_text.specs.Commands.{sign_word, signs, side_word, sides, corner_word, corners, Argument, sign, side, corner, number, state, argument_word}
-use Rattle.grid_text.specs.Faults.{Kind, choice_of, number_between, state_of_size, is_fault_of, is_bad, kind_of, is_bad_by, has_bad, exactly, is_bad_count}
+use Rattle.grid_text.specs.Faults.{Kind, choice_of, number_between, state_of_size, kind_of, is_bad_by, has_bad, exactly, is_bad_count}
+use Rattle.grid_text.specs.Inner.Kinds.{is_bad}
 use Rattle.grid_text.specs.declared.commands.Sign.{Sign}
 use Rattle.grid_text.specs.declared.commands.Sign.TheVariants.{Plus, Minus}
 use Rattle.grid_text.specs.declared.faults.TextFault.{TextFault}
+use Rattle.grid_text.specs.declared.faults.TextFault.TheVariants as fault
 use Rattle.grid_text.proofs.Lines.WordLemmas.{same_word, found, numeral-decimal, numeral-found, state_of-state_word, state_of-found}
 
 -- ---- the number of words
@@ -57,6 +59,13 @@ two_words (v ∷ w ∷ u ∷ words) e = absurd (omega arith)
 pub list_any-never : {A : Type 0} (p : A → Bool) (xs : List A) → ((x : A) → p x ≡ false) → list_any p xs ≡ false
 list_any-never p [] never = refl
 list_any-never p (x ∷ xs) never = ap (λ b. b || list_any p xs) (never x) ∙ list_any-never p xs never
+
+-- a word of the kind has none of the faults of a word that is not
+is_bad_by-good : (f : TextFault) (kind : Kind) (w : Word) → is_bad kind w ≡ false → is_bad_by f kind w ≡ false
+is_bad_by-good fault.BadChoice (choice_of words) w good = good
+is_bad_by-good fault.BadNumber (number_between low high) w good = good
+is_bad_by-good fault.BadState (state_of_size n) w good = good
+is_bad_by-good f kind w good = refl
 
 -- ---- choices
 
@@ -163,9 +172,7 @@ module _ (n : ℕ) (fits : n < 2 ^ 64) where
       → has_bad f (exactly (map (kind_of n) arguments)) (map argument_word arguments) ≡ false
   arguments-good f [] h = refl
   arguments-good f (a ∷ arguments) h =
-      let here : is_bad_by f (kind_of n a) (argument_word a) ≡ false =
-      ap (λ b. is_fault_of f (kind_of n a) && b) (argument-good a h.0)
-      ∙ and-false (is_fault_of f (kind_of n a)) in
+      let here = is_bad_by-good f (kind_of n a) (argument_word a) (argument-good a h.0) in
       ap (λ b. b || list_any (λ (p : Kind × Word). is_bad_by f p.0 p.1)
       (zip (map (kind_of n) arguments) (map argument_word arguments))) here
       ∙ arguments-good f arguments h.1

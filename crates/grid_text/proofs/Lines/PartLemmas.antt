@@ -1,11 +1,15 @@
 -- The parts of a list of bytes. The first part ends at the first byte that ends one (`parts-found`), or is all bytes
 -- (`parts-none`); the reader takes one part at a time, and a part without bytes is no word. A carriage return is
 -- dropped where it is the last byte.
-use Rattle.std.proofs.Common.{◌≡◌, ◌≢◌, ℕ, suc, ◌<◌, Bool, true, false, cond, List, [], ◌∷◌, ◌++◌, length, length-append, ap, ◌∙◌, sym, arith}
+use Rattle.std.proofs.Common.{◌≡◌, ◌≢◌, ℕ, suc, ◌<◌, Bool, true, false, cond, List, [], ◌∷◌, ◌++◌, length, length-append, codes, ap, ◌∙◌, sym, arith}
 use Rattle.std.specs.List.{filter, All}
 use Rattle.std.proofs.lemmas.Bool.{eq-eqb, ne_eqb}
 use Rattle.text_lines.specs.Parts.{is_one_of, HasNone, IsFirstPart}
-use Rattle.grid_text.specs.Words.{parts, before_parts, is_space, is_filled, words_of, without_return}
+use Rattle.grid_text.specs.Words.{parts, before_parts, is_filled, words_of, without_return}
+
+-- the byte is a space or a tab, 32 or 9
+abbrev pub is_space : ℕ → Bool
+is_space = is_one_of (codes " \t")
 
 module _ (is_end : ℕ → Bool) where
   -- one byte more of the first part

@@ -22,7 +22,8 @@ use Rattle.grid_text.specs.Words.{Word, numeral}
 use Rattle.grid_text.specs.Commands.{sign_word, signs, side_word, sides, corner_word, corners, axis_word, IsLineOf, IsAllowed, IsStateOf}
 use Rattle.grid_text.specs.Script.{GridScript, IsScript, grid_in_force}
 use Rattle.grid_text.specs.Document.{body, end_word}
-use Rattle.grid_text.specs.Faults.{exactly, choice_of, number_between, state_of_size, is_bad, is_bad_count, has_bad, has_repeated, fails_to_commute, is_not_commuting, is_one_too_many, fault_in_table}
+use Rattle.grid_text.specs.Faults.{exactly, choice_of, number_between, state_of_size, is_bad_count, has_bad, has_repeated, fails_to_commute, is_not_commuting, is_one_too_many, fault_in_table}
+use Rattle.grid_text.specs.Inner.Kinds.{is_bad}
 use Rattle.grid_text.specs.Inner.Reading.{example, keyword_word, keyword_form}
 use Rattle.grid_text.specs.declared.keywords.Keyword.{Keyword}
 use Rattle.grid_text.specs.declared.keywords.Keyword.TheVariants as keyword

@@ -9,7 +9,8 @@ use Rattle.std.proofs.Math.Bool.{or-false}
 use Rattle.state_rank.specs.Bijection.{IsSize}
 use Rattle.grid_text.specs.Words.{Word, is_word, numeral}
 use Rattle.grid_text.specs.Document.{head, grid_word, picture_word}
-use Rattle.grid_text.specs.Faults.{number_between, is_bad, size_form, form_at, has_bad, fault_in_table}
+use Rattle.grid_text.specs.Faults.{number_between, size_form, form_at, has_bad, fault_in_table}
+use Rattle.grid_text.specs.Inner.Kinds.{is_bad}
 use Rattle.grid_text.specs.declared.faults.TextFault.TheVariants as fault
 use Rattle.grid_text.proofs.Lines.WordLemmas.{same_word, is_word-other}
 use Rattle.grid_text.proofs.Lines.KindLemmas.{count-other, count-exact, one_word, number_of_word, number-good}

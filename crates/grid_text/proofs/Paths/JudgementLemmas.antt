@@ -9,7 +9,7 @@ use Rattle.std.proofs.lemmas.List.{append-nil, append_assoc}
 use Rattle.grid_text.specs.Picture.{grid_of_rows}
 use Rattle.grid_text.specs.Words.{Word, is_blank, lines_of, words_of, words_of_lines}
 use Rattle.grid_text.specs.Script.{GridScript}
-use Rattle.grid_text.specs.Document.{Place, head, o_line, x_line, picture, body, ended, body_of, below_row, LeadsOn, Leads, Path, AreLinesOf, IsDocument, IsHeadLine}
+use Rattle.grid_text.specs.Document.{Place, head, o_line, x_line, picture, body, ended, body_of, below_row, LeadsOn, Leads, Path, IsDocument, IsHeadLine}
 use Rattle.grid_text.specs.Faults.{line_fault, is_after_end, IsFirstFault}
 use Rattle.grid_text.specs.Inner.Reading.{IsPlace}
 use Rattle.grid_text.specs.Inner.Next.{place_of, is_head, IsNextOn, IsNext}
@@ -216,7 +216,7 @@ ended_script s (picture n o x) = s
 ended_script s (body t) = s
 
 -- no lines are those of two scripts
-pub one_script_of_lines : (lines : List (List Word)) (s t : GridScript) → AreLinesOf lines s → AreLinesOf lines t
+pub one_script_of_lines : (lines : List (List Word)) (s t : GridScript) → Path head lines (ended s) → Path head lines (ended t)
     → s ≡ t
 unfolding ended_script
 one_script_of_lines lines s t d e = ap (ended_script s) (one_end head (ended s) (ended t) lines tt d e)
@@ -236,7 +236,7 @@ Path-rest p q r (words ∷ before) after h path whole =
 
 -- lines with a first fault are no document, in either way
 no_document_of_ways : (lines : List (List Word)) (f : TextFault) (line : ℕ) (s : GridScript)
-    → HaveFault lines f line ⊎ (HaveNoEnd lines line × (f ≡ fault.NoEnd)) → AreLinesOf lines s → ⊥
+    → HaveFault lines f line ⊎ (HaveNoEnd lines line × (f ≡ fault.NoEnd)) → Path head lines (ended s) → ⊥
 no_document_of_ways lines f line s (inl first) d =
     let path = Path-rest head first.place (ended s) first.before (first.words ∷ first.after) tt first.path
     (subst (λ ls. Path head ls (ended s)) first.split d) in

@@ -15,7 +15,8 @@ use Rattle.state_rank.proofs.OrderLemmas.{length-tabulate, get_or-tabulate}
 use Rattle.grid_text.specs.Words.{Word, is_word}
 use Rattle.grid_text.specs.Picture.{row_symbols, FitsRow, o_symbol, x_symbol, empty_symbol}
 use Rattle.grid_text.specs.Document.{below_row, o_word, x_word}
-use Rattle.grid_text.specs.Faults.{choice_of, is_bad, symbol_words, stands_once}
+use Rattle.grid_text.specs.Faults.{choice_of, symbol_words, stands_once}
+use Rattle.grid_text.specs.Inner.Kinds.{is_bad}
 use Rattle.grid_text.specs.Inner.Pictures.{IsOnly, row_words}
 use Rattle.grid_text.proofs.Lines.WordLemmas.{same_word}
 use Rattle.grid_text.proofs.States.RepeatedLemmas.{list_any-none, none-list_any}

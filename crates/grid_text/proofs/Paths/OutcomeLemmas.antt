@@ -6,7 +6,7 @@ use Rattle.std.proofs.Common.{◌≡◌, ◌⊎◌, ℕ, suc, ◌+◌, false, Li
 use Rattle.std.proofs.lemmas.List.{append-nil, append_assoc}
 use Rattle.grid_text.specs.Words.{Word, words_of_lines}
 use Rattle.grid_text.specs.Script.{GridScript}
-use Rattle.grid_text.specs.Document.{Place, head, o_line, x_line, picture, body, ended, Leads, Path, AreLinesOf, IsDocument}
+use Rattle.grid_text.specs.Document.{Place, head, o_line, x_line, picture, body, ended, Leads, Path, IsDocument}
 use Rattle.grid_text.specs.Faults.{line_fault, is_after_end, HaveFirstFault, IsFirstFault}
 use Rattle.grid_text.specs.Inner.Reading.{IsPlace}
 use Rattle.grid_text.specs.declared.faults.TextFault.{TextFault}
@@ -18,7 +18,7 @@ use Rattle.grid_text.proofs.Paths.JudgementLemmas.{Path-more, Path-rest, head_of
 -- lines are those of a script, or have a first fault
 abbrev pub Outcome : List (List Word) → Type 0
 Outcome lines =
-    ((s : GridScript) × AreLinesOf lines s) ⊎ ((f : TextFault) × (line : ℕ) × HaveFirstFault lines f line)
+    ((s : GridScript) × Path head lines (ended s)) ⊎ ((f : TextFault) × (line : ℕ) × HaveFirstFault lines f line)
 
 -- all lines are allowed, and `end` was not met
 no_end : (lines : List (List Word)) (p : Place) → Path head lines p → is_after_end p ≡ false → Outcome lines

@@ -15,7 +15,8 @@ use Rattle.torus_geom.proofs.TransposeLemmas.{IsGrid-transposed}
 use Rattle.grid_text.specs.Words.{Word, symbols, is_word, is_blank}
 use Rattle.grid_text.specs.Picture.{row_symbols, FitsRow, o_symbol, x_symbol, grid_of_rows}
 use Rattle.grid_text.specs.Document.{Place, picture, body_of, below_row, LeadsOn, o_word, x_word}
-use Rattle.grid_text.specs.Faults.{choice_of, is_bad, is_bad_by, is_bad_count, has_bad, symbol_words, picture_form, form_of_line, stands_once, stands_in, is_not_permutation, fault_in_table}
+use Rattle.grid_text.specs.Faults.{Form, exactly, choice_of, is_bad_by, is_bad_count, has_bad, symbol_words, form_of_line, stands_once, stands_in, is_not_permutation, fault_in_table}
+use Rattle.grid_text.specs.Inner.Kinds.{is_bad}
 use Rattle.grid_text.specs.Inner.Pictures.{AreColumns, IsPartOfPicture, IsOnly, row_words}
 use Rattle.grid_text.specs.Inner.Reading.{IsPlace}
 use Rattle.grid_text.specs.declared.faults.TextFault.TheVariants as fault
@@ -108,6 +109,10 @@ IsPlace-below_row n o x small h few = elim (cases_eq (length o) n) [
 ]
 
 -- ---- the faults of a row
+
+-- the form of a row of a picture of size n: its symbols are n of these words
+abbrev picture_form : ℕ → Form
+picture_form n = exactly (replicate n (choice_of symbol_words))
 
 -- each first word may stand there
 row-known : (n : ℕ) (o x : List ℕ) (words : List Word) → is_blank words ≡ false

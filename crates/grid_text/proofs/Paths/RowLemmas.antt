@@ -16,7 +16,8 @@ use Rattle.torus_geom.specs.declared.grids.GridFault.{GridFault}
 use Rattle.torus_geom.specs.declared.grids.GridFault.TheVariants.{NotPermutation, SameSquare}
 use Rattle.std.proofs.lemmas.Fmt.{decimal_injective}
 use Rattle.grid_text.specs.Document.{Place, o_line, x_line, o_word, x_word}
-use Rattle.grid_text.specs.Faults.{Kind, Form, number_between, is_bad, is_bad_by, form_at, form_among, row_form, is_after_end, is_not_commuting, has_same_square, has_repeated, is_bad_count, has_bad, fault_in_table}
+use Rattle.grid_text.specs.Faults.{Kind, Form, number_between, is_bad_by, form_at, form_among, row_form, is_after_end, is_not_commuting, has_same_square, has_repeated, is_bad_count, has_bad, fault_in_table}
+use Rattle.grid_text.specs.Inner.Kinds.{is_bad}
 use Rattle.grid_text.specs.Inner.Reading.{IsRowPlace, AreNumerals}
 use Rattle.grid_text.specs.declared.faults.TextFault.TheVariants as fault
 use Rattle.grid_text.proofs.Lines.WordLemmas.{is_word-same, same_word, is_word-other}

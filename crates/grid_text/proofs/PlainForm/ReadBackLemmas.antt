@@ -1,7 +1,8 @@
 -- The plain form is read back. Words that are written have no byte that ends a line or a word (`IsPlainWord`), so that
 -- the lines and words of the text are those that were written (`lines-plain`); and each line is allowed where it
 -- stands, from the head over the commands to `end` (`commands-path`).
-use Rattle.std.proofs.Common.{◌≡◌, ℕ, ◌+◌, ◌/◌, ◌%◌, ◌<◌, ◌≤◌, true, cond, false, List, [], ◌∷◌, ◌++◌, length, map, codes, refl, ap, subst, ◌∙◌, sym, arith, inl, inr, append_assoc, length-append}
+use Rattle.text_lines.specs.Parts.{is_one_of}
+use Rattle.std.proofs.Common.{◌≡◌, ℕ, Bool, ◌+◌, ◌/◌, ◌%◌, ◌<◌, ◌≤◌, true, cond, false, List, [], ◌∷◌, ◌++◌, length, map, codes, refl, ap, subst, ◌∙◌, sym, arith, inl, inr, append_assoc, length-append}
 use Rattle.std.specs.Prelude.{nat_le, ◌==◌, ◌||◌}
 use Rattle.std.specs.List.{filter, flat_map}
 use Rattle.std.proofs.lemmas.List.Sorted.{IsPermutation-refl}
@@ -14,7 +15,7 @@ use Rattle.std.specs.List.{Contains}
 use Rattle.torus_geom.specs.Marks.{Marks, size}
 use Rattle.grid_moves.specs.declared.turns.Side.{Side}
 use Rattle.grid_moves.specs.declared.turns.Side.TheVariants.{Left, Right, Up, Down}
-use Rattle.grid_text.specs.Words.{Word, parts, before_parts, is_line_feed, is_space, is_filled, without_return, lines_of, words_of}
+use Rattle.grid_text.specs.Words.{Word, parts, before_parts, is_filled, without_return, lines_of, words_of}
 use Rattle.grid_text.specs.PlainForm.{after_space, line_of, command_line, plain_form}
 use Rattle.pentagon_map.specs.declared.Corner.{Corner}
 use Rattle.pentagon_map.specs.declared.Corner.TheVariants.{Over, Under}
@@ -25,7 +26,7 @@ use Rattle.grid_text.specs.declared.commands.Command.TheVariants as command
 use Rattle.grid_text.specs.Limits.{max_commands}
 use Rattle.grid_text.specs.Script.{GridScript, IsScript, AreAllowed, grid_after_all}
 use Rattle.grid_text.specs.Document.{head, o_line, x_line, body, ended, end_word, Path, IsDocument, grid_word, o_word, x_word}
-use Rattle.grid_text.proofs.Lines.PartLemmas.{parts-byte}
+use Rattle.grid_text.proofs.Lines.PartLemmas.{is_space, parts-byte}
 use Rattle.grid_text.proofs.Lines.KindLemmas.{IsGood, AreGood}
 use Rattle.grid_text.proofs.Lines.CommandLemmas.{arguments-allowed}
 use Rattle.grid_text.proofs.Lines.ScriptLemmas.{IsGridOf-grid_in_force, IsScript-with_command, IsScript-no_command, grid_after_all-push}
@@ -76,6 +77,10 @@ without_return-line : (l : List ℕ) → IsOneLine l → without_return l ≡ l
 without_return-line [] h = refl
 without_return-line (b ∷ []) h = ap (λ t. cond t [] (b ∷ [])) (byte-other b 13 (omega (arith, h.0)))
 without_return-line (b ∷ c ∷ l) h = ap (λ r. b ∷ r) (without_return-line (c ∷ l) h.1)
+
+-- the byte is a line feed, 10
+abbrev is_line_feed : ℕ → Bool
+is_line_feed = is_one_of (codes "\n")
 
 -- the first line of a text
 parts-line : (l rest : List ℕ) → IsOneLine l

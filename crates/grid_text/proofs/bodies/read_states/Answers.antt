@@ -1,6 +1,7 @@
 use Rattle.std.proofs.Common.{sym, ◌∙◌, ap}
 use Rattle.std.specs.Prelude.{is_none}
-use Rattle.grid_text.specs.Faults.{state_of_size, is_bad}
+use Rattle.grid_text.specs.Faults.{state_of_size}
+use Rattle.grid_text.specs.Inner.Kinds.{is_bad}
 use Rattle.grid_text.proofs.Lines.SeenLemmas.{seen-any}
 use Rattle.grid_text.proofs.Lines.BodyLemmas.{states_of-more}
 use Rattle.grid_text.proofs.bodies.read_states.Goals as goal

@@ -1,6 +1,7 @@
 use Rattle.std.proofs.Common.{◌-◌, ap, arith}
 use Rattle.std.specs.Prelude.{is_none}
-use Rattle.grid_text.specs.Faults.{number_between, is_bad}
+use Rattle.grid_text.specs.Faults.{number_between}
+use Rattle.grid_text.specs.Inner.Kinds.{is_bad}
 use Rattle.grid_text.proofs.Lines.SeenLemmas.{seen-any}
 use Rattle.grid_text.proofs.Lines.WordLemmas.{numeral-at}
 use Rattle.grid_text.proofs.Paths.RowLemmas.{AreNumerals-all}
