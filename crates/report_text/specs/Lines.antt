@@ -21,21 +21,18 @@ use Rattle.grid_text.specs.Commands.{sign_word}
 use Rattle.grid_text.specs.declared.commands.Sign.{Sign}
 
 abbrev pub front_line : ℤ → ℤ → ℕ → List ℕ
-front_line tb rot components = line
-    (codes "front tb " ++ signed_decimal tb ++ codes " rot " ++ signed_decimal rot
+front_line tb rot components = line (codes "front tb " ++ signed_decimal tb ++ codes " rot " ++ signed_decimal rot
     ++ codes " components " ++ decimal components)
 
 abbrev pub verdict_word : Bool → List ℕ
 verdict_word alive = if alive then codes "alive" else codes "null"
 
 abbrev pub class_line : Sign → List ℕ → ℤ → ℤ → Bool → List ℕ
-class_line sign x m a alive = line
-    (codes "class " ++ sign_word sign ++ 32 ∷ state_word x ++ codes " at " ++ signed_decimal m ++ 32 ∷ signed_decimal a
-    ++ 32 ∷ verdict_word alive)
+class_line sign x m a alive = line (codes "class " ++ sign_word sign ++ 32 ∷ state_word x
+    ++ codes " at " ++ signed_decimal m ++ 32 ∷ signed_decimal a ++ 32 ∷ verdict_word alive)
 
 abbrev pub row_line : TableRow → List ℕ
-row_line row = line
-    (codes "rank " ++ signed_decimal row.m ++ 32 ∷ signed_decimal row.a ++ 32 ∷ decimal row.rank)
+row_line row = line (codes "rank " ++ signed_decimal row.m ++ 32 ∷ signed_decimal row.a ++ 32 ∷ decimal row.rank)
 
 abbrev pub table_lines : List TableRow → List ℕ
 table_lines rows = line (codes "ranks " ++ decimal (length rows)) ++ flat_map row_line rows

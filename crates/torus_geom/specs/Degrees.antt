@@ -41,8 +41,7 @@ lower_left_pairs n p q = sum_below n (λ d. count_below n (λ c. is_lower_left (
 unfoldable pub maslov : ℕ → List ℕ → List ℕ → ℤ
 maslov n o x =
     lower_left_pairs n (point x) (point x) -ℤ lower_left_pairs n (point x) (mark o)
-    -ℤ lower_left_pairs n (mark o) (point x)
-    +ℤ lower_left_pairs n (mark o) (mark o) +ℤ pos 1
+    -ℤ lower_left_pairs n (mark o) (point x) +ℤ lower_left_pairs n (mark o) (mark o) +ℤ pos 1
 
 abbrev pub maslov_o : Marks → List ℕ → ℤ
 maslov_o g x = maslov (size g) g.o x

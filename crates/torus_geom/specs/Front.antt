@@ -47,8 +47,7 @@ abbrev pub is_left : Marks → ℕ → ℕ → Bool
 is_left g c r = nat_lt (x_column g r) c && nat_lt c (o_column g r)
 
 abbrev pub sign : Marks → ℕ → ℕ → ℤ
-sign g c r =
-    if (is_up g c r && is_right g c r) || (is_down g c r && is_left g c r) then neg_ℤ (pos 1)
+sign g c r = if (is_up g c r && is_right g c r) || (is_down g c r && is_left g c r) then neg_ℤ (pos 1)
     else (if (is_up g c r && is_left g c r) || (is_down g c r && is_right g c r) then pos 1 else pos 0)
 
 unfoldable pub writhe : Marks → ℤ
@@ -79,8 +78,7 @@ thurston_bennequin g = pos 0 -ℤ writhe g -ℤ north_east g
 
 -- NE at X + SW at O - NE at O - SW at X, which is even
 abbrev pub doubled_rotation : Marks → ℤ
-doubled_rotation g =
-    count_below (size g) (is_north_east_x g) +ℤ count_below (size g) (is_south_west_o g)
+doubled_rotation g = count_below (size g) (is_north_east_x g) +ℤ count_below (size g) (is_south_west_o g)
     -ℤ count_below (size g) (is_north_east_o g) -ℤ count_below (size g) (is_south_west_x g)
 
 unfoldable pub rotation : Marks → ℤ

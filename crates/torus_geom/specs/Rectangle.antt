@@ -31,17 +31,14 @@ abbrev pub is_same : List ℕ → List ℕ → Bool
 is_same x y = (length x == length y) && all_below (length x) (λ c. slice_index x c == slice_index y c)
 
 abbrev pub leads : Rect → List ℕ → List ℕ → Bool
-leads r x y =
-    (slice_index x r.left == r.low) && ((slice_index x r.right == r.high) && is_same (swap x r.left r.right) y)
+leads r x y = slice_index x r.left == r.low && (slice_index x r.right == r.high && is_same (swap x r.left r.right) y)
 
 abbrev pub is_empty : List ℕ → Rect → Bool
-is_empty x r =
-    all_below (length x) (λ c. not (is_inside (length x) r.left r.right c
+is_empty x r = all_below (length x) (λ c. not (is_inside (length x) r.left r.right c
     && is_inside (length x) r.low r.high (slice_index x c)))
 
 abbrev pub is_unmarked : Marks → Rect → Bool
-is_unmarked g r =
-    all_below (size g) (λ c. not (in_range (size g) r.left r.right c
+is_unmarked g r = all_below (size g) (λ c. not (in_range (size g) r.left r.right c
     && (in_range (size g) r.low r.high (slice_index g.o c) || in_range (size g) r.low r.high (slice_index g.x c))))
 
 -- the ordered pairs of different numbers below n
@@ -49,6 +46,5 @@ abbrev pub pairs_apart : ℕ → List (ℕ × ℕ)
 pairs_apart n = flat_map (λ a. map (λ b. (a, b)) (filter (λ b. not (a == b)) (ascending n))) (ascending n)
 
 abbrev pub rectangles : ℕ → List Rect
-rectangles n =
-    flat_map (λ (c : ℕ × ℕ). map (λ (r : ℕ × ℕ). record { left = c.0; right = c.1; low = r.0; high = r.1 })
+rectangles n = flat_map (λ (c : ℕ × ℕ). map (λ (r : ℕ × ℕ). record { left = c.0; right = c.1; low = r.0; high = r.1 })
     (pairs_apart n)) (pairs_apart n)
