@@ -10,7 +10,6 @@
 --     count_passes c cell        there are states of the bidegree of the cell, as many as its cycle pairs, its step pairs
 --                                and the step pairs of the cell one Maslov degree above together
 --     is_cocycle g f             f pairs evenly with the border of every state
---     is_empty_chain g z         z has no state of g
 --     none_missing c             each state has a cell of its bidegree
 --
 -- Tests, each with whether it is passed; an entry is the list of its tests:
@@ -66,56 +65,45 @@ steps_at [] d = []
 steps_at (c ∷ cells) d = if same_degree c.at d then c.steps else steps_at cells d
 
 abbrev pub count_passes : Certificate → Cell → Bool
-count_passes c cell =
-    not (state_count_at c.grid cell.at == 0)
-    && (state_count_at c.grid cell.at == length cell.cycles + length cell.steps
-    + length (steps_at c.cells (up_m cell.at)))
+count_passes c cell = not (state_count_at c.grid cell.at == 0) && (state_count_at c.grid cell.at
+    == length cell.cycles + length cell.steps + length (steps_at c.cells (up_m cell.at)))
 
 abbrev pub is_cocycle : Marks → Chain → Bool
 is_cocycle g f = list_all (λ x. not (pairs_oddly (size g) (border g (single x)) f)) (states (size g))
-
-abbrev pub is_empty_chain : Marks → Chain → Bool
-is_empty_chain g z = length (members (size g) z) == 0
 
 -- a cocycle pairs oddly with its own cycle, and evenly with the cycle of every other pair of the cell
 abbrev pub cycle_pair_tests : Marks → ℤ × ℤ → CyclePair → List CyclePair → List (CertTest × Bool)
 cycle_pair_tests g d p others =
     (Degree, all_have g d p.cycle && all_have g d p.cocycle)
-    ∷ (Cycle, is_empty_chain g (border g p.cycle))
-    ∷ (Cocycle, is_cocycle g p.cocycle)
+    ∷ (Cycle, length (members (size g) (border g p.cycle)) == 0) ∷ (Cocycle, is_cocycle g p.cocycle)
     ∷ (Pairing, pairs_oddly (size g) p.cycle p.cocycle && list_all (λ (q : CyclePair). not (pairs_oddly (size g) q.cycle p.cocycle)) others)
     ∷ []
 
 abbrev pub cycle_entries : Marks → ℤ × ℤ → List CyclePair → List CyclePair → List (List (CertTest × Bool))
 cycle_entries g d earlier [] = []
-cycle_entries g d earlier (p ∷ later) =
-    cycle_pair_tests g d p (earlier ++ later) ∷ cycle_entries g d (earlier ++ p ∷ []) later
+cycle_entries g d past (p ∷ later) = cycle_pair_tests g d p (past ++ later) ∷ cycle_entries g d (past ++ p ∷ []) later
 
 -- a step is of the bidegree of the cell, and its probe one Maslov degree below; a probe pairs oddly with the border of
 -- its own step, and evenly with that of each later step of the cell
 abbrev pub step_pair_tests : Marks → ℤ × ℤ → StepPair → List StepPair → List (CertTest × Bool)
 step_pair_tests g d p later =
-    (Degree, all_have g d p.step && all_have g (one_below d) p.probe)
-    ∷ (
+    (Degree, all_have g d p.step && all_have g (one_below d) p.probe) ∷ (
       Probe,
       pairs_oddly (size g) (border g p.step) p.probe
           && list_all (λ (q : StepPair). not (pairs_oddly (size g) (border g q.step) p.probe)) later,
-    )
-    ∷ []
+    ) ∷ []
 
 abbrev pub step_entries : Marks → ℤ × ℤ → List StepPair → List (List (CertTest × Bool))
 step_entries g d [] = []
 step_entries g d (p ∷ later) = step_pair_tests g d p later ∷ step_entries g d later
 
 abbrev pub cell_entries : Certificate → Cell → List (List (CertTest × Bool))
-cell_entries c cell =
-    ((Count, count_passes c cell) ∷ [])
+cell_entries c cell = ((Count, count_passes c cell) ∷ [])
     ∷ cycle_entries c.grid cell.at [] cell.cycles ++ step_entries c.grid cell.at cell.steps
 
 -- each degree of a state has a cell
 abbrev pub none_missing : Certificate → Bool
-none_missing c =
-    list_all (λ x. list_any (λ (cell : Cell). has_bidegree c.grid cell.at x) c.cells) (states (size c.grid))
+none_missing c = list_all (λ x. list_any (λ (p : Cell). has_bidegree c.grid p.at x) c.cells) (states (size c.grid))
 
 unfoldable pub entries : Certificate → List (List (CertTest × Bool))
 entries c = flat_map (cell_entries c) c.cells ++ ((Missing, none_missing c) ∷ []) ∷ []

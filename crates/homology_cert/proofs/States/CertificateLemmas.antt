@@ -30,7 +30,7 @@ use Rattle.torus_geom.specs.Chains.{pairs_oddly, single}
 use Rattle.torus_geom.specs.Border.{border}
 use Rattle.torus_geom.specs.Codes.{states_of}
 use Rattle.homology_cert.specs.Certificates.{CyclePair, StepPair, Cell, entry_count}
-use Rattle.homology_cert.specs.CertificateTests.{has_bidegree, all_have, state_count_at, steps_at, count_passes, is_empty_chain, is_cocycle, cycle_pair_tests, cycle_entries, step_pair_tests, step_entries, cell_entries, none_missing, entries, verdict_of, certified_rows}
+use Rattle.homology_cert.specs.CertificateTests.{has_bidegree, all_have, state_count_at, steps_at, count_passes, is_cocycle, cycle_pair_tests, cycle_entries, step_pair_tests, step_entries, cell_entries, none_missing, entries, verdict_of, certified_rows}
 use Rattle.homology_cert.specs.CertificateCodes.{cycle_pair_of, step_pair_of, cell_of, certificate_of}
 use Rattle.torus_geom.proofs.Chains.CodesLemmas.{AreRanks, pairs_oddly-states_of, ranks_from_All}
 use Rattle.torus_geom.proofs.Chains.ReachedLemmas.{states_of-border, states_of-border_of_state, AreRanks-border_of_state}
@@ -56,6 +56,10 @@ even-state : (g : Marks) (f : Codes) (x : List ℕ) → IsBijection (size g) x
 even-state g f x sx =
     ap (λ w. pairs_oddly (size g) w (states_of (size g) f)) (sym (states_of-border_of_state g x sx))
     ∙ pairs_oddly-states_of (size g) (border_of_state g x) f (AreRanks-border_of_state g x)
+
+-- a chain of states is empty
+abbrev is_empty_chain : Marks → Chain → Bool
+is_empty_chain g z = eqb (length (members (size g) z)) 0
 
 module _ (g : Marks) where
   all_have-states : (d : ℤ × ℤ) (z : Codes) → AreRanks (size g) z
