@@ -5,12 +5,10 @@
 --     exchanged i s xs    the list after exchanges at the places i down to 1, each with a place at or below it that
 --                         the next number draws, from the number after s on
 --     shuffled n s        the list of 0 to n - 1 after these exchanges at all places but 0
---     columns n seed      the columns in the order in which the made grid goes through them: shuffled by the seed
---     rows n seed         the rows, shuffled by the numbers that follow
 --     IsGridThrough cs rs g    the X of the i-th of these columns is in the i-th of these rows, and so is the O of
 --                              the next column; after the last comes the first
---     made_commands       the commands of each made script
---     IsMadeScript n seed s    the script of this size and seed
+--     IsMadeScript n seed s    the script of this size and seed: its grid goes through the columns as the seed shuffles
+--                              them, and through the rows as the numbers that follow do
 use Rattle.std.specs.Prelude.{◌≡◌, ℕ, zero, suc, ◌+◌, ◌-◌, ◌*◌, ◌/◌, ◌%◌, ◌^◌, ◌<◌, List, [], ◌∷◌, length, slice_index}
 use Rattle.std.specs.List.{swap}
 use Rattle.state_rank.specs.Bijection.{ascending}
@@ -38,21 +36,12 @@ exchanged (suc i) s xs = exchanged i (next_number s) (swap xs (suc i) (draw (nex
 abbrev pub shuffled : ℕ → ℕ → List ℕ
 shuffled n s = exchanged (n - 1) s (ascending n)
 
-abbrev pub columns : ℕ → ℕ → List ℕ
-columns n seed = shuffled n seed
-
-abbrev pub rows : ℕ → ℕ → List ℕ
-rows n seed = shuffled n (number_after (n - 1) seed)
-
 pub record IsGridThrough (cs rs : List ℕ) (g : Marks) : Type 0 where
   pub o_columns : length g.o ≡ length cs
   pub x_columns : length g.x ≡ length cs
   pub x : (i : ℕ) → i < length cs → slice_index g.x (slice_index cs i) ≡ slice_index rs i
   pub o : (i : ℕ) → i < length cs → slice_index g.o (slice_index cs (one_up (length cs) i)) ≡ slice_index rs i
 
-abbrev pub made_commands : List Command
-made_commands = Front ∷ Hat ∷ Class Plus ∷ Class Minus ∷ []
-
 pub record IsMadeScript (n seed : ℕ) (s : GridScript) : Type 0 where
-  pub grid : IsGridThrough (columns n seed) (rows n seed) s.grid
-  pub commands : s.commands ≡ made_commands
+  pub grid : IsGridThrough (shuffled n seed) (shuffled n (number_after (n - 1) seed)) s.grid
+  pub commands : s.commands ≡ Front ∷ Hat ∷ Class Plus ∷ Class Minus ∷ []

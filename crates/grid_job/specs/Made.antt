@@ -1,6 +1,5 @@
 -- What `make` writes: the script of its size and its seed, and below it a line that sums up its grid.
---     TellsAlive verdict alive   the verdict of a cycle is alive, or it is null
---     HasClassVerdict g sign alive   the class of x+ or x- has such a verdict
+--     HasClassVerdict g sign alive   the class of x+ or x- is alive, or it is null
 --     summary_line tb rot total plus minus
 --                                the numbers of the front, the sum of the ranks of the table, and the verdicts of x+
 --                                and x-
@@ -9,13 +8,13 @@
 use Rattle.std.specs.Prelude.{◌≡◌, ℕ, ℤ, Bool, true, false, List, map, ◌++◌, codes}
 use Rattle.std.specs.List.{sum_by}
 use Rattle.std.specs.Fmt.{decimal, signed_decimal}
+use Rattle.torus_geom.specs.Chains.{Chain, single}
 use Rattle.torus_geom.specs.Front.{thurston_bennequin, rotation}
 use Rattle.torus_geom.specs.Homology.{IsHomologyTable}
 use Rattle.torus_geom.specs.Marks.{Marks}
 use Rattle.hat_division.specs.declared.tables.TableRow.{TableRow}
 use Rattle.homology_cert.specs.Tables.{homology_row}
-use Rattle.legendrian_class.specs.Verdicts.{Verdict, IsVerdict}
-use Rattle.legendrian_class.specs.Verdicts.Verdict.{NotCycle, Null, Alive}
+use Rattle.legendrian_class.specs.Verdicts.{IsNull, IsAlive}
 use Rattle.text_lines.specs.Lines.{line}
 use Rattle.report_text.specs.Lines.{verdict_word}
 use Rattle.grid_text.specs.declared.commands.Sign.{Sign}
@@ -23,17 +22,11 @@ use Rattle.grid_text.specs.declared.commands.Sign.TheVariants.{Plus, Minus}
 use Rattle.grid_text.specs.PlainForm.{plain_form}
 use Rattle.grid_text.specs.Script.{GridScript}
 use Rattle.grid_job.specs.Generator.{IsMadeScript}
-use Rattle.grid_job.specs.VerdictTexts.{class_chain}
+use Rattle.grid_job.specs.VerdictTexts.{class_state}
 
-abbrev pub TellsAlive : Verdict → Bool → Type 0
-TellsAlive (NotCycle s) alive = ⊥
-TellsAlive (Null b) alive = alive ≡ false
-TellsAlive (Alive f) alive = alive ≡ true
-
-pub record HasClassVerdict (g : Marks) (sign : Sign) (alive : Bool) : Type 0 where
-  pub verdict : Verdict
-  pub is_verdict : IsVerdict g (class_chain g sign) verdict
-  pub told : TellsAlive verdict alive
+abbrev pub HasClassVerdict : Marks → Sign → Bool → Type 0
+HasClassVerdict g sign true = (f : Chain) × IsAlive g (single (class_state g sign)) f
+HasClassVerdict g sign false = (b : Chain) × IsNull g (single (class_state g sign)) b
 
 abbrev pub summary_line : ℤ → ℤ → ℕ → Bool → Bool → List ℕ
 summary_line tb rot total plus minus = line

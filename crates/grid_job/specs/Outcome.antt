@@ -2,7 +2,6 @@
 -- which a call may end, and the bytes that it then has written. The clauses of the top call speak of outcomes alone.
 --     IsForm words mode             the words after the program's name ask for this mode
 --     most_read mode                the number of bytes that a call takes at most
---     left_of mode text             what is left of a text that a call went to the end of
 --     IsTooLong limit text answer   the text is longer than what is judged, and the answer is the line that says so
 --     IsFaulty text answer          the text is no document, and the answer tells its first fault
 --     IsRefusal text answer         the text is refused as a document, and the answer is the line that says so
@@ -35,7 +34,7 @@ use Rattle.grid_job.specs.Words.{IsMake}
 use Rattle.grid_job.specs.declared.modes.Mode.{Mode}
 use Rattle.grid_job.specs.declared.modes.Mode.TheVariants.{Run, Cert, Check, Make}
 use Rattle.grid_job.specs.declared.statuses.Status.{Status}
-use Rattle.grid_job.specs.declared.statuses.Status.TheVariants.{Done, Usage, Refused, ReadFault, WriteFault, NoMemory, No}
+use Rattle.grid_job.specs.declared.statuses.Status.TheVariants.{Done, Refused, No}
 
 -- `run`, `cert` and `check` alone ask for what they say, and `make` with its two options for a grid of this size and
 -- seed
@@ -47,13 +46,9 @@ IsForm words (Make size seed) = IsMake words size seed
 
 -- one byte past the most that is judged; `make` reads nothing
 abbrev pub most_read : Mode → ℕ
-most_read Run = max_text + 1
-most_read Cert = max_text + 1
-most_read Check = max_certificate + 1
 most_read (Make size seed) = 0
-
-abbrev pub left_of : Mode → List ℕ → List ℕ
-left_of mode text = drop (most_read mode) text
+most_read Check = max_certificate + 1
+most_read mode = max_text + 1
 
 pub record IsTooLong (limit : ℕ) (text answer : List ℕ) : Type 0 where
   pub long : limit < length text
@@ -91,10 +86,7 @@ abbrev pub IsEnd : Status → Type 0
 IsEnd Done = Unit {0}
 IsEnd Refused = Unit {0}
 IsEnd No = Unit {0}
-IsEnd Usage = ⊥
-IsEnd ReadFault = ⊥
-IsEnd WriteFault = ⊥
-IsEnd NoMemory = ⊥
+IsEnd status = ⊥
 
 pub record HasEnded (words : List (List ℕ)) (text : List ℕ) (status : Status) (left before after : Option (List ℕ)) :
     Type 0 where
@@ -102,7 +94,7 @@ pub record HasEnded (words : List (List ℕ)) (text : List ℕ) (status : Status
   pub form : IsForm words mode
   pub answer : List ℕ
   pub outcome : IsOutcome mode text status answer
-  pub read : left ≡ Some (left_of mode text)
+  pub read : left ≡ Some (drop (most_read mode) text)
   pub written : Appends before after answer
 
 pub record HasBegun (words : List (List ℕ)) (text : List ℕ) (before after : Option (List ℕ)) : Type 0 where

@@ -37,11 +37,9 @@ IsAnswer p command.Ranks text = IsTableText p.grid text
 IsAnswer p command.Hat text = IsHatText p.grid text
 IsAnswer p (command.Class sign) text = IsClassText p.grid sign text
 IsAnswer p (command.Border x) text = text ≡ line (chain_line (codes "border") (size p.grid) (border p.grid (single x)))
-IsAnswer p (command.Chain z) text = text ≡ []
 IsAnswer p command.Show text = text ≡ line (chain_line (codes "chain") (size p.grid) p.chain)
 IsAnswer p command.Bounds text = IsBoundsText p.grid p.chain text
-IsAnswer p (command.Turn side) text = text ≡ []
-IsAnswer p (command.Commute axis c corner) text = text ≡ []
+IsAnswer p other text = text ≡ []
 
 -- one answer to each command, in order, and nothing else
 abbrev pub AreAnswers : InForce → List Command → List ℕ → Type 0

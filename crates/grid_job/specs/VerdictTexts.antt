@@ -1,7 +1,6 @@
 -- The texts that tell what a chain of states is in the homology of a grid, with the evidence. The evidence may be any
 -- that the verdict allows.
 --     class_state g sign     the state that a sign stands for: x+ or x-
---     class_chain g sign     this state alone, as a chain
 --     verdict_line g sign alive   the line of a class that is alive, or null
 --     IsClassText g sign text     the text tells that the class is null, with a bound, or alive, with a cocycle
 --     bounds_text g v        the lines of a verdict
@@ -22,9 +21,6 @@ abbrev pub class_state : Marks → Sign → List ℕ
 class_state g Plus = plus_state g
 class_state g Minus = minus_state g
 
-abbrev pub class_chain : Marks → Sign → Chain
-class_chain g sign = single (class_state g sign)
-
 abbrev pub verdict_line : Marks → Sign → Bool → List ℕ
 verdict_line g sign alive =
     class_line sign (class_state g sign) (maslov_o g (class_state g sign)) (alexander g (class_state g sign)) alive
@@ -37,7 +33,7 @@ TellsClass g sign (Alive cocycle) text = text ≡ verdict_line g sign true ++ li
 
 pub record IsClassText (g : Marks) (sign : Sign) (text : List ℕ) : Type 0 where
   pub verdict : Verdict
-  pub is_verdict : IsVerdict g (class_chain g sign) verdict
+  pub is_verdict : IsVerdict g (single (class_state g sign)) verdict
   pub told : TellsClass g sign verdict text
 
 abbrev pub bounds_text : Marks → Verdict → List ℕ

@@ -14,7 +14,8 @@ use Rattle.torus_geom.proofs.Circles.TurnLemmas.{one_up_below, one_down_below, o
 use Rattle.grid_text.specs.Script.{GridScript, with_command}
 use Rattle.grid_text.specs.declared.commands.Command.TheVariants.{Front, Hat, Class}
 use Rattle.grid_text.specs.declared.commands.Sign.TheVariants.{Plus, Minus}
-use Rattle.grid_job.specs.Generator.{next_number, number_after, draw, exchanged, shuffled, made_commands, IsGridThrough, IsMadeScript}
+use Rattle.grid_text.specs.declared.commands.Command.{Command}
+use Rattle.grid_job.specs.Generator.{next_number, number_after, draw, exchanged, shuffled, IsGridThrough, IsMadeScript}
 
 -- ---- shuffles
 -- the exchanges at the places i down to 1 lead from this state to the shuffled list, and the numbers to the last one
@@ -223,6 +224,9 @@ put_marks cs rs places o x n k p q in_cs in_rs size same turned inverse in_o in_
     )
 
 -- ---- scripts
+-- the commands of each made script
+abbrev made_commands : List Command
+made_commands = Front ∷ Hat ∷ Class Plus ∷ Class Minus ∷ []
 pub IsMadeScript-from : (n seed number : ℕ) (cs rs : List ℕ) (g : Marks) (s : GridScript) → cs ≡ shuffled n seed
     → number ≡ number_after (n - 1) seed → rs ≡ shuffled n number
     → IsGridThrough cs rs g → s.grid ≡ g → s.commands ≡ made_commands → IsMadeScript n seed s

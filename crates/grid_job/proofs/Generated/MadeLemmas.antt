@@ -1,5 +1,5 @@
 -- What `make` writes.
-use Rattle.std.proofs.Common.{◌≡◌, ℕ, ℤ, Bool, true, false, List, ◌++◌, map, refl, ap, subst, ◌∙◌}
+use Rattle.std.proofs.Common.{◌≡◌, ℕ, ℤ, Bool, true, false, List, ◌++◌, map, refl, sym, ap, subst, ◌∙◌}
 use Rattle.std.specs.List.{sum_by}
 use Rattle.state_rank.specs.Bijection.{IsSize}
 use Rattle.torus_geom.specs.Front.{thurston_bennequin, rotation}
@@ -16,28 +16,35 @@ use Rattle.grid_text.specs.PlainForm.{plain_form}
 use Rattle.grid_text.specs.declared.commands.Sign.{Sign}
 use Rattle.grid_text.specs.declared.commands.Sign.TheVariants.{Plus, Minus}
 use Rattle.grid_job.specs.Generator.{IsMadeScript}
-use Rattle.grid_job.specs.Made.{TellsAlive, HasClassVerdict, summary_line, IsSummary, IsMade}
-use Rattle.grid_job.specs.VerdictTexts.{class_chain}
-use Rattle.grid_job.proofs.Reported.ClassLemmas.{class_is_cycle, IsChain-class_chain}
+use Rattle.grid_job.specs.Made.{HasClassVerdict, summary_line, IsSummary, IsMade}
+use Rattle.grid_job.proofs.Reported.ClassLemmas.{class_chain, class_is_cycle, IsChain-class_chain}
 use Rattle.grid_job.proofs.Reported.HatLemmas.{exists_rows}
 use Rattle.grid_job.proofs.Generated.GeneratorLemmas.{exists_script}
+
+-- the verdict of a cycle is alive, or it is null
+abbrev TellsAlive : Verdict → Bool → Type 0
+TellsAlive (NotCycle s) alive = ⊥
+TellsAlive (Null b) alive = alive ≡ false
+TellsAlive (Alive f) alive = alive ≡ true
+
+HasClassVerdict-told : (g : Marks) (sign : Sign) (v : Verdict) (alive : Bool) → IsVerdict g (class_chain g sign) v
+    → TellsAlive v alive → HasClassVerdict g sign alive
+HasClassVerdict-told g sign (NotCycle s) alive stands told = absurd told
+HasClassVerdict-told g sign (Null b) alive stands told = subst (HasClassVerdict g sign) (sym told) (b, stands)
+HasClassVerdict-told g sign (Alive f) alive stands told = subst (HasClassVerdict g sign) (sym told) (f, stands)
 
 -- a verdict of a class, told otherwise
 pub HasClassVerdict-of : (g : Marks) (sign : Sign) (z : Chain) (v w : Verdict) (alive : Bool)
     → z ≡ class_chain g sign → v ≡ w → IsVerdict g z v → TellsAlive w alive → HasClassVerdict g sign alive
 HasClassVerdict-of g sign z v w alive is_class is stands told =
-    record {
-      verdict = w;
-      is_verdict = subst (λ y. IsVerdict g y w) is_class (subst (IsVerdict g z) is stands);
-      told = told;
-    }
+    HasClassVerdict-told g sign w alive (subst (λ y. IsVerdict g y w) is_class (subst (IsVerdict g z) is stands)) told
 
 -- each class has one
 exists_alive : (g : Marks) → IsGrid g → (sign : Sign) (v : Verdict) → IsVerdict g (class_chain g sign) v
     → (alive : Bool) × HasClassVerdict g sign alive
 exists_alive g grid sign (NotCycle s) stands = absurd (class_is_cycle g grid sign s stands)
-exists_alive g grid sign (Null b) stands = (false, record { verdict = Null b; is_verdict = stands; told = refl })
-exists_alive g grid sign (Alive f) stands = (true, record { verdict = Alive f; is_verdict = stands; told = refl })
+exists_alive g grid sign (Null b) stands = (false, b, stands)
+exists_alive g grid sign (Alive f) stands = (true, f, stands)
 
 exists_class_verdict : (g : Marks) → IsGrid g → (sign : Sign) → (alive : Bool) × HasClassVerdict g sign alive
 exists_class_verdict g grid sign =

@@ -13,7 +13,7 @@ use Rattle.grid_text.specs.Script.{GridScript}
 use Rattle.grid_text.specs.declared.faults.TextFault.{TextFault}
 use Rattle.report_text.specs.Lines.{refused_line}
 use Rattle.grid_job.specs.Report.{IsReport}
-use Rattle.grid_job.specs.Outcome.{IsForm, IsTooLong, IsRefusal, IsOutcome, IsEnd, HasEnded, HasBegun, left_of}
+use Rattle.grid_job.specs.Outcome.{IsForm, IsTooLong, IsRefusal, IsOutcome, IsEnd, HasEnded, HasBegun, most_read}
 use Rattle.grid_job.specs.Made.{IsMade}
 use Rattle.grid_job.specs.Inner.Written.{HasWritten, Tells}
 use Rattle.grid_job.specs.declared.modes.Mode.{Mode}
@@ -98,7 +98,7 @@ count-up n below = grind arith
 -- where the source tells the text, a call that ended has ended so
 pub HasEnded-written : (words : List (List ℕ)) (mode : Mode) (result : Status) (left left' : Option (List ℕ)) (f g : ℕ)
     (a b : Option (List ℕ)) → IsForm words mode → IsEnd result
-    → IfSome left (λ text. left' ≡ Some (left_of mode text)) → HasWritten (Tells left (IsOutcome mode)) result f g a b
+    → IfSome left (λ text. left' ≡ Some (drop (most_read mode) text)) → HasWritten (Tells left (IsOutcome mode)) result f g a b
     → IfSome left (λ text. HasEnded words text result left' a b)
 HasEnded-written words mode result None left' f g a b form is_end read h = tt
 HasEnded-written words mode result (Some text) left' f g a b form is_end read h =
@@ -161,7 +161,7 @@ IsMade-same n seed size number answer same_size same_seed made =
 
 -- the text stays where it is
 pub left_alone : (n seed : ℕ) (left left' : Option (List ℕ)) → left' ≡ left
-    → IfSome left (λ text. left' ≡ Some (left_of (Make n seed) text))
+    → IfSome left (λ text. left' ≡ Some (drop (most_read (Make n seed)) text))
 left_alone n seed None left' same = tt
 left_alone n seed (Some text) left' same = same
 

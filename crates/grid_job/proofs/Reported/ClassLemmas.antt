@@ -19,9 +19,13 @@ use Rattle.grid_text.specs.declared.commands.Sign.TheVariants.{Plus, Minus}
 use Rattle.legendrian_class.specs.Verdicts.{IsNotCycle, IsVerdict, Verdict}
 use Rattle.legendrian_class.specs.Verdicts.Verdict.{NotCycle, Null, Alive}
 use Rattle.legendrian_class.proofs.StateVerdicts.{HasVerdict-states}
-use Rattle.grid_job.specs.VerdictTexts.{class_state, class_chain, IsClassText, bounds_text, IsBoundsText}
+use Rattle.grid_job.specs.VerdictTexts.{class_state, IsClassText, bounds_text, IsBoundsText}
 
 -- ---- x+ and x-
+-- the state that a sign stands for alone, as a chain
+abbrev pub class_chain : Marks → Sign → Chain
+class_chain g sign = single (class_state g sign)
+
 pub class_state-state : (g : Marks) → IsGrid g → (sign : Sign) → IsBijection (size g) (class_state g sign)
 class_state-state g grid Plus = plus_state-state g grid
 class_state-state g grid Minus = grid.x
