@@ -15,7 +15,6 @@ use Rattle.state_rank.specs.Bijection.{ascending}
 use Rattle.torus_geom.specs.Marks.{Marks}
 use Rattle.torus_geom.specs.Range.{one_up}
 use Rattle.grid_text.specs.Script.{GridScript}
-use Rattle.grid_text.specs.declared.commands.Command.{Command}
 use Rattle.grid_text.specs.declared.commands.Command.TheVariants.{Front, Hat, Class}
 use Rattle.grid_text.specs.declared.commands.Sign.TheVariants.{Plus, Minus}
 

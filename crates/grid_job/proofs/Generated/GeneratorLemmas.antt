@@ -227,6 +227,7 @@ put_marks cs rs places o x n k p q in_cs in_rs size same turned inverse in_o in_
 -- the commands of each made script
 abbrev made_commands : List Command
 made_commands = Front ∷ Hat ∷ Class Plus ∷ Class Minus ∷ []
+
 pub IsMadeScript-from : (n seed number : ℕ) (cs rs : List ℕ) (g : Marks) (s : GridScript) → cs ≡ shuffled n seed
     → number ≡ number_after (n - 1) seed → rs ≡ shuffled n number
     → IsGridThrough cs rs g → s.grid ≡ g → s.commands ≡ made_commands → IsMadeScript n seed s

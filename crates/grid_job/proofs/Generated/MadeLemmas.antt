@@ -43,8 +43,8 @@ HasClassVerdict-of g sign z v w alive is_class is stands told =
 exists_alive : (g : Marks) → IsGrid g → (sign : Sign) (v : Verdict) → IsVerdict g (class_chain g sign) v
     → (alive : Bool) × HasClassVerdict g sign alive
 exists_alive g grid sign (NotCycle s) stands = absurd (class_is_cycle g grid sign s stands)
-exists_alive g grid sign (Null b) stands = (false, b, stands)
-exists_alive g grid sign (Alive f) stands = (true, f, stands)
+exists_alive g grid sign (Null b) stands = (false, (b, stands))
+exists_alive g grid sign (Alive f) stands = (true, (f, stands))
 
 exists_class_verdict : (g : Marks) → IsGrid g → (sign : Sign) → (alive : Bool) × HasClassVerdict g sign alive
 exists_class_verdict g grid sign =

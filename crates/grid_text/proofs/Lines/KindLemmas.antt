@@ -1,11 +1,10 @@
 -- The kinds of words: which words are bad for their kind, and the number of the words of a line. A word that is
 -- looked for among the words of some values is that of the value that is found; so a good word of a kind is that of
 -- a sign, side or corner, of a number, or of a state, and the words of good arguments are good.
-use Rattle.std.proofs.Common.{◌≡◌, ◌≢◌, ℕ, ◌-◌, ◌<◌, ◌≤◌, ◌^◌, Bool, true, false, not, ◌&&◌, ◌||◌, cond, List, [], ◌∷◌, length, map, Option, None, Some, refl, ap, ◌∙◌, sym, arith, inl, inr, true≢false}
+use Rattle.std.proofs.Common.{◌≡◌, ◌≢◌, ℕ, ◌-◌, ◌<◌, ◌≤◌, ◌^◌, Bool, true, false, not, ◌||◌, cond, List, [], ◌∷◌, length, map, Option, None, Some, refl, ap, ◌∙◌, sym, arith, inl, inr, true≢false}
 use Rattle.std.specs.Prelude.{is_none, ◌==◌}
 use Rattle.std.specs.List.{list_any, find, zip}
 use Rattle.std.specs.Fmt.{decimal}
-use Rattle.std.proofs.Math.Bool.{and-false}
 use Rattle.std.proofs.lemmas.Bool.{cases_Bool, eq-eqb, cases_eq, ne_eqb, not-false}
 use Rattle.std.proofs.lemmas.List.{length-map}
 use Rattle.state_rank.specs.States.{state_word}

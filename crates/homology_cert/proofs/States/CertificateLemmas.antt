@@ -26,7 +26,7 @@ use Rattle.homology_cert.specs.Inner.CodeTests as over_codes
 use Rattle.homology_cert.specs.CertificateTests.{same_degree, one_below, verdict_from}
 use Rattle.homology_cert.specs.declared.verdicts.CertTest.TheVariants.{Count, Degree, Cycle, Cocycle, Pairing, Probe, Missing}
 use Rattle.homology_cert.proofs.Certified.CheckLemmas.{list_all-values}
-use Rattle.torus_geom.specs.Chains.{pairs_oddly, single}
+use Rattle.torus_geom.specs.Chains.{Chain, members, pairs_oddly, single}
 use Rattle.torus_geom.specs.Border.{border}
 use Rattle.torus_geom.specs.Codes.{states_of}
 use Rattle.homology_cert.specs.Certificates.{CyclePair, StepPair, Cell, entry_count}
