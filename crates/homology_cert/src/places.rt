@@ -7,7 +7,7 @@ ghost use Rattle.homology_cert.specs.CertificateCodes.{Cell};
 ghost use Rattle.homology_cert.specs.Certificates.{AreSmallDegrees};
 ghost use Rattle.homology_cert.specs.Inner.CodeCertificates.{AreStates};
 ghost use Rattle.homology_cert.specs.CertificateText.{marks_line, degree_line};
-ghost use Rattle.text_lines.specs.Lines.{set_line};
+ghost use Rattle.text_lines.specs.Inner.CodeLines.{set_line};
 ghost use Rattle.homology_cert.specs.Inner.Reading.{size_line, IsSmallSize, LeadsTo, IsAt, new_cell, with_cycle, with_step};
 
 use crate::certificates::CertCell;

@@ -6,7 +6,7 @@ ghost use Rattle.homology_cert.specs.CertificateCodes.{certificate_of};
 ghost use Rattle.homology_cert.specs.Inner.CodeCertificates.{AreStates, HasCycleStates, HasStepStates, HasPairStates};
 ghost use Rattle.homology_cert.specs.CertificateText.{certificate_text, text_of_lines, head_lines, degree_line, marks_line};
 ghost use Rattle.homology_cert.specs.Inner.CodeText.{cell_lines, cycle_lines, step_lines};
-ghost use Rattle.text_lines.specs.Lines.{set_line};
+ghost use Rattle.text_lines.specs.Inner.CodeLines.{set_line};
 
 use crate::certificates::{Cert, CertCell, CyclePair, StepPair};
 use f2_chain::Chain;

@@ -9,7 +9,7 @@ ghost use Rattle.torus_geom.specs.Marks.{size};
 ghost use Rattle.homology_cert.specs.Certificates.{AreSmallDegrees};
 ghost use Rattle.homology_cert.specs.Inner.CodeCertificates.{AreStates};
 ghost use Rattle.homology_cert.specs.CertificateText.{marks_line, degree_line};
-ghost use Rattle.text_lines.specs.Lines.{set_line};
+ghost use Rattle.text_lines.specs.Inner.CodeLines.{set_line};
 ghost use Rattle.homology_cert.specs.Inner.Reading.{IsSmallSize, spaced, IsFree};
 
 use f2_chain::{Builder, Chain};

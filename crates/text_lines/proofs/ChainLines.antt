@@ -5,7 +5,8 @@ use Rattle.torus_geom.specs.Codes.{HasRanks, states_of}
 use Rattle.torus_geom.proofs.Chains.CodesLemmas.{ranks_from_All}
 use Rattle.torus_geom.proofs.Chains.OrderedMembers.{states_text}
 use Rattle.state_rank.specs.States.{state_word}
-use Rattle.text_lines.specs.Lines.{set_line, chain_line}
+use Rattle.text_lines.specs.Lines.{chain_line}
+use Rattle.text_lines.specs.Inner.CodeLines.{set_line}
 
 pub set_line-states : (word : List ℕ) (n : ℕ) (z : Codes) → HasRanks n z
     → set_line word n z ≡ chain_line word n (states_of n z)

@@ -37,7 +37,7 @@ use Rattle.homology_cert.specs.CertificateTests.{same_degree}
 use Rattle.homology_cert.specs.Inner.CodeTests.{has_bidegree, state_count_at}
 use Rattle.homology_cert.specs.CertificateText.{marks_line, degree_line, head_lines, text_of_lines}
 use Rattle.homology_cert.specs.Inner.CodeText.{cycle_lines, step_lines, cell_lines, certificate_text}
-use Rattle.text_lines.specs.Lines.{set_line}
+use Rattle.text_lines.specs.Inner.CodeLines.{set_line}
 use Rattle.homology_cert.proofs.Texts.TextLemmas.{text_of_lines-append, certificate_text-parts}
 use Rattle.homology_cert.proofs.Certified.CertifiedLemmas.{same_degree-is}
 use Rattle.state_rank.proofs.OrderLemmas.{length-ascending}

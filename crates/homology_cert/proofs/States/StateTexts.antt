@@ -29,7 +29,8 @@ use Rattle.torus_geom.specs.Codes.{states_of}
 use Rattle.torus_geom.specs.Inner.CodeBorder.{codes_of}
 use Rattle.homology_cert.specs.Certificates.{CyclePair, StepPair, Cell, Certificate, HasPairStates, IsCertificate, entry_count, AreSmallDegrees}
 use Rattle.homology_cert.specs.CertificateCodes.{cycle_pair_of, step_pair_of, cell_of, certificate_of}
-use Rattle.text_lines.specs.Lines.{chain_line, set_line}
+use Rattle.text_lines.specs.Lines.{chain_line}
+use Rattle.text_lines.specs.Inner.CodeLines.{set_line}
 use Rattle.homology_cert.specs.CertificateText.{cycle_lines, step_lines, cell_lines, certificate_lines, certificate_text, HasFirstLines, IsFirstBadLine}
 use Rattle.torus_geom.proofs.Chains.CodesLemmas.{AreRanks, AreRanks-codes_of, IsChain-states_of, states_of-codes_of}
 use Rattle.torus_geom.proofs.Chains.OrderedMembers.{flat_map-map}

@@ -17,7 +17,7 @@ use Rattle.homology_cert.specs.Inner.CodeCertificates.{AreStates, HasCycleStates
 use Rattle.homology_cert.specs.Certificates.{AreSmallDegrees}
 use Rattle.homology_cert.specs.CertificateText.{marks_line, degree_line, head_lines}
 use Rattle.homology_cert.specs.Inner.CodeText.{cycle_lines, step_lines, cell_lines}
-use Rattle.text_lines.specs.Lines.{set_line}
+use Rattle.text_lines.specs.Inner.CodeLines.{set_line}
 use Rattle.homology_cert.specs.Inner.Reading.{size_line, new_cell, with_cycle, with_step, IsSmallSize, IsSmallGrid, LeadsTo, lines_in, lines_at, AreClosed, IsAt}
 use Rattle.homology_cert.specs.declared.places.Place.{Place}
 use Rattle.homology_cert.specs.declared.places.Place.TheVariants.{Start, Size, OLine, XLine, NoCell, InCell, InCycle, InStep, End}

@@ -21,7 +21,7 @@ use Rattle.homology_cert.specs.Inner.CodeCertificates.{IsCertificate, AreStates}
 use Rattle.homology_cert.specs.Certificates.{AreSmallDegrees}
 use Rattle.homology_cert.specs.CertificateText.{marks_line, degree_line}
 use Rattle.homology_cert.specs.Inner.CodeText.{certificate_text, IsFirstBadLine}
-use Rattle.text_lines.specs.Lines.{set_line}
+use Rattle.text_lines.specs.Inner.CodeLines.{set_line}
 use Rattle.homology_cert.specs.Inner.Reading.{size_line, new_cell, with_cycle, with_step, IsSmallSize, LeadsTo, IsAt, IsFree, IsRead}
 use Rattle.homology_cert.specs.declared.places.Place.{Place}
 use Rattle.homology_cert.specs.declared.places.Place.TheVariants.{Start, Size, OLine, XLine, NoCell, InCell, InCycle, InStep, End}

@@ -15,7 +15,7 @@ use Rattle.homology_cert.specs.Inner.CodeCertificates.{IsCertificate}
 use Rattle.homology_cert.specs.Certificates.{AreSmallDegrees}
 use Rattle.homology_cert.specs.CertificateText.{marks_line, degree_line, head_lines, text_of_lines}
 use Rattle.homology_cert.specs.Inner.CodeText.{cycle_lines, step_lines, cell_lines, certificate_lines, certificate_text}
-use Rattle.text_lines.specs.Lines.{set_line}
+use Rattle.text_lines.specs.Inner.CodeLines.{set_line}
 use Rattle.homology_cert.specs.Inner.Reading.{LinesLead, IsAt, IsFree, AreFree}
 use Rattle.homology_cert.specs.declared.places.Place.{Place}
 use Rattle.homology_cert.proofs.Texts.LineLemmas.{free-decimal, free-signed, split_at_free, small_mag}

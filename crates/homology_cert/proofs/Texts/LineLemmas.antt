@@ -16,7 +16,7 @@ use Rattle.state_rank.proofs.WordLemmas.{state_word_injective, length-state_word
 use Rattle.gradings.specs.Degrees.{IsSmallDegree}
 use Rattle.homology_cert.specs.Certificates.{AreSmallDegrees}
 use Rattle.homology_cert.specs.CertificateText.{marks_line, degree_line}
-use Rattle.text_lines.specs.Lines.{set_line}
+use Rattle.text_lines.specs.Inner.CodeLines.{set_line}
 use Rattle.homology_cert.specs.Inner.Reading.{IsFree}
 
 -- ---- two lists in parts

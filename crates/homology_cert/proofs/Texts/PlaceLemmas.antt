@@ -7,7 +7,7 @@ use Rattle.torus_geom.specs.Marks.{Marks, size}
 use Rattle.homology_cert.specs.CertificateCodes.{Cell}
 use Rattle.homology_cert.specs.Certificates.{AreSmallDegrees}
 use Rattle.homology_cert.specs.CertificateText.{degree_line}
-use Rattle.text_lines.specs.Lines.{set_line}
+use Rattle.text_lines.specs.Inner.CodeLines.{set_line}
 use Rattle.homology_cert.specs.Inner.Reading.{new_cell, with_cycle, with_step, LeadsTo, IsAt}
 use Rattle.homology_cert.specs.declared.places.Place.{Place}
 use Rattle.homology_cert.specs.declared.places.Place.TheVariants.{Start, Size, OLine, XLine, NoCell, InCell, InCycle, InStep, End}

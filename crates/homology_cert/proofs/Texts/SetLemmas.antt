@@ -14,7 +14,7 @@ use Rattle.f2_algebra.specs.Chain.{Chain, nothing, single, ◌⊕◌, of_codes, 
 use Rattle.f2_algebra.proofs.Chains.Lists.{of_codes-push, codes-of_codes, any-above, rises, rising-codes}
 use Rattle.state_rank.specs.States.{factorial, rank, unrank, state_word}
 use Rattle.state_rank.proofs.RankLemmas.{length-unrank, rank-unrank}
-use Rattle.text_lines.specs.Lines.{set_line}
+use Rattle.text_lines.specs.Inner.CodeLines.{set_line}
 use Rattle.state_rank.proofs.WordLemmas.{state_word_injective, length-state_word}
 use Rattle.homology_cert.proofs.Texts.LineLemmas.{append-parts}
 

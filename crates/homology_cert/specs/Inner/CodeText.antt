@@ -11,7 +11,7 @@ use Rattle.std.specs.Prelude.{◌≡◌, ℕ, ◌+◌, ◌≤◌, List, [], ◌�
 use Rattle.std.specs.List.{flat_map}
 use Rattle.f2_algebra.specs.Certificate.{CyclePair, StepPair}
 use Rattle.torus_geom.specs.Marks.{size}
-use Rattle.text_lines.specs.Lines.{set_line}
+use Rattle.text_lines.specs.Inner.CodeLines.{set_line}
 use Rattle.homology_cert.specs.CertificateCodes.{Cell, Certificate}
 use Rattle.homology_cert.specs.CertificateText.{degree_line, head_lines, text_of_lines}
 use Rattle.homology_cert.specs.Inner.CodeCertificates.{IsCertificate}

@@ -29,7 +29,7 @@ use Rattle.homology_cert.specs.Inner.CodeCertificates.{AreStates, HasPairStates}
 use Rattle.homology_cert.specs.Certificates.{AreSmallDegrees}
 use Rattle.homology_cert.specs.CertificateText.{marks_line, degree_line, head_lines, text_of_lines}
 use Rattle.homology_cert.specs.Inner.CodeText.{cell_lines}
-use Rattle.text_lines.specs.Lines.{set_line}
+use Rattle.text_lines.specs.Inner.CodeLines.{set_line}
 pub use Rattle.homology_cert.specs.Inner.Cells.{new_cell, with_cycle, with_step}
 use Rattle.homology_cert.specs.declared.places.Place.{Place}
 use Rattle.homology_cert.specs.declared.places.Place.TheVariants.{Start, Size, OLine, XLine, NoCell, InCell, InCycle, InStep, End}

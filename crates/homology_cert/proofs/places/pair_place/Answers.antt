@@ -2,7 +2,7 @@ use Rattle.std.proofs.Common.{◌≡◌, codes, inl, inr, refl, sym, ◌∙◌, 
 use Rattle.std.proofs.lemmas.Bool.Decides.{nat_tests}
 use Rattle.torus_geom.specs.Marks.{size}
 use Rattle.homology_cert.specs.Inner.CodeCertificates.{AreStates}
-use Rattle.text_lines.specs.Lines.{set_line}
+use Rattle.text_lines.specs.Inner.CodeLines.{set_line}
 use Rattle.hat_division.proofs.WordLemmas.{IfSome-value}
 use Rattle.homology_cert.proofs.Texts.ByteLemmas.{empty_list}
 use Rattle.homology_cert.proofs.places.pair_place.Goals as goal

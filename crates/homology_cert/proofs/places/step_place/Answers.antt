@@ -1,7 +1,7 @@
 use Rattle.std.proofs.Common.{◌≡◌, ap, codes}
 use Rattle.torus_geom.specs.Marks.{size}
 use Rattle.homology_cert.specs.Inner.CodeCertificates.{AreStates}
-use Rattle.text_lines.specs.Lines.{set_line}
+use Rattle.text_lines.specs.Inner.CodeLines.{set_line}
 use Rattle.homology_cert.specs.declared.places.Place.TheVariants.{InCell}
 use Rattle.hat_division.proofs.WordLemmas.{IfSome-value}
 use Rattle.homology_cert.proofs.places.step_place.Goals as goal

@@ -3,7 +3,7 @@ use Rattle.std.proofs.lemmas.Bool.Decides.{nat_tests}
 use Rattle.f2_algebra.specs.Chain.{codes}
 use Rattle.state_rank.specs.States.{factorial}
 use Rattle.torus_geom.specs.Marks.{size}
-use Rattle.text_lines.specs.Lines.{set_line}
+use Rattle.text_lines.specs.Inner.CodeLines.{set_line}
 use Rattle.homology_cert.proofs.Texts.ByteLemmas.{empty_list}
 use Rattle.homology_cert.proofs.Texts.SetLemmas.{IsReadSet, IsReadSet-next, IsReadSet-end, no_set-no_code, no_set-not_above}
 use Rattle.homology_cert.proofs.words.set_of.Goals as goal

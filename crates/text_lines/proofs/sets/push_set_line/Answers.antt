@@ -3,7 +3,8 @@ use Rattle.std.proofs.Common.{◌++◌, ◌∷◌, [], ap, append_assoc, ◌∙�
 use Rattle.std.specs.List.{flat_map}
 use Rattle.std.proofs.lemmas.List.{take_all}
 use Rattle.state_rank.specs.States.{unrank, state_word}
-use Rattle.text_lines.specs.Lines.{line, set_line}
+use Rattle.text_lines.specs.Lines.{line}
+use Rattle.text_lines.specs.Inner.CodeLines.{set_line}
 use Rattle.text_lines.proofs.ChainLines.{set_line-states}
 use Rattle.text_lines.proofs.sets.push_set_line.Goals as goal
 
