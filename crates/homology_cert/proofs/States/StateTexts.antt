@@ -15,7 +15,6 @@ use Rattle.text_lines.proofs.ChainLines.{set_line-states}
 use Rattle.std.proofs.Common.{◌≡◌, ◌↔◌, ℕ, ◌-◌, ◌^◌, ◌<◌, ◌≤◌, IsTrue, List, [], ◌∷◌, ◌++◌, map, take, length, codes, refl, sym, ap, ap₂, subst, ◌∙◌, ◌⊎◌, inl, inr, Result, Ok, Err, IfOk}
 use Rattle.std.specs.List.{All, Contains, flat_map}
 use Rattle.std.proofs.lemmas.List.Elements.{All-contains, All-map}
-use Rattle.f2_algebra.specs.Bigraded.{stands_before}
 use Rattle.f2_algebra.specs.Chain.{Chain as Codes}
 use Rattle.f2_algebra.specs.Certificate as code_pairs
 use Rattle.state_rank.proofs.MemberLemmas.{member_head, member_tail, pairs_map}
