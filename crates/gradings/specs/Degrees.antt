@@ -1,8 +1,8 @@
 -- How large the degrees of a state can be, and the order of bidegrees.
 --     greatest_degree      1,000: no degree of a state is above it, nor below its negative
 --     IsSmallDegree d      d is from -1,000 to 1,000
---     bidegree_cmp d e     the order of bidegrees, as in a table: less if the Alexander degree of d is higher, or that is
---                          the same and its Maslov degree is higher
+--     bidegree_cmp d e     the order of bidegrees, as in a table: less if the Alexander degree of d is higher, or that
+--                          is the same and its Maslov degree is higher
 use Rattle.std.specs.Prelude.{ℤ, pos, neg_ℤ, ◌≤ℤ◌}
 use Rattle.std.specs.Ordering.{int_cmp, on, flip_args, then_cmp}
 use Rattle.std.specs.declared.cmp.Ordering.{Ordering}

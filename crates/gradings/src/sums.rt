@@ -21,8 +21,8 @@ const SUMS: i64 = 128;
 /// Which sums of weights the states of a grid can still have when the rows on their first columns are known.
 ///
 /// Contracts see the grid. The Alexander degree of a state is `least` and the sum of its weights, one for each column.
-/// For each set of rows there is a set of sums as bits: those that the other rows give on the columns that are left. It is
-/// made once, from the set of all rows down.
+/// For each set of rows there is a set of sums as bits: those that the other rows give on the columns that are left. It
+/// is made once, from the set of all rows down.
 #[derive(Drop)]
 pub struct PossibleSums {
     tables: DegreeTables,

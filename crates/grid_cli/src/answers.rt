@@ -48,8 +48,8 @@ pub(crate) fn answer<S: Source, K: Sink, E: Sink>(
         → IfSome (S.left src.old) (λ text. (status : Status) (answer : List ℕ)
         → IsOutcome mode text status answer → (result ≡ status) ⊎ (result ≡ Status.NoMemory)) }
 
-    // Words that ask for nothing are the only cause of Usage, and they have no other answer, but that memory may run out
-    // on words that begin with `make`. Then nothing is read or written.
+    // Words that ask for nothing are the only cause of Usage, and they have no other answer, but that memory may run
+    // out on words that begin with `make`. Then nothing is read or written.
     ensures usage { result ≡ Status.Usage
         → (mode : Mode) → ¬ IsForm (map string_bytes words.now) mode }
     ensures always_usage { ((mode : Mode) → ¬ IsForm (map string_bytes words.now) mode)

@@ -28,11 +28,11 @@ use std::alloc::Global;
 /// nothing, and writes the script of this size and seed with a summary of its grid.
 ///
 /// The words are those after the program's name. The options of `make` stand in either order, each in one word
-/// with `=` or in two, and are read by `clap`, which asks for memory. All is read before anything is written. A text that is no document is refused by one
-/// line, which tells its first fault and the line that has it; to `check`, one that is no certificate is, by its first
-/// bad line. A chain that the document names is followed through the turns and the commutations of the grid. The ranks
-/// that a report or a certificate tells are those of the homology of the fully blocked grid complex over F2
-/// (Ozsváth, Stipsicz and Szabó, "Grid Homology for Knots and Links", chapter 4).
+/// with `=` or in two, and are read by `clap`, which asks for memory. All is read before anything is written. A text
+/// that is no document is refused by one line, which tells its first fault and the line that has it; to `check`, one
+/// that is no certificate is, by its first bad line. A chain that the document names is followed through the turns and
+/// the commutations of the grid. The ranks that a report or a certificate tells are those of the homology of the fully
+/// blocked grid complex over F2 (Ozsváth, Stipsicz and Szabó, "Grid Homology for Knots and Links", chapter 4).
 ///
 /// What is said of bytes holds for a source and a sink that tell theirs.
 pub fn gridhom<S: Source, K: Sink>(
@@ -63,8 +63,8 @@ pub fn gridhom<S: Source, K: Sink>(
         → IfSome (S.left src.old) (λ text. (status : Status) (answer : List ℕ)
         → IsOutcome mode text status answer → (result ≡ status) ⊎ (result ≡ Status.NoMemory)) }
 
-    // Words that ask for nothing are the only cause of Usage, and they have no other answer, but that memory may run out
-    // on words that begin with `make`. Then nothing is read or written.
+    // Words that ask for nothing are the only cause of Usage, and they have no other answer, but that memory may run
+    // out on words that begin with `make`. Then nothing is read or written.
     ensures usage { result ≡ Status.Usage
         → (mode : Mode) → ¬ IsForm (map string_bytes words.now) mode }
     ensures always_usage { ((mode : Mode) → ¬ IsForm (map string_bytes words.now) mode)

@@ -52,7 +52,8 @@ fn no_numbers(error: &Error) -> Result<Option<(u32, u32)>, AllocError>
     }
 }
 
-// Whether the words begin with `make`, two, three or four follow, and none is `--`, behind which `clap` reads no option.
+// Whether the words begin with `make`, two, three or four follow, and none is `--`, behind which `clap` reads no
+// option.
 fn may_be_make(words: &[String]) -> bool
     ensures { IsTrue result ↔ MayBeMake (map string_bytes words.now) }
 {

@@ -2,7 +2,9 @@
 use crate::certificates::{CERTIFIED, CHECKED};
 use crate::failing::FAILING;
 use crate::knots::{KNOTS, KNOTS_OF_NINE_1, KNOTS_OF_NINE_2, KNOTS_OF_NINE_3, KNOTS_OF_NINE_4};
-use crate::large::{CLASS_OF_NINE, CLASS_OF_TEN, HAT_OF_NINE, MADE_OF_NINE, SEVEN_AND_EIGHT, TABLE_OF_NINE};
+use crate::large::{
+    CLASS_OF_NINE, CLASS_OF_TEN, HAT_OF_NINE, MADE_OF_NINE, SEVEN_AND_EIGHT, TABLE_OF_NINE,
+};
 use crate::limits::LIMITS;
 use crate::moves::{MOVES, MOVES_OF_NINE};
 use crate::refusals::REFUSALS;

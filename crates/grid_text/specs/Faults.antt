@@ -39,8 +39,8 @@
 --     first_passed rows                the fault of the first row whose test passes
 --     fault_in_table p words           the fault that the table gives for such a line
 --     line_fault p words               the fault of such a line: none of a blank line, and else that in the table
---     rest_fault p lines               the fault with which lines begin at the place p: that of the first of them; where
---                                      there is none, `NoEnd` if the place is not after the end
+--     rest_fault p lines               the fault with which lines begin at the place p: that of the first of them;
+--                                      where there is none, `NoEnd` if the place is not after the end
 --     HaveFirstFault lines f line      lines with these words have the first fault f at the line of this number,
 --                                      counted from 1
 --     IsFirstFault text f line         so have the lines of the text

@@ -7,8 +7,8 @@
 --     all_have g d z             so has each state of z
 --     state_count_at g d         the number of states of this bidegree
 --     steps_at cells d           the step pairs of the cell of this bidegree, if there is one
---     count_passes c cell        there are states of the bidegree of the cell, as many as its cycle pairs, its step pairs
---                                and the step pairs of the cell one Maslov degree above together
+--     count_passes c cell        there are states of the bidegree of the cell, as many as its cycle pairs, its step
+--                                pairs and the step pairs of the cell one Maslov degree above together
 --     is_cocycle g f             f pairs evenly with the border of every state
 --     none_missing c             each state has a cell of its bidegree
 --

@@ -1,7 +1,8 @@
 -- Certificates: what shows the table of ranks of a grid to somebody who trusts borders, pairings and counts alone. A
--- certificate has a cell for each bidegree of the states of its grid. The cycles of a cell stand for the homology of the
--- bidegree, and with each goes a cocycle that tells it from the others. Its steps are chains whose borders are not empty,
--- and with each goes a probe that tells its border from those of the later ones. Cochains are chains of states too.
+-- certificate has a cell for each bidegree of the states of its grid. The cycles of a cell stand for the homology of
+-- the bidegree, and with each goes a cocycle that tells it from the others. Its steps are chains whose borders are not
+-- empty, and with each goes a probe that tells its border from those of the later ones. Cochains are chains of states
+-- too.
 --     CyclePair             a cycle and its cocycle
 --     StepPair              a step and its probe
 --     Cell                  a bidegree (Maslov degree, Alexander degree), its cycle pairs and its step pairs

@@ -1,8 +1,8 @@
--- The verdict of a chain of states of a grid: what it is in the homology of the fully blocked grid complex over the field
--- of two elements, with evidence that can be checked by hand. For x+ and x- alone it says whether the Legendrian classes
--- of the link vanish there (Ozsváth, Szabó and Thurston, "Legendrian knots, transverse knots and combinatorial knot
--- Floer homology"; Ng, Ozsváth and Thurston, "Transverse knots distinguished by knot Floer homology"; Ozsváth, Stipsicz
--- and Szabó, "Grid Homology for Knots and Links", chapter 12). A cochain is a chain of states too.
+-- The verdict of a chain of states of a grid: what it is in the homology of the fully blocked grid complex over the
+-- field of two elements, with evidence that can be checked by hand. For x+ and x- alone it says whether the Legendrian
+-- classes of the link vanish there (Ozsváth, Szabó and Thurston, "Legendrian knots, transverse knots and combinatorial
+-- knot Floer homology"; Ng, Ozsváth and Thurston, "Transverse knots distinguished by knot Floer homology"; Ozsváth,
+-- Stipsicz and Szabó, "Grid Homology for Knots and Links", chapter 12). A cochain is a chain of states too.
 --     IsBorderOf g b z       z is the border of the chain b of states
 --     Bounds g z             z is the border of some chain
 --     IsNotCycle g z x       z is no cycle: x is the least state of its border, in lexicographic order

@@ -1,6 +1,6 @@
 -- A pool of nodes, as contracts see it.
---     PoolValue       the nodes by their ids; `spare`: how many more can be taken with no more memory; and `granted`: for
---                     how many more there is memory, as chunks are kept that were granted before a refusal
+--     PoolValue       the nodes by their ids; `spare`: how many more can be taken with no more memory; and `granted`:
+--                     for how many more there is memory, as chunks are kept that were granted before a refusal
 --     pool_code       how the logic stores such a value; it says nothing of pools
 use Rattle.std.specs.Prelude.{ℕ, refl}
 use Rattle.std.specs.Ordering.{nat_cmp}

@@ -38,7 +38,8 @@ pub struct Node {
     pub prev_in: u64,
 }
 
-// What lies where no node is. It is all zeros, so that a new chunk is zeroed where it lies and never stands on the stack.
+// What lies where no node is. It is all zeros, so that a new chunk is zeroed where it lies and never stands on the
+// stack.
 pub(crate) const BLANK: Node = Node {
     from: 0,
     to: 0,

@@ -14,8 +14,9 @@ use std::marker::Model;
 ///
 /// An id is below 2^49, so none is `NO_NODE`. One that was given back may come again. A dropped pool frees its chunks.
 //
-// A place below `fresh` has a node, or was given back and is one of the `free` places that begin with `head` and lead on through
-// `next_out`. A place from `fresh` on, and below `limit`, was never taken. What lies from `limit` on was not promised.
+// A place below `fresh` has a node, or was given back and is one of the `free` places that begin with `head` and lead
+// on through `next_out`. A place from `fresh` on, and below `limit`, was never taken. What lies from `limit` on was not
+// promised.
 #[derive(Drop)]
 pub struct Pool {
     nodes: Nodes,

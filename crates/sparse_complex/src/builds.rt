@@ -41,9 +41,9 @@ impl AlexSlice {
     }
 }
 
-// The states that begin as `first` does on the columns before `column`: `count` of them, of the ranks from `base` on, of
-// which `first` is the first. `used` has their rows on these columns as bits. They have the degree that is looked for if
-// their weights from `column` on add up to `left`.
+// The states that begin as `first` does on the columns before `column`: `count` of them, of the ranks from `base` on,
+// of which `first` is the first. `used` has their rows on these columns as bits. They have the degree that is looked
+// for if their weights from `column` on add up to `left`.
 #[derive(Drop)]
 pub(crate) struct Branch {
     pub(crate) first: State,
@@ -77,8 +77,8 @@ fn cells_of(alloc: Global, g: &Grid, a: i32) -> Result<Vec<Cell>, NoMemory>
 
 // Appends the cells of the degree `a` among the states of a branch, by their codes.
 //
-// A branch whose sum cannot be reached is left out as a whole, so that each branch that is gone through has a state of the
-// degree.
+// A branch whose sum cannot be reached is left out as a whole, so that each branch that is gone through has a state of
+// the degree.
 fn visit(
     sums: &PossibleSums,
     a: i32,

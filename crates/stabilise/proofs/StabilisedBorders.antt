@@ -1,7 +1,7 @@
 -- The states x+ and x- of a stabilised grid are borders of one state: from the state with two of their points exchanged
 -- the empty square leads to them, and each other rectangle has a mark. A rectangle from it has the square at its lower
--- left corner and that at its upper right corner. Nearly each of these squares has an X; at the two exchanged points they
--- are the empty square and that with the O of the block.
+-- left corner and that at its upper right corner. Nearly each of these squares has an X; at the two exchanged points
+-- they are the empty square and that with the O of the block.
 use Rattle.std.proofs.Common.{◌≡◌, ◌≢◌, ℕ, zero, suc, ◌+◌, ◌<◌, ◌≤◌, true, false, not, ◌&&◌, slice_index, swap, refl, ap, ap₂, ◌∙◌, sym, eqb, arith, inl, inr}
 use Rattle.std.proofs.lemmas.Bool.{cases_eq, eq-eqb, ne_eqb, or_left, or_right}
 use Rattle.f2_algebra.specs.Chain.{single as one_code}

@@ -1,6 +1,6 @@
 -- Blocks of states: in the order of states those that begin with the same rows come one after another.
---     IsBlock n p rows base      the rows ascend, and in the order of the states of size n, from the place `base` on, come
---                                those that begin with the rows p and go on with `rows` in some order
+--     IsBlock n p rows base      the rows ascend, and in the order of the states of size n, from the place `base` on,
+--                                come those that begin with the rows p and go on with `rows` in some order
 use Rattle.std.specs.Prelude.{◌≡◌, ◌<◌, ℕ, List, ◌++◌, length, map}
 use Rattle.std.specs.List.{AllPairs}
 use Rattle.state_rank.specs.States.{arrangements, states}

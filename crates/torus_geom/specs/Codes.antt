@@ -1,5 +1,5 @@
--- Which states a set of codes stands for: the views of the code's values are sets of numbers, in which a state is by its
--- rank.
+-- Which states a set of codes stands for: the views of the code's values are sets of numbers, in which a state is by
+-- its rank.
 --     HasRanks n z       the codes of z are ranks of states of size n
 --     is_state n x       x is a state of size n
 --     states_of n z      the states of size n whose ranks are in z

@@ -1,6 +1,6 @@
 -- What is kept while the sets of sums are made, column by column.
---     HoldsSumsOf g c used rows set    the set has the sums from column c on of the states that use the rows `used` before
---                                      c, and have one of the first `rows` rows on c
+--     HoldsSumsOf g c used rows set    the set has the sums from column c on of the states that use the rows `used`
+--                                      before c, and have one of the first `rows` rows on c
 --     IsColumnDone g c i sets          the sets of the columns after c are made, and those below i of column c
 use Rattle.std.specs.Prelude.{◌≡◌, ℕ, ◌+◌, ◌^◌, ◌<◌, List, length, slice_index, slice_index_or, pos, ◌+ℤ◌}
 use Rattle.std.specs.Int.{bit_at}

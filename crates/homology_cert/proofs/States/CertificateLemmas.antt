@@ -1,5 +1,5 @@
--- The tests of a certificate are those of its states, one by one and in the same order; so it passes, or fails first, in
--- the same place.
+-- The tests of a certificate are those of its states, one by one and in the same order; so it passes, or fails first,
+-- in the same place.
 use Rattle.std.proofs.Common.{◌≡◌, ℕ, ◌+◌, ℤ, Bool, true, false, not, ◌&&◌, ◌||◌, eqb, ◌==◌, cond, List, [], ◌∷◌, ◌++◌, map, length, refl, sym, ap, ap₂, subst, ◌∙◌, inl, inr}
 use Rattle.std.specs.List.{Contains, filter, list_all, list_any, sum, sum_by, flat_map}
 use Rattle.std.proofs.lemmas.List.{length-map, map-append}

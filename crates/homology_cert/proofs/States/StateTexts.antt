@@ -1,5 +1,5 @@
--- The text of a certificate is that of its states, and each certificate over states is one of sets of ranks; so a text has
--- the same first bad line.
+-- The text of a certificate is that of its states, and each certificate over states is one of sets of ranks; so a text
+-- has the same first bad line.
 use Rattle.f2_algebra.specs.Bigraded.{stands_before}
 use Rattle.homology_cert.specs.Inner.CodeTests as over_codes_tests
 use Rattle.homology_cert.proofs.Certified.CertifiedLemmas as code_laws

@@ -1,5 +1,5 @@
--- Lines without a line feed: none of a certificate has one, so that a text has its lines in one way. And where a path of
--- lines leads.
+-- Lines without a line feed: none of a certificate has one, so that a text has its lines in one way. And where a path
+-- of lines leads.
 use Rattle.std.proofs.Common.{◌≡◌, ℕ, zero, suc, ◌<◌, ◌≤◌, ◌^◌, true, not, eqb, List, [], ◌∷◌, ◌++◌, length, take, codes, ℤ, All, inl, inr, refl, sym, ap, ap₂, subst, ◌∙◌, arith, append_assoc, length-append}
 use Rattle.std.specs.List.{flat_map, list_all}
 use Rattle.std.specs.Fmt.{decimal, signed_decimal}

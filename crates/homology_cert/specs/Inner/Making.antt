@@ -6,8 +6,8 @@
 --     steps_after p done log   the step pairs of the entries of a log whose x passes the test, after the entries done
 --     HasState g d             some state has the bidegree d
 --     HasBidegrees g n degrees the set has the bidegrees of the states with a rank below n, and no other
---     IsMadeCell g cell            some state has the bidegree of the cell, and its pairs come from a log of the slice at
---                              its Alexander degree that leaves no arrow
+--     IsMadeCell g cell            some state has the bidegree of the cell, and its pairs come from a log of the slice
+--                              at its Alexander degree that leaves no arrow
 --     AreMade g cells          the cells are made so and stand in order, and none is missing
 use Rattle.std.specs.Prelude.{◌≡◌, ℕ, ◌<◌, ℤ, Bool, true, false, cond, List, [], ◌∷◌, ◌++◌, map, IsTrue}
 use Rattle.std.specs.List.{All, AllPairs, filter, list_any}

@@ -1,4 +1,5 @@
--- What is kept while the table of a grid is made: the Alexander degrees of its states, and a map from bidegrees to ranks.
+-- What is kept while the table of a grid is made: the Alexander degrees of its states, and a map from bidegrees to
+-- ranks.
 --     key_of d                      the bidegree d as a key
 --     Ranks                         such a map
 --     rank_in ranks a m             what the map has at (a, m), or 0

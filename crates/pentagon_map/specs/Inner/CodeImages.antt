@@ -1,5 +1,6 @@
 -- The image of a set of codes across a commutation.
---     column_image g c corner x        the ranks of the states to which an odd number of pentagons lead from the state x
+--     column_image g c corner x        the ranks of the states to which an odd number of pentagons lead from the state
+--                                      x
 --     image_of_state axis g c corner x the ranks of the image of x, for columns or for rows: for rows x is transposed,
 --                                      the columns of the transposed grid are exchanged, and the image is transposed
 --                                      back

@@ -1,6 +1,6 @@
 -- The rank of homology over states is the rank of the grid complex over codes, and so are the tables.
--- Route: a set of codes is a chain of a degree, a cycle, a boundary in the grid complex where the chain of its states is
--- one; so cycles modulo boundaries have one dimension.
+-- Route: a set of codes is a chain of a degree, a cycle, a boundary in the grid complex where the chain of its states
+-- is one; so cycles modulo boundaries have one dimension.
 use Rattle.std.proofs.Common.{◌≡◌, ◌↔◌, ℕ, ◌<◌, ℤ, pos, ◌+ℤ◌, Bool, true, false, List, Some, None, if◌then◌else◌, is_some, refl, sym, ap, ap₂, subst, ◌∙◌, inl, inr}
 use Rattle.std.proofs.lemmas.Bool.{false≢true, lt-ltb, ltb-true}
 use Rattle.f2_algebra.specs.Chain.{Chain as Codes, chain_sums as code_sums, holds, ◌⊕◌ as ◌⊞◌}

@@ -1,6 +1,6 @@
 -- The visit of the states of one Alexander degree, by their first rows.
---     IsBranch g a b            a branch of the visit: its states are a block, `used` has their first rows as bits, and `left`
---                               is what their other weights must add to, for the Alexander degree a
+--     IsBranch g a b            a branch of the visit: its states are a block, `used` has their first rows as bits, and
+--                               `left` is what their other weights must add to, for the Alexander degree a
 --     AreFirstCells D n cells   the cells of the codes below n, in the order of their codes
 --     IsBefore p q              the cell p has a lower Maslov degree than q, or the same and a lower code
 --     IsAscending cells         each cell is before the next

@@ -1,6 +1,6 @@
 -- The border of a set of ranks stands for the border of its chain of states.
--- Route: the sum, over the codes of a set, of the chains of what their states reach holds the rank of y if an odd number
--- of pairs reach y.
+-- Route: the sum, over the codes of a set, of the chains of what their states reach holds the rank of y if an odd
+-- number of pairs reach y.
 use Rattle.std.proofs.Common.{◌≡◌, ℕ, Bool, true, false, ◌&&◌, List, refl, sym, ap, ap₂, subst, ◌∙◌}
 use Rattle.std.proofs.lemmas.Bool.{and_parts, false≢true}
 use Rattle.f2_algebra.specs.Chain.{Chain as Codes, single as one_code, holds, sum_over}

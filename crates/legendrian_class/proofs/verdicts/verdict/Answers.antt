@@ -1,5 +1,5 @@
--- The verdict of the ranks is one of the states, with its evidence in states; each chain of states has a verdict, and no
--- two.
+-- The verdict of the ranks is one of the states, with its evidence in states; each chain of states has a verdict, and
+-- no two.
 use Rattle.std.proofs.lemmas.Result.{IfOk-weaker}
 use Rattle.torus_geom.specs.Marks.{size}
 use Rattle.torus_geom.proofs.Chains.CodesLemmas.{ranks_from_All}
