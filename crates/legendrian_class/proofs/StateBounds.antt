@@ -1,5 +1,6 @@
 -- x+ bounds in a grid exactly if it bounds in the turned grid and in the exchanged grid, and so does x-.
 use Rattle.std.proofs.Common.{◌≡◌, ◌↔◌, ℕ, ◌<◌, true}
+use Rattle.torus_geom.specs.Border.{Bounds}
 use Rattle.torus_geom.specs.Chains.{single}
 use Rattle.torus_geom.specs.Front.{minus_state, plus_state}
 use Rattle.torus_geom.specs.Marks.{IsGrid, Marks, size}
@@ -9,7 +10,6 @@ use Rattle.grid_moves.specs.declared.turns.Side.{Side}
 use Rattle.grid_moves.proofs.Exchanged.SwappedTwice.{IsGrid-swapped}
 use Rattle.grid_moves.proofs.Turned.TurnLemmas.{IsGrid-turned}
 use Rattle.pentagon_map.proofs.FrontStates.PlusState.{IsBijection-plus_state}
-use Rattle.legendrian_class.specs.Verdicts.{Bounds}
 use Rattle.legendrian_class.proofs.BoundsLemmas.{minus_bounds_alike, plus_bounds_alike}
 use Rattle.legendrian_class.proofs.StateVerdicts.{states_bound_alike}
 use Rattle.legendrian_class.proofs.TurnedBounds.{minus_bounds_turned, plus_bounds_turned}

@@ -19,12 +19,12 @@ use Rattle.legendrian_class.specs.declared.verdicts.ClassVerdict.{ClassVerdict}
 use Rattle.legendrian_class.specs.declared.verdicts.ClassVerdict.TheVariants as answers
 use Rattle.legendrian_class.proofs.VerdictLemmas.{one_verdict, some_verdict}
 use Rattle.torus_geom.specs.Chains.{Chain, IsChain, single, pairs_oddly}
-use Rattle.torus_geom.specs.Border.{border}
+use Rattle.torus_geom.specs.Border.{border, IsBorderOf, Bounds}
 use Rattle.torus_geom.specs.Codes.{states_of}
 use Rattle.torus_geom.specs.Inner.CodeBorder.{codes_of}
 use Rattle.legendrian_class.specs.VerdictCodes.{HasVerdictRanks, verdict_of}
 use Rattle.legendrian_class.specs.Verdicts.Verdict.{NotCycle, Null, Alive}
-use Rattle.legendrian_class.specs.Verdicts.{Verdict, IsBorderOf, Bounds, IsNotCycle, IsNull, IsAlive, IsVerdict, HasVerdict, HasOneVerdict}
+use Rattle.legendrian_class.specs.Verdicts.{Verdict, IsNotCycle, IsNull, IsAlive, IsVerdict, HasVerdict, HasOneVerdict}
 use Rattle.torus_geom.proofs.Chains.CodesLemmas.{AreRanks, by_ranks, ranks_from_All, All_from_ranks, states_of-unrank, in_states_of, IsChain-states_of, AreRanks-codes_of, states_of-codes_of, states_of-single, AreRanks-single, states_of_one_to_one, states_of-nothing, nothing_from_states_of, pairs_oddly-states_of}
 use Rattle.rectangles.proofs.Homology.BorderLaws.{border-border}
 use Rattle.torus_geom.proofs.Chains.ReachedLemmas.{states_of-border_of_state, states_of-border, IsChain-border}

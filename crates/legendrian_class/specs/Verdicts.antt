@@ -3,8 +3,6 @@
 -- classes of the link vanish there (Ozsváth, Szabó and Thurston, "Legendrian knots, transverse knots and combinatorial
 -- knot Floer homology"; Ng, Ozsváth and Thurston, "Transverse knots distinguished by knot Floer homology"; Ozsváth,
 -- Stipsicz and Szabó, "Grid Homology for Knots and Links", chapter 12). A cochain is a chain of states too.
---     IsBorderOf g b z       z is the border of the chain b of states
---     Bounds g z             z is the border of some chain
 --     IsNotCycle g z x       z is no cycle: x is the least state of its border, in lexicographic order
 --     IsNull g z b           z is null: it is the border of b, and each state of b is one Maslov degree above, and in
 --                            the Alexander degree of, some state of z
@@ -21,14 +19,7 @@ use Rattle.state_rank.specs.States.{is_before}
 use Rattle.torus_geom.specs.Marks.{Marks, size}
 use Rattle.torus_geom.specs.Degrees.{bidegree}
 use Rattle.torus_geom.specs.Chains.{Chain, IsChain, nothing, single, pairs_oddly}
-use Rattle.torus_geom.specs.Border.{border}
-
-pub record IsBorderOf (g : Marks) (b z : Chain) : Type 0 where
-  pub states : IsChain (size g) b
-  pub is_border : border g b ≡ z
-
-abbrev pub Bounds : Marks → Chain → Type 0
-Bounds g z = (b : Chain) × IsBorderOf g b z
+use Rattle.torus_geom.specs.Border.{border, IsBorderOf}
 
 pub record IsNotCycle (g : Marks) (z : Chain) (x : List ℕ) : Type 0 where
   pub held : border g z x ≡ true

@@ -1,6 +1,7 @@
 //! A chain that is followed through moves of its grid.
 ghost use Rattle.std.specs.Prelude.{◌≡◌, ◌↔◌, ◌<◌, IfOk, IsTrue, OnErr, OnOk};
 ghost use Rattle.state_rank.specs.Bijection.{IsSize};
+ghost use Rattle.torus_geom.specs.Border.{Bounds};
 ghost use Rattle.torus_geom.specs.Chains.{single};
 ghost use Rattle.torus_geom.specs.Front.{minus_state, plus_state};
 ghost use Rattle.torus_geom.specs.Marks.{size};
@@ -8,7 +9,6 @@ ghost use Rattle.grid_moves.specs.Inner.CodeCarried.{turned_chain};
 ghost use Rattle.grid_moves.specs.Moves.{are_commuting, swapped, turned};
 ghost use Rattle.legendrian_class.specs.Followed.{after_commutation, after_turn, at_start};
 ghost use Rattle.legendrian_class.specs.FollowedCodes.{followed_of};
-ghost use Rattle.legendrian_class.specs.Verdicts.{Bounds};
 ghost use Rattle.torus_geom.specs.Codes.{HasRanks};
 
 use f2_chain::{Builder, Chain, CodeSet};
