@@ -14,7 +14,7 @@ use state_rank::State;
 use std::alloc::Global;
 
 /// The exchanges of the circle `a` of `x` with the circles whose bit is set in `odd`, ascending.
-pub(crate) fn exchanges(alloc: Global, x: &State, a: u8, odd: u16) -> TargetStates
+pub fn exchanges(alloc: Global, x: &State, a: u8, odd: u16) -> TargetStates
     requires { a < length x.now }
     ensures items { result.items ≡ in_order x.now a odd }
     ensures capacity { result.capacity ≡ 45 }

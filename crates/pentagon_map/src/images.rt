@@ -167,8 +167,8 @@ fn toggle_targets(
     Ok(())
 }
 
-// The grid whose columns are exchanged.
-fn across(g: &Grid, axis: Axis) -> Grid
+/// The grid whose columns are exchanged.
+pub fn across(g: &Grid, axis: Axis) -> Grid
     ensures grid { result ≡ across_of axis g.now }
     ensures size { size result ≡ size g.now }
 {
@@ -200,8 +200,8 @@ fn targets_across(alloc: Global, t: &Grid, axis: Axis, c: u8, w: u8, x: &State) 
     }
 }
 
-// Bit i of `odd` as bit `columns.row(i)`.
-fn carried_bits(odd: u16, columns: &State) -> u16
+/// Bit i of `odd` as bit `columns.row(i)`.
+pub fn carried_bits(odd: u16, columns: &State) -> u16
     ensures { (d : ℕ) → d < length columns.now → bit_at result (slice_index columns.now d) ≡ bit_at odd d }
 {
     let mut bits = 0u16;

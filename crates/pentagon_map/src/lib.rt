@@ -10,9 +10,9 @@
 //! state 2 3 0 1.
 #![tactic(auto)]
 
-mod exchanges;
-mod images;
-mod pentagons;
+pub mod exchanges;
+pub mod images;
+pub mod pentagons;
 
 pub use images::{image, pentagon_targets};
 

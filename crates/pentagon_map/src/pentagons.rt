@@ -13,8 +13,8 @@ use crate::Corner;
 use state_rank::State;
 use torus_geom::{Grid, Rect, in_range, is_empty, offset, one_down, one_up};
 
-// The row of the crossing that pentagons have as their corner.
-pub(crate) fn crossing_row(g: &Grid, c: u8, corner: Corner) -> u8
+/// The row of the crossing that pentagons have as their corner.
+pub fn crossing_row(g: &Grid, c: u8, corner: Corner) -> u8
     requires { c < size g.now }
     ensures row { result ≡ crossing_row_of g.now c corner }
     ensures below { result < size g.now }
@@ -119,8 +119,8 @@ fn crosses(g: &Grid, c: u8, w: u8, r: &Rect) -> bool
         && !has_mark_in_rows(g, one_down(n, c), one_up(n, w), r.high)
 }
 
-// Whether no column of `r` other than `c - 1` and `c` has a mark in a row of `r`.
-fn is_unmarked_beside(g: &Grid, c: u8, r: &Rect) -> bool
+/// Whether no column of `r` other than `c - 1` and `c` has a mark in a row of `r`.
+pub fn is_unmarked_beside(g: &Grid, c: u8, r: &Rect) -> bool
     requires c_below { c < size g.now }
     requires proper { IsProper (size g.now) r.now }
     ensures { result ≡ is_unmarked_beside_of g.now c r.now }

@@ -40,7 +40,7 @@ use Rattle.torus_geom.proofs.Circles.RectangleLemmas.{corners, border_of_state-n
 use Rattle.torus_geom.proofs.Sums.TabulateLemmas.{filter-none, tabulate-slice_index}
 
 -- the sum of two terms, over two steps
-sum4_xor : (n : ℕ) (f h : ℕ → ℕ → ℕ → ℕ → Bool)
+pub sum4_xor : (n : ℕ) (f h : ℕ → ℕ → ℕ → ℕ → Bool)
     → parity_below n (λ a. parity_below n (λ b. parity_below n (λ c. parity_below n (λ d. f a b c d ⊻ h a b c d))))
     ≡ parity_below n (λ a. parity_below n (λ b. parity_below n (λ c. parity_below n (f a b c))))
     ⊻ parity_below n (λ a. parity_below n (λ b. parity_below n (λ c. parity_below n (h a b c))))
@@ -102,7 +102,7 @@ module _ (n : ℕ) (x : List ℕ) (sx : IsBijection n x) (first second : (ℕ �
       (below n)))))
 
 -- the border of a state of a grid of size n
-border_weight : (h : Marks) (n : ℕ) → size h ≡ n → IsGrid h → (x : List ℕ) → IsBijection n x → (p : ℕ → Bool)
+pub border_weight : (h : Marks) (n : ℕ) → size h ≡ n → IsGrid h → (x : List ℕ) → IsBijection n x → (p : ℕ → Bool)
     → weight p (border_of_state h x)
     ≡ parity_below n (λ a. parity_below n (λ b. is_open n (slice_index h.o) (slice_index h.x) (slice_index x) a b
     && p (rank (swap x a b))))
@@ -121,7 +121,7 @@ leads_nowhere j k s t = by j k s t
     by : (j k : ℕ) (s t : Bool) → (not (eqb j k) && ((eqb 0 j && (eqb 0 k && s)) && t)) ≡ false
     by j k s t = grind arith
 
-none_leads : (n : ℕ) (ok : Rect → Bool) (y : List ℕ)
+pub none_leads : (n : ℕ) (ok : Rect → Bool) (y : List ℕ)
     → is_odd (length (filter (λ r. leads r [] y && ok r) (rectangles n))) ≡ false
 none_leads n ok y =
     is_odd-filter (λ r. leads r [] y && ok r) (rectangles n) ∙ parity-rectangles (λ r. leads r [] y && ok r) n

@@ -40,20 +40,20 @@ module _ (g : Marks) (s : IsGrid g) (c w : ℕ) (lc : c < size g) (lw : w < size
   pentagon_at f a b = is_open_pentagon (size g) (one_down (size g) c) c w (slice_index g.o) (slice_index g.x) f a b
 
   -- rows from j up to k, as comparisons
-  lacks-has_mark : (d j k : ℕ) → d < size g → j < size g → k < size g
+  pub lacks-has_mark : (d j k : ℕ) → d < size g → j < size g → k < size g
       → not (has_mark_in_rows g d j k) ≡ lacks (slice_index g.o) (slice_index g.x) d (between j k)
   lacks-has_mark d j k ld lj lk =
       λ i. not (in_range-between (size g) j k (slice_index g.o d) lj lk (s.o.small d ld) i
       || in_range-between (size g) j k (slice_index g.x d) lj lk (s.x.small d ld) i)
 
-  lacks-above : (d k : ℕ) → d < size g → k < size g → k ≢ w
+  pub lacks-above : (d k : ℕ) → d < size g → k < size g → k ≢ w
       → not (has_mark_in_rows g d (one_up (size g) w) k) ≡ lacks (slice_index g.o) (slice_index g.x) d (above_of w k)
   lacks-above d k ld lk p =
       lacks-has_mark d (one_up (size g) w) k ld (one_up_below (size g) w lw) lk
       ∙ (λ i. not (between-one_up (size g) w k (slice_index g.o d) lw lk (s.o.small d ld) p i
       || between-one_up (size g) w k (slice_index g.x d) lw lk (s.x.small d ld) p i))
 
-  unmarked-beside : (a b j k : ℕ) → a < size g → b < size g → j < size g → k < size g
+  pub unmarked-beside : (a b j k : ℕ) → a < size g → b < size g → j < size g → k < size g
       → is_unmarked_beside g c (corners a b j k)
       ≡ free (size g) (two (one_down (size g) c) c) (between a b)
       (marks (slice_index g.o) (slice_index g.x) (between j k))

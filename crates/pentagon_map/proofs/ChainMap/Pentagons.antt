@@ -42,14 +42,14 @@ module _ (n r s w : ℕ) (O X : ℕ → ℕ) where
     right_is true second = ap (between (p second) (p third)) (sym at0) ∙ span_third p d.apart true second
     right_is false second = ap (between (p third) (p second)) (sym at0) ∙ span_third p d.apart false second
 
-    s-is : (x : Place) → p x ≢ p first → eqb (p x) s ≡ false
-    s-is x q = ne_eqb (p x) s (λ i. q (i ∙ sym at0))
+    pub s-other : (x : Place) → p x ≢ p first → eqb (p x) s ≡ false
+    s-other x q = ne_eqb (p x) s (λ i. q (i ∙ sym at0))
 
     pub left_is : (sg : Bool) (m : Place) → between (start_of p sg m) (end_of p sg m) r ≡ has_left (order_of p) m sg
     left_is true first =
         e.before (p first) (p second) (d.small first) (d.small second) d.apart.ab
         ∙ ap₂ (λ x y. (between (p first) (p second) s && x) || y)
-        (ap (λ z. differ z (p first)) (sym at0) ∙ differ-self (p first)) (s-is second (λ i. d.apart.ab (sym i)))
+        (ap (λ z. differ z (p first)) (sym at0) ∙ differ-self (p first)) (s-other second (λ i. d.apart.ab (sym i)))
         ∙ same 1 (λ x. (x && false) || false) (λ x. false) refl (between (p first) (p second) s)
     left_is false first =
         e.before (p second) (p first) (d.small second) (d.small first) (λ i. d.apart.ab (sym i))
@@ -62,18 +62,18 @@ module _ (n r s w : ℕ) (O X : ℕ → ℕ) where
     left_is false third =
         e.before (p first) (p third) (d.small first) (d.small third) (λ i. d.apart.ca (sym i))
         ∙ ap₂ (λ x y. (between (p first) (p third) s && x) || y)
-        (ap (λ z. differ z (p first)) (sym at0) ∙ differ-self (p first)) (s-is third d.apart.ca)
+        (ap (λ z. differ z (p first)) (sym at0) ∙ differ-self (p first)) (s-other third d.apart.ca)
         ∙ same 1 (λ x. (x && false) || false) (λ x. false) refl (between (p first) (p third) s)
     left_is true second =
         e.before (p second) (p third) (d.small second) (d.small third) d.apart.bc
         ∙ ap₂ (λ x y. (between (p second) (p third) s && x) || y) (differ-true s (p second) (λ i. d.apart.ab (at0 ∙ i)))
-        (s-is third d.apart.ca)
+        (s-other third d.apart.ca)
         ∙ same 1 (λ x. (x && true) || false) (λ x. x) refl (between (p second) (p third) s)
         ∙ right_is true second
     left_is false second =
         e.before (p third) (p second) (d.small third) (d.small second) (λ i. d.apart.bc (sym i))
         ∙ ap₂ (λ x y. (between (p third) (p second) s && x) || y)
-        (differ-true s (p third) (λ i. d.apart.ca (sym (at0 ∙ i)))) (s-is second (λ i. d.apart.ab (sym i)))
+        (differ-true s (p third) (λ i. d.apart.ca (sym (at0 ∙ i)))) (s-other second (λ i. d.apart.ab (sym i)))
         ∙ same 1 (λ x. (x && true) || false) (λ x. x) refl (between (p third) (p second) s)
         ∙ right_is false second
 
@@ -81,8 +81,8 @@ module _ (n r s w : ℕ) (O X : ℕ → ℕ) where
     corner_is true first = ap (λ x. x || eqb (p second) s) (eq-eqb (p first) s at0)
     corner_is false first = ap (λ x. eqb (p second) s || x) (eq-eqb (p first) s at0)
         ∙ same 1 (λ x. x || true) (λ x. true) refl (eqb (p second) s)
-    corner_is true second = ap₂ (λ x y. x || y) (s-is second (λ i. d.apart.ab (sym i))) (s-is third d.apart.ca)
-    corner_is false second = ap₂ (λ x y. x || y) (s-is third d.apart.ca) (s-is second (λ i. d.apart.ab (sym i)))
+    corner_is true second = ap₂ (λ x y. x || y) (s-other second (λ i. d.apart.ab (sym i))) (s-other third d.apart.ca)
+    corner_is false second = ap₂ (λ x y. x || y) (s-other third d.apart.ca) (s-other second (λ i. d.apart.ab (sym i)))
     corner_is true third = ap (λ x. eqb (p third) s || x) (eq-eqb (p first) s at0)
         ∙ same 1 (λ x. x || true) (λ x. true) refl (eqb (p third) s)
     corner_is false third = ap (λ x. x || eqb (p third) s) (eq-eqb (p first) s at0)

@@ -168,11 +168,11 @@ where_is q d w = go (which (at first) (at second) (at third) (one_arc q d w))
     )
 
 -- ---- a range of rows about w: h tells of a set of rows whether it has no row of R, k whether it has none of L
-turn_next : (a b c : ℕ) → a ≢ b → b ≢ c → c ≢ a → is_cyclic b c a ≡ is_cyclic a b c
-turn_next a b c p q r = grind arith
+pub is_cyclic-next : (a b c : ℕ) → a ≢ b → b ≢ c → c ≢ a → is_cyclic b c a ≡ is_cyclic a b c
+is_cyclic-next a b c p q r = grind arith
 
-turn_back : (a b c : ℕ) → a ≢ b → b ≢ c → c ≢ a → is_cyclic a c b ≡ not (is_cyclic a b c)
-turn_back a b c p q r = grind arith
+pub is_cyclic-back : (a b c : ℕ) → a ≢ b → b ≢ c → c ≢ a → is_cyclic a c b ≡ not (is_cyclic a b c)
+is_cyclic-back a b c p q r = grind arith
 
 record Met (a x e : ℕ) : Type 0 where
   ax : a ≢ x
@@ -181,7 +181,7 @@ record Met (a x e : ℕ) : Type 0 where
   order : is_cyclic a x e ≡ true
 
 met_next : (a x e : ℕ) → Met a x e → Met x e a
-met_next a x e d = record { ax = d.xe; xe = d.ea; ea = d.ax; order = turn_next a x e d.ax d.xe d.ea ∙ d.order }
+met_next a x e d = record { ax = d.xe; xe = d.ea; ea = d.ax; order = is_cyclic-next a x e d.ax d.xe d.ea ∙ d.order }
 
 met : (q : Place → ℕ) → AreApart q → order_of q ≡ true → Met (q first) (q second) (q third)
 met q d h = record { ax = d.ab; xe = d.bc; ea = d.ca; order = h }
@@ -192,7 +192,7 @@ met_back q d h =
       ax = λ e. d.ca (sym e);
       xe = λ e. d.bc (sym e);
       ea = λ e. d.ab (sym e);
-      order = turn_back (q first) (q second) (q third) d.ab d.bc d.ca ∙ ap not h;
+      order = is_cyclic-back (q first) (q second) (q third) d.ab d.bc d.ca ∙ ap not h;
     }
 
 whole : (a x e w : ℕ) → Met a x e → between a e w ≡ (between a x w || between x e w)

@@ -31,11 +31,11 @@ beq_from true false h = h
 beq_from false true h = h
 beq_from false false h = refl
 
-off : (w k i : ℕ) → between w k i ≡ false → above_of w k i ≡ false
-off w k i h = ap (λ z. z && differ i w) h
+pub above_of-out : (w k i : ℕ) → between w k i ≡ false → above_of w k i ≡ false
+above_of-out w k i h = ap (λ z. z && differ i w) h
 
-at_itself : (w k : ℕ) → above_of w k w ≡ false
-at_itself w k = ap (λ z. between w k w && z) (differ-self w) ∙ and-false (between w k w)
+pub above_of-start : (w k : ℕ) → above_of w k w ≡ false
+above_of-start w k = ap (λ z. between w k w && z) (differ-self w) ∙ and-false (between w k w)
 
 to_itself : (w i : ℕ) → above_of w w i ≡ false
 to_itself w i = ap (λ z. z && differ i w) (between_same w i)
@@ -68,8 +68,8 @@ module _ (g : Marks) (s : IsGrid g) (c : ℕ) (lc : c < size g) (h : are_commuti
       let d = HasFourRows-commuting g c lc h in
       record { op = s.apart b lb; oq = d.o-x; ot = d.o-o; pq = d.x-x; pt = d.x-o; qt = λ e. s.apart c lc (sym e) }
 
-  apart : beq (between o p t) (between o p q) ≡ true
-  apart =
+  pub none_or_both : beq (between o p t) (between o p q) ≡ true
+  none_or_both =
       beq_from _ _
       (sym (λ i. are_same (in_range-between n o p t (s.o.small b lb) (s.x.small b lb) (s.o.small c lc) i)
       (in_range-between n o p q (s.o.small b lb) (s.x.small b lb) (s.x.small c lc) i))
@@ -77,19 +77,19 @@ module _ (g : Marks) (s : IsGrid g) (c : ℕ) (lc : c < size g) (h : are_commuti
 
   over_at : (z : Bool) → between o q t ≡ z → IsCrossing g c (cond z t q)
   over_at true e =
-      let k = first_at_t o p q t four_rows apart e in
-      record { o-o = to_itself t o; o-x = to_itself t p; x-o = off t q o k.1; x-x = off t q p k.0 }
+      let k = first_at_t o p q t four_rows none_or_both e in
+      record { o-o = to_itself t o; o-x = to_itself t p; x-o = above_of-out t q o k.1; x-x = above_of-out t q p k.0 }
   over_at false e =
-      let k = first_at_q o p q t four_rows apart e in
-      record { o-o = off q t o k.1; o-x = off q t p k.0; x-o = to_itself q o; x-x = to_itself q p }
+      let k = first_at_q o p q t four_rows none_or_both e in
+      record { o-o = above_of-out q t o k.1; o-x = above_of-out q t p k.0; x-o = to_itself q o; x-x = to_itself q p }
 
   under_at : (z : Bool) → between t p o ≡ z → IsCrossing g c (cond z p o)
   under_at true e =
-      let k = last_at_p o p q t four_rows apart e in
-      record { o-o = off p t o k.0; o-x = at_itself p t; x-o = off p q o k.1; x-x = at_itself p q }
+      let k = last_at_p o p q t four_rows none_or_both e in
+      record { o-o = above_of-out p t o k.0; o-x = above_of-start p t; x-o = above_of-out p q o k.1; x-x = above_of-start p q }
   under_at false e =
-      let k = last_at_o o p q t four_rows apart e in
-      record { o-o = at_itself o t; o-x = off o t p k.0; x-o = at_itself o q; x-x = off o q p k.1 }
+      let k = last_at_o o p q t four_rows none_or_both e in
+      record { o-o = above_of-start o t; o-x = above_of-out o t p k.0; x-o = above_of-start o q; x-x = above_of-out o q p k.1 }
 
   -- where `Over` is
   pub crossing_row-over : crossing_row g c Over ≡ cond (between o q t) t q

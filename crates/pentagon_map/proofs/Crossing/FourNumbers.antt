@@ -24,7 +24,7 @@ other x y = x ⊻ y
 abbrev line : Bool → Bool → Bool → Bool
 line ab bc ac = not (ab && (bc && not ac)) && not (not ab && (not bc && ac))
 
-orders : Table 12
+unfoldable pub orders : Table 12
 orders op po oq qo ot to pq qp pt tp qt tq =
     (other op po && (other oq qo && (other ot to && (other pq qp && (other pt tp && other qt tq)))))
     && (line op pq oq && (line op pt ot && (line oq qt ot && line pq qt pt)))
@@ -85,10 +85,10 @@ module _ (o p q t : ℕ) (d : AreFourRows o p q t) where
   tq : t ≢ q
   tq e = d.qt (sym e)
 
-  orders_hold : orders (ltb o p) (ltb p o) (ltb o q) (ltb q o) (ltb o t) (ltb t o) (ltb p q) (ltb q p) (ltb p t)
+  pub four_orders_hold : orders (ltb o p) (ltb p o) (ltb o q) (ltb q o) (ltb o t) (ltb t o) (ltb p q) (ltb q p) (ltb p t)
       (ltb t p) (ltb q t) (ltb t q) ≡ true
   unfolding orders
-  orders_hold =
+  four_orders_hold =
       and_from _ _
       (and_from _ _ (other_holds o p d.op)
       (and_from _ _ (other_holds o q d.oq)
@@ -105,7 +105,7 @@ module _ (o p q t : ℕ) (d : AreFourRows o p q t) where
       (λ i. first_told (between_other o p t to tp i) (between_other o p q qo qp i) (between_other o q t to tq i)
       (between_other t q p d.pt d.pq i) (between_other t q o d.ot d.oq i) (between_other q t p d.pq d.pt i)
       (between_other q t o d.oq d.ot i))
-      ∙ given _ _ orders_hold (first_holds (ltb o p) (ltb p o) (ltb o q) (ltb q o) (ltb o t) (ltb t o) (ltb p q)
+      ∙ given _ _ four_orders_hold (first_holds (ltb o p) (ltb p o) (ltb o q) (ltb q o) (ltb o t) (ltb t o) (ltb p q)
       (ltb q p) (ltb p t) (ltb t p) (ltb q t) (ltb t q))
 
   last_is : last_told (between o p t) (between o p q) (between t p o) (between p t o) (between p q o) (between o t p)
@@ -115,10 +115,10 @@ module _ (o p q t : ℕ) (d : AreFourRows o p q t) where
       (λ i. last_told (between_other o p t to tp i) (between_other o p q qo qp i) (between_other t p o d.ot d.op i)
       (between_other p t o d.op d.ot i) (between_other p q o d.op d.oq i) (between_other o t p po d.pt i)
       (between_other o q p po d.pq i))
-      ∙ given _ _ orders_hold (last_holds (ltb o p) (ltb p o) (ltb o q) (ltb q o) (ltb o t) (ltb t o) (ltb p q)
+      ∙ given _ _ four_orders_hold (last_holds (ltb o p) (ltb p o) (ltb o q) (ltb q o) (ltb o t) (ltb t o) (ltb p q)
       (ltb q p) (ltb p t) (ltb t p) (ltb q t) (ltb t q))
 
-  both_false : (x y : Bool) → (not x && not y) ≡ true → (x ≡ false) × (y ≡ false)
+  pub both_false : (x y : Bool) → (not x && not y) ≡ true → (x ≡ false) × (y ≡ false)
   both_false x y h = let (u, v) = and_parts (not x) (not y) h in (not-true x u, not-true y v)
 
   module _ (apart : beq (between o p t) (between o p q) ≡ true) where

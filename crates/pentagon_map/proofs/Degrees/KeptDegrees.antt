@@ -73,7 +73,7 @@ module _ (g : Marks) (s : IsGrid g) (c : ℕ) (lc : c < size g) (h : are_commuti
   crossing = crossing_row_IsCrossing g s c lc h corner
 
   -- no point of the state is inside, as a count
-  none_within : (a b : ℕ) → is_clear_of n f a b (f a) (f b) ≡ true → points_within n f a b (f a) (f b) ≡ pos 0
+  pub none_within : (a b : ℕ) → is_clear_of n f a b (f a) (f b) ≡ true → points_within n f a b (f a) (f b) ≡ pos 0
   none_within a b e =
       sum_below_vanishes n _ (λ t l. ap one_if (not-true _
       (at_all_below n (λ t. not (is_between a b t && is_between (f a) (f b) (f t))) e t l)))
@@ -144,8 +144,8 @@ module _ (g : Marks) (s : IsGrid g) (c : ℕ) (lc : c < size g) (h : are_commuti
       none_of_two false v w h = (refl, refl)
 
   -- the exchange along a rectangle
-  exchange : (a b : ℕ) → a < n → b < n → a ≢ b → IsExchange n a b (f a) (f b) f (slice_index (swap x a b))
-  exchange a b la lb p =
+  pub IsExchange-swap : (a b : ℕ) → a < n → b < n → a ≢ b → IsExchange n a b (f a) (f b) f (slice_index (swap x a b))
+  IsExchange-swap a b la lb p =
       let long = sx.long in
       let la' : a < length x = omega arith in
       let lb' : b < length x = omega arith in
@@ -171,7 +171,7 @@ module _ (g : Marks) (s : IsGrid g) (c : ℕ) (lc : c < size g) (h : are_commuti
       ∙ ap (λ (k : ℕ → ℕ). maslov_by_pairs n k (slice_index (swap x a b)))
       (slice_index-exchanged o r c (omega arith) (omega arith))
       ∙ maslov-pentagon n (slice_index o) f (slice_index (swap x a b)) (one_to_one n o so)
-      (one_to_one n x sx) c w a b lc s.is_size.least d (exchange a b d.a_below d.b_below d.apart)
+      (one_to_one n x sx) c w a b lc s.is_size.least d (IsExchange-swap a b d.a_below d.b_below d.apart)
       ∙ sym (maslov-by_pairs n o x so sx)
 
   -- a state of the image comes by a pentagon

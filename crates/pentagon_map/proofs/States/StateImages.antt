@@ -123,7 +123,7 @@ states_of-image_of_state axis g s c corner x sx =
 
 -- ---- laws
 -- where the size has another name
-states_of-image_at : (axis : Axis) (g : Marks) → IsGrid g → (n : ℕ) → size g ≡ n → (c : ℕ) (corner : Corner) (z : Codes)
+pub states_of-image_at : (axis : Axis) (g : Marks) → IsGrid g → (n : ℕ) → size g ≡ n → (c : ℕ) (corner : Corner) (z : Codes)
     → AreRanks n z → states_of n (over_codes.image axis g c corner z) ≡ image axis g c corner (states_of n z)
 states_of-image_at axis g s n e c corner z =
     let P : ℕ → Type 0 =

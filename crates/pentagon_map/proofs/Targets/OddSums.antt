@@ -36,7 +36,7 @@ use Rattle.pentagon_map.specs.Pentagon.{crossing_row, has_mark_in_rows, is_unmar
 use Rattle.pentagon_map.specs.declared.Corner.{Corner}
 
 -- a sum over two circles one of which is c
-cross_sum : (n c : ℕ) (Q : ℕ → ℕ → Bool) → c < n → ((a b : ℕ) → a < n → b < n → a ≢ c → b ≢ c → Q a b ≡ false)
+pub cross_sum : (n c : ℕ) (Q : ℕ → ℕ → Bool) → c < n → ((a b : ℕ) → a < n → b < n → a ≢ c → b ≢ c → Q a b ≡ false)
     → Q c c ≡ false
     → parity_below n (λ a. parity_below n (λ b. Q a b)) ≡ parity_below n (λ b. Q c b ⊻ Q b c)
 cross_sum n c Q lc off here =
@@ -58,7 +58,7 @@ cross_sum n c Q lc off here =
     ∙ sym (parity-xor (λ b. Q c b) (λ b. Q b c) (below n))
 
 -- the exchange of two circles, in either order
-swap_comm : (n : ℕ) (x : List ℕ) → IsBijection n x → (a b : ℕ) → a < n → b < n → swap x a b ≡ swap x b a
+pub swap_comm : (n : ℕ) (x : List ℕ) → IsBijection n x → (a b : ℕ) → a < n → b < n → swap x a b ≡ swap x b a
 swap_comm n x sx a b la lb =
     let e = sx.long in
     same_list n (swap x a b) (swap x b a) (IsBijection-swap n x a b la lb sx).long
