@@ -1,2 +1,4 @@
 pub mod HomologyLemmas
 pub mod BorderLaws
+pub mod CorankLemmas
+pub mod GridCells

@@ -1,2 +1,3 @@
+pub mod CodeCoranks
 pub mod Heights
 pub mod Open

@@ -1,2 +1,3 @@
+pub mod Coranks
 pub mod FirstMarks
 pub mod Inner

@@ -1,7 +1,9 @@
 //! Laws of rectangles, each the contract of a call that answers nothing.
-ghost use Rattle.std.specs.Prelude.{◌≡◌, ◌≢◌, ◌<◌, length, slice_index, swap, pos, ◌+ℤ◌, ◌-ℤ◌, ◌*ℤ◌};
+ghost use Rattle.std.specs.Prelude.{◌≡◌, ◌≢◌, ◌↔◌, ◌<◌, ℕ, ℤ, length, slice_index, swap, pos, ◌+ℤ◌, ◌-ℤ◌, ◌*ℤ◌};
 ghost use Rattle.torus_geom.specs.Marks.{size};
 ghost use Rattle.torus_geom.specs.Degrees.{maslov_o, maslov_x, marks_in, points_inside};
+ghost use Rattle.torus_geom.specs.Homology.{IsHomologyRank};
+ghost use Rattle.rectangles.specs.Coranks.{IsCorank};
 
 use state_rank::State;
 use torus_geom::{Grid, Rect};
@@ -34,4 +36,14 @@ pub fn rect_degrees(g: &Grid, x: &State, r: &Rect)
     let _ = g.size();
     let _ = x.size();
     let _ = r;
+}
+
+/// Cohomology has the ranks of homology: in each degree of each grid, as many cocycles modulo coboundaries
+/// as cycles modulo boundaries.
+///
+/// The coborder of a cochain has the states whose border pairs oddly with it, and raises the Maslov degree.
+pub fn coranks(g: &Grid)
+    ensures corank { (m a : ℤ) (d : ℕ) → IsCorank g.now m a d ↔ IsHomologyRank g.now m a d }
+{
+    let _ = g.size();
 }

@@ -45,7 +45,7 @@ use Rattle.homology_cert.specs.CertificateTests.{same_degree, one_below}
 use Rattle.homology_cert.specs.Inner.CodeTests.{has_bidegree, all_have, state_count_at, is_empty_chain, is_cocycle, verdict_of, certified_rows}
 use Rattle.homology_cert.specs.declared.verdicts.CertVerdict.TheVariants.{Yes}
 use Rattle.cancel.proofs.MapLemmas.{IsApart-pairs}
-use Rattle.homology_cert.proofs.Homology.LawLemmas.{any-ascending}
+use Rattle.rectangles.proofs.Homology.GridCells.{has_all_cells}
 use Rattle.homology_cert.proofs.Certified.PassingLemmas.{PassesCycle, PassesStep, PassesCell, ArePairedApart, member_of_all, passes_of_yes}
 use Rattle.f2_algebra.proofs.Chains.Cardinality.{cardinality-length, cardinality-of_codes}
 
@@ -168,20 +168,11 @@ module _ (g : Marks) (grid : IsGrid g) where
       )
 
   -- ---- the states of a bidegree
-  in_states : (s : ℕ) → is_some (G.degree s) ≡ true → any s (ascending (factorial (size g))) ≡ true
-  in_states s live = any-ascending (factorial (size g)) s (below (nat_lt s (factorial (size g))) refl)
-    where
-      below : (b : Bool) → nat_lt s (factorial (size g)) ≡ b → s < factorial (size g)
-      below true e = ltb-true s (factorial (size g)) e
-      below false e =
-          absurd (false≢true (sym (ap (λ b. is_some (if b then Some (bidegree g (unrank (size g) s)) else None)) e)
-          ∙ live))
-
   -- the cells of a bidegree are as many as the states that are counted
   pub cells_at : (d : ℤ × ℤ) → (cells : Chain) × IsAllCells G d cells × (length (codes cells) ≡ state_count_at g d)
   cells_at d = (
     cells_of same_degree same_degree-is G xs d,
-    cells_of-all same_degree same_degree-is G xs in_states d,
+    cells_of-all same_degree same_degree-is G xs (has_all_cells g) d,
     sym (cardinality-length _) ∙ cardinality-of_codes (filter (λ s. has_degree_in same_degree d (G.degree s)) xs) apart
         ∙ count-same (λ s. has_degree_in same_degree d (G.degree s)) (has_bidegree g d) xs
         (λ s inside. ap (has_degree_in same_degree d)

@@ -17,41 +17,14 @@ use Rattle.torus_geom.specs.Inner.CodeHomology.{IsHomologyRank, IsHomologyTable}
 use Rattle.f2_algebra.specs.Bigraded.{StandsBefore}
 use Rattle.f2_algebra.proofs.Ranks.OrderLemmas.{StandsBefore-asymmetric}
 use Rattle.torus_geom.specs.Homology.{Row}
+use Rattle.rectangles.proofs.Homology.GridCells.{same_bidegree, same_bidegree-is, has_all_cells}
 use Rattle.rectangles.proofs.Law.GridComplexLemmas.{grid_complex_rules}
 
 -- ---- each bidegree has a rank
-same_bidegree : ℤ × ℤ → ℤ × ℤ → Bool
-same_bidegree p q = int_eq p.0 q.0 && int_eq p.1 q.1
-
-same_bidegree-is : (p q : ℤ × ℤ) → (same_bidegree p q ≡ true) ↔ (p ≡ q)
-unfolding same_bidegree
-same_bidegree-is p q = (
-  λ h.
-      let (first, second) = and_parts (int_eq p.0 q.0) (int_eq p.1 q.1) h in
-      let e = (Decides-int_eq p.0 q.0).0 first in
-      let f = (Decides-int_eq p.1 q.1).0 second in
-      λ i. (e i, f i),
-  λ e. and_from (int_eq p.0 q.0) (int_eq p.1 q.1) ((Decides-int_eq p.0 q.0).1 (ap (λ (t : ℤ × ℤ). t.0) e))
-      ((Decides-int_eq p.1 q.1).1 (ap (λ (t : ℤ × ℤ). t.1) e)),
-)
-
--- the rank of a state is among the numbers below the number of states
-pub any-ascending : (n s : ℕ) → s < n → any s (ascending n) ≡ true
-any-ascending n s within = any-Contains (ascending n) s (Contains-ascending n s within)
-
 pub some_homology_rank : (g : Marks) → IsGrid g → (m a : ℤ) → (d : ℕ) × IsHomologyRank g m a d
 some_homology_rank g grid m a =
     exists_rank same_bidegree same_bidegree-is (grid_complex g) (grid_complex_rules g grid)
-    (ascending (factorial (size g)))
-    (λ s live. any-ascending (factorial (size g)) s (below s live)) (m, a)
-  where
-    of_state : (s : ℕ) (b : Bool) → is_some (if b then Some (bidegree g (unrank (size g) s)) else None) ≡ true
-        → b ≡ true
-    of_state s true h = refl
-    of_state s false h = h
-
-    below : (s : ℕ) → is_some ((grid_complex g).degree s) ≡ true → s < factorial (size g)
-    below s live = ltb-true s (factorial (size g)) (of_state s _ live)
+    (ascending (factorial (size g))) (has_all_cells g) (m, a)
 
 -- ---- lists in order with the same elements
 module _ {A : Type 0} (R : A → A → Type 0) (one_way : (x y : A) → R x y → R y x → ⊥) where

@@ -228,7 +228,7 @@ components-swapped_columns g s c lc =
     (λ d l. at g.x s.x.long d ∙ sym (row-column_after g s d l) ∙ sym (at g.o refl (column_after g d)))
 
 -- ---- rows
-maslov-transposed : (n : ℕ) (o x : List ℕ) → IsBijection n o → IsBijection n x
+pub maslov-transposed : (n : ℕ) (o x : List ℕ) → IsBijection n o → IsBijection n x
     → maslov n (transpose o) (transpose x) ≡ maslov n o x
 maslov-transposed n o x bo bx =
     maslov-by_pairs n (transpose o) (transpose x) (IsBijection-transposed n o bo) (IsBijection-transposed n x bx)

@@ -28,7 +28,7 @@ use Rattle.pentagon_map.specs.declared.Corner.{Corner}
 use Rattle.pentagon_map.specs.declared.Corner.TheVariants.{Over, Under}
 
 -- transposing carries the upper right corners to those of the transposed grid
-plus_state-transposed : (g : Marks) → IsGrid g → transpose (plus_state g) ≡ plus_state (transposed g)
+pub plus_state-transposed : (g : Marks) → IsGrid g → transpose (plus_state g) ≡ plus_state (transposed g)
 plus_state-transposed g s =
     let n : ℕ = size g in
     let y : List ℕ = plus_state g in
