@@ -1,0 +1,2 @@
+pub mod MarksInHexagon
+pub mod HexagonDegrees

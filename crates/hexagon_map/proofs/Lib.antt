@@ -1,0 +1,5 @@
+mod Examples
+pub mod WayBack
+pub mod Targets
+pub mod Degrees
+pub mod States

@@ -1,0 +1,2 @@
+pub mod StateHomotopies
+pub mod RaisedDegrees

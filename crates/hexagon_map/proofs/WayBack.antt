@@ -1,0 +1,11 @@
+pub mod RotatedRows
+pub mod RowFacts
+pub mod HexagonTables
+pub mod RowShapes
+pub mod Hexagons
+pub mod ThinHexagons
+pub mod QuietRows
+pub mod HexagonSums
+pub mod HomotopyOfColumns
+pub mod HomotopyByAxis
+pub mod SameHomology

@@ -1,0 +1,2 @@
+pub mod CodeHomotopies
+pub mod Hexagons
