@@ -7,7 +7,7 @@
 use Rattle.std.specs.Prelude.{◌≡◌, ℕ, ◌-◌, List, map, Option, MatchOption}
 use Rattle.hat_division.specs.Product.{IsQuotient}
 use Rattle.hat_division.specs.declared.tables.TableRow.{TableRow}
-use Rattle.homology_cert.specs.Tables.{homology_row}
+use Rattle.hat_division.specs.Table.{homology_row}
 use Rattle.report_text.specs.Lines.{hat_lines}
 use Rattle.torus_geom.specs.Components.{components}
 use Rattle.torus_geom.specs.Homology.{IsHomologyTable}

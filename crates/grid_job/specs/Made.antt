@@ -13,7 +13,7 @@ use Rattle.torus_geom.specs.Front.{thurston_bennequin, rotation}
 use Rattle.torus_geom.specs.Homology.{IsHomologyTable}
 use Rattle.torus_geom.specs.Marks.{Marks}
 use Rattle.hat_division.specs.declared.tables.TableRow.{TableRow}
-use Rattle.homology_cert.specs.Tables.{homology_row}
+use Rattle.hat_division.specs.Table.{homology_row}
 use Rattle.legendrian_class.specs.Verdicts.{IsNull, IsAlive}
 use Rattle.text_lines.specs.Lines.{line}
 use Rattle.report_text.specs.Lines.{verdict_word}

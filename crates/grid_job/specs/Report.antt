@@ -6,7 +6,7 @@
 --     IsReport s text          the same for the grid and the commands of a script, and the empty chain
 use Rattle.std.specs.Prelude.{◌≡◌, List, ℕ, [], ◌∷◌, ◌++◌, map, codes}
 use Rattle.hat_division.specs.declared.tables.TableRow.{TableRow}
-use Rattle.homology_cert.specs.Tables.{homology_row}
+use Rattle.hat_division.specs.Table.{homology_row}
 use Rattle.report_text.specs.Lines.{front_line, table_lines}
 use Rattle.text_lines.specs.Lines.{line, chain_line}
 use Rattle.torus_geom.specs.Border.{border}

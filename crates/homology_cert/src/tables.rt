@@ -2,7 +2,8 @@
 ghost use Rattle.std.specs.Prelude.{◌≡◌, ◌<◌, ◌^◌, ℕ, ℤ, List, map, All, IfOk};
 ghost use Rattle.torus_geom.specs.Homology.{Row, IsHomologyRank, IsHomologyTable};
 ghost use Rattle.torus_geom.specs.Inner.CodeHomology.{IsHomologyTable as IsCodeTable};
-ghost use Rattle.homology_cert.specs.Tables.{homology_row, HasSmallDegrees, HasSmallRank};
+ghost use Rattle.hat_division.specs.Table.{homology_row};
+ghost use Rattle.homology_cert.specs.Tables.{HasSmallDegrees, HasSmallRank};
 
 use crate::degrees::alexander_degrees;
 use crate::ranks::{Ranks, cells_left, count_cells, rows_of};

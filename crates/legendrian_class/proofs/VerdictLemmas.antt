@@ -1,13 +1,14 @@
 -- Verdicts in the field's words, from those of the grid complex; each chain of states has one, and no two.
-use Rattle.std.proofs.Common.{◌≡◌, ℕ, zero, suc, ◌<◌, ◌≤◌, ℤ, pos, ◌+ℤ◌, Bool, true, false, ◌||◌, eqb, cond, List, [], ◌∷◌, Some, None, if◌then◌else◌, is_some, ltb, inl, inr, refl, sym, ap, ◌∙◌, arith}
-use Rattle.std.proofs.lemmas.Bool.{cases_eq, cases_lt, eq-eqb, lt-ltb, ltb-true, false≢true}
+use Rattle.std.proofs.Common.{◌≡◌, ℕ, ◌<◌, ◌≤◌, ℤ, pos, ◌+ℤ◌, Bool, true, false, cond, Some, None, if◌then◌else◌, is_some, ltb, inl, inr, refl, sym, ap, ◌∙◌, arith}
+use Rattle.std.proofs.lemmas.Bool.{cases_lt, lt-ltb, ltb-true, false≢true}
 use Rattle.f2_algebra.specs.Chain.{Chain, holds, nothing, pairs_oddly}
 use Rattle.f2_algebra.specs.Complex.{AllCells}
 use Rattle.f2_algebra.specs.Bigraded.{up_m}
 use Rattle.f2_algebra.specs.Verdict.{IsNullBy, IsAliveBy}
-use Rattle.f2_algebra.proofs.Chains.Sets.{any, holds-nothing, weight-nothing, pairs_oddly-weight, each_code}
+use Rattle.f2_algebra.proofs.Chains.Sets.{holds-nothing, weight-nothing, pairs_oddly-weight, each_code}
 use Rattle.f2_algebra.proofs.Chains.Lists.{All-codes}
 use Rattle.f2_algebra.proofs.Certificates.Verdict.{even_with_borders, exists_verdict}
+use Rattle.f2_algebra.proofs.Ranks.Existence.{codes_below, any-codes_below}
 use Rattle.state_rank.specs.States.{factorial, unrank}
 use Rattle.torus_geom.specs.Marks.{Marks, size, IsGrid}
 use Rattle.torus_geom.specs.Inner.CodeBorder.{border_of_state, border}
@@ -109,25 +110,6 @@ one_verdict g grid z = record {
 }
 
 -- ---- one
-codes_below : ℕ → List ℕ
-codes_below zero = []
-codes_below (suc n) = n ∷ codes_below n
-
-any-codes_below : (n s : ℕ) → s < n → any s (codes_below n) ≡ true
-unfolding codes_below
-any-codes_below zero s l = absurd (omega arith)
-any-codes_below (suc n) s l = elim (cases_eq s n) [
-  | inl same ↦ ap (λ b. b || any s (codes_below n)) (eq-eqb s n same)
-  | inr other ↦ ap (λ b. eqb s n || b) (any-codes_below n s (below other)) ∙ either (eqb s n)
-]
-  where
-    below : (s ≡ n → ⊥) → s < n
-    below other = grind arith
-
-    either : (b : Bool) → (b || true) ≡ true
-    either true = refl
-    either false = refl
-
 cell_below : (g : Marks) (s : ℕ) (b : Bool) → is_some (if b then Some (bidegree g (unrank (size g) s)) else None) ≡ true
     → b ≡ true
 cell_below g s true h = refl

@@ -1,6 +1,5 @@
 -- Building a slice: its cells, code by code; their keys; and the arrows, cell by cell.
-use Rattle.std.proofs.Common.{◌≡◌, ℕ, zero, suc, ℤ, ◌+◌, ◌<◌, ◌≤◌, Bool, true, false, not, cond, ◌&&◌, ◌||◌, eqb, ltb, List, [], ◌∷◌, ◌++◌, length, length-append, le_trans, get_or, Some, None, is_some, refl, sym, ap, ap₂, subst, ◌∙◌, arith}
-use Rattle.std.specs.Prelude.{IsTrue, ◌↔◌}
+use Rattle.std.proofs.Common.{◌≡◌, ℕ, zero, suc, ℤ, ◌+◌, ◌<◌, ◌≤◌, Bool, true, false, cond, ◌&&◌, ◌||◌, eqb, ltb, List, [], ◌∷◌, ◌++◌, length, length-append, le_trans, get_or, Some, None, is_some, refl, sym, ap, ap₂, subst, ◌∙◌, arith}
 use Rattle.std.specs.List.Sorted.{IsPermutation}
 use Rattle.std.proofs.lemmas.List.{get_or_default}
 use Rattle.std.proofs.lemmas.Bool.{eq-eqb, eqb-true, lt-ltb, ltb-true, ltb-false}
@@ -9,9 +8,8 @@ use Rattle.std.proofs.lemmas.List.Sorted.{All-permutation, sum_by-IsPermutation,
 use Rattle.std.proofs.lemmas.List.Sums.{sum_by-cons, sum_by-append}
 use Rattle.f2_algebra.specs.Complex.{Complex}
 use Rattle.state_rank.specs.declared.TheConstants.{MAX_SIZE}
-use Rattle.state_rank.specs.States.{rank, unrank, factorial}
+use Rattle.state_rank.specs.States.{factorial}
 use Rattle.state_rank.proofs.LehmerLemmas.{factorial_grows}
-use Rattle.state_rank.proofs.RankLemmas.{length-unrank, rank-unrank}
 use Rattle.sparse_complex.specs.declared.slices.Cell.{Cell}
 use Rattle.sparse_complex.specs.Inner.Graph.{no_cell, code_at}
 use Rattle.sparse_complex.specs.Inner.Stored.{most_keys, maslov_at}
@@ -23,28 +21,6 @@ use Rattle.f2_algebra.proofs.Chains.Tables.{eqb_comm}
 pub states_fit_keys : (n : ℕ) → n ≤ MAX_SIZE → factorial n ≤ most_keys
 unfolding factorial
 states_fit_keys n m = let grown = factorial_grows n MAX_SIZE m in omega arith
-
--- while states are left, x is the state of the rank `code`
-abbrev pub IsVisited : ℕ → ℕ → List ℕ → Type 0
-IsVisited n code x = code < factorial n → x ≡ unrank n code
-
--- the state after a step, or the last state, where there is no step
-pub visited-next : (n code : ℕ) (old new : List ℕ) (went : Bool) → code < factorial n → IsVisited n code old
-    → (IsTrue went → new ≡ unrank (length old) (rank old + 1))
-    → (IsTrue (not went) ↔ (rank old + 1 ≡ factorial (length old))) → IsVisited n (code + 1) new
-visited-next n code old new went below visited steps last more =
-    let old_is = visited below in
-    let long : length old ≡ n = ap length old_is ∙ length-unrank n code below in
-    let place : rank old ≡ code = ap rank old_is ∙ rank-unrank n code below in
-    steps (by went last long place) ∙ (λ i. unrank (long i) (place i + 1))
-  where
-    by : (b : Bool) → (IsTrue (not b) ↔ (rank old + 1 ≡ factorial (length old))) → length old ≡ n → rank old ≡ code
-        → IsTrue b
-    by true last long place = refl
-    by false last long place =
-        let end : rank old + 1 ≡ factorial (length old) = last.0 refl in
-        let bound : factorial (length old) ≡ factorial n = ap factorial long in
-        absurd (omega arith)
 
 -- ---- cells of a code
 pub ltb-next : (c n : ℕ) → ltb c (n + 1) ≡ (ltb c n || eqb c n)

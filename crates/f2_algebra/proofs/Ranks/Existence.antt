@@ -1,6 +1,6 @@
 -- Each finite complex has a log that leaves no arrow, and so a rank in each degree.
 use Rattle.std.proofs.Common.{◌≡◌, ℕ, zero, suc, ◌<◌, ◌≤◌, Bool, true, false, not, cond, ◌&&◌, ◌||◌, eqb, List, [], ◌∷◌, length, Option, Some, None, is_some, ◌↔◌, ◌⊎◌, inl, inr, refl, sym, ap, ap₂, ◌∙◌, arith}
-use Rattle.std.proofs.lemmas.Bool.{eqb-true, eq-eqb, false≢true, and_parts}
+use Rattle.std.proofs.lemmas.Bool.{cases_eq, eqb-true, eq-eqb, false≢true, and_parts}
 use Rattle.std.specs.List.{filter}
 use Rattle.std.proofs.lemmas.List.Sums.{length-filter, count_by-le-length}
 use Rattle.f2_algebra.specs.Chain.{Chain, holds, codes, of_codes, nothing, where_code}
@@ -16,6 +16,28 @@ use Rattle.f2_algebra.specs.Certificate.{IsAllCells}
 abbrev pub HasAllCells : {G : Type 0} → Complex G → List ℕ → Type 0
 HasAllCells C xs = (s : ℕ) → is_some (C.degree s) ≡ true → any s xs ≡ true
 
+-- ---- the codes below n
+unfoldable pub codes_below : ℕ → List ℕ
+codes_below zero = []
+codes_below (suc n) = n ∷ codes_below n
+
+-- each of them stands there
+pub any-codes_below : (n s : ℕ) → s < n → any s (codes_below n) ≡ true
+unfolding codes_below
+any-codes_below zero s l = absurd (omega arith)
+any-codes_below (suc n) s l = elim (cases_eq s n) [
+  | inl same ↦ ap (λ b. b || any s (codes_below n)) (eq-eqb s n same)
+  | inr other ↦ ap (λ b. eqb s n || b) (any-codes_below n s (below other)) ∙ either (eqb s n)
+]
+  where
+    below : (s ≡ n → ⊥) → s < n
+    below other = grind arith
+
+    either : (b : Bool) → (b || true) ≡ true
+    either true = refl
+    either false = refl
+
+-- ---- codes and arrows
 -- a chain has a code, or is empty
 pub some_code : (z : Chain) → ((y : ℕ) × (holds z y ≡ true)) ⊎ (z ≡ nothing)
 some_code z = at_list (codes z) refl

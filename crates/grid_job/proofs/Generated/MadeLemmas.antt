@@ -6,7 +6,7 @@ use Rattle.torus_geom.specs.Front.{thurston_bennequin, rotation}
 use Rattle.torus_geom.specs.Homology.{IsHomologyTable}
 use Rattle.torus_geom.specs.Marks.{Marks, IsGrid}
 use Rattle.hat_division.specs.declared.tables.TableRow.{TableRow}
-use Rattle.homology_cert.specs.Tables.{homology_row}
+use Rattle.hat_division.specs.Table.{homology_row}
 use Rattle.torus_geom.specs.Chains.{Chain}
 use Rattle.legendrian_class.specs.Verdicts.{Verdict, IsVerdict}
 use Rattle.legendrian_class.specs.Verdicts.Verdict.{NotCycle, Null, Alive}

@@ -8,12 +8,11 @@ use Rattle.f2_algebra.specs.Bigraded.{StandsBefore}
 use Rattle.f2_algebra.proofs.Ranks.OrderLemmas.{Decides-stands_before}
 use Rattle.state_rank.specs.Bijection.{ascending}
 use Rattle.state_rank.proofs.OrderLemmas.{length-tabulate}
-use Rattle.hat_division.specs.Table.{bidegree_of, AreOrdered}
+use Rattle.hat_division.specs.Table.{bidegree_of, homology_row, AreOrdered}
 use Rattle.hat_division.specs.Product.{IsQuotient}
 use Rattle.hat_division.specs.Inner.Products.{ArePositive}
 use Rattle.hat_division.specs.declared.tables.TableRow.{TableRow}
 use Rattle.hat_division.proofs.QuotientLemmas.{has_quotient}
-use Rattle.homology_cert.specs.Tables.{homology_row}
 use Rattle.homology_cert.proofs.Homology.StateTables.{exists_homology_table, one_homology_table}
 use Rattle.report_text.specs.Lines.{table_lines, hat_lines}
 use Rattle.torus_geom.specs.Components.{is_first, components}

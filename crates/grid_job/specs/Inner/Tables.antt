@@ -4,7 +4,7 @@ use Rattle.std.specs.Prelude.{List, map}
 use Rattle.std.specs.List.{All}
 use Rattle.hat_division.specs.Product.{IsSmall}
 use Rattle.hat_division.specs.declared.tables.TableRow.{TableRow}
-use Rattle.homology_cert.specs.Tables.{homology_row}
+use Rattle.hat_division.specs.Table.{homology_row}
 use Rattle.torus_geom.specs.Homology.{IsHomologyTable}
 use Rattle.torus_geom.specs.Marks.{Marks}
 

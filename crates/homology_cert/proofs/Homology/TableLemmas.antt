@@ -35,11 +35,11 @@ use Rattle.torus_geom.specs.Inner.GridComplex.{grid_complex}
 use Rattle.torus_geom.specs.Inner.CodeHomology.{IsHomologyRank, IsHomologyTable}
 use Rattle.torus_geom.specs.Homology.{Row}
 use Rattle.sparse_complex.specs.declared.slices.Cell.{Cell}
-use Rattle.hat_division.specs.Table.{bidegree_of, IsTable}
+use Rattle.hat_division.specs.Table.{bidegree_of, homology_row, IsTable}
 use Rattle.hat_division.specs.declared.tables.TableRow.{TableRow}
 use Rattle.gradings.specs.Degrees.{IsSmallDegree}
 use Rattle.rectangles.proofs.Homology.HomologyLemmas.{degree_if}
-use Rattle.homology_cert.specs.Tables.{homology_row, HasSmallDegrees}
+use Rattle.homology_cert.specs.Tables.{HasSmallDegrees}
 use Rattle.gradings.specs.Degrees.{bidegree_cmp}
 use Rattle.homology_cert.specs.Inner.Ranks.{key_of, Ranks, rank_in, AreSmall, HasHomology, HasDegrees, HasRanks, AreCounted, IsTold, IsDone, AreRows}
 use Rattle.homology_cert.proofs.Homology.CountLemmas.{told-counted, told-other}

@@ -5,7 +5,7 @@ use Rattle.state_rank.proofs.LehmerLemmas.{factorial_positive}
 use Rattle.state_rank.proofs.RankLemmas.{length-unrank}
 use Rattle.torus_geom.specs.Marks.{size}
 use Rattle.torus_geom.specs.Degrees.{maslov_o, alexander}
-use Rattle.sparse_complex.proofs.BuildLemmas.{visited-next}
+use Rattle.state_rank.proofs.VisitLemmas.{visited-next}
 use Rattle.homology_cert.specs.Inner.Making.{HasBidegrees}
 use Rattle.homology_cert.proofs.Made.MakingLemmas.{bidegrees-none, bidegrees-next}
 use Rattle.homology_cert.proofs.making.bidegrees.Goals as goal

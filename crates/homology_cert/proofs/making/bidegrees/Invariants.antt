@@ -1,6 +1,6 @@
 -- The states so far, and the state whose turn it is.
 use Rattle.torus_geom.specs.Marks.{size}
-use Rattle.sparse_complex.proofs.BuildLemmas.{IsVisited}
+use Rattle.state_rank.proofs.VisitLemmas.{IsVisited}
 use Rattle.homology_cert.specs.Inner.Making.{HasBidegrees}
 use Rattle.homology_cert.proofs.making.bidegrees.Given as goal
 

@@ -2,7 +2,7 @@
 use Rattle.std.proofs.Common.{map}
 use Rattle.std.proofs.lemmas.Result.{IfOk-weaker}
 use Rattle.rectangles.proofs.Homology.HomologyLemmas.{homology_table-states}
-use Rattle.homology_cert.specs.Tables.{homology_row}
+use Rattle.hat_division.specs.Table.{homology_row}
 use Rattle.homology_cert.proofs.Homology.StateTables.{one_homology_rank, one_homology_table, some_homology_rank}
 use Rattle.homology_cert.proofs.tables.rank_table.Goals as goal
 

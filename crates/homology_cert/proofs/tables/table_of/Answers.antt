@@ -7,7 +7,8 @@ use Rattle.state_rank.proofs.MemberLemmas.{member_head}
 use Rattle.sparse_complex.specs.declared.slices.Cell.{Cell}
 use Rattle.torus_geom.specs.Inner.CodeHomology.{IsHomologyTable}
 use Rattle.gradings.specs.Degrees.{bidegree_cmp}
-use Rattle.homology_cert.specs.Tables.{homology_row, HasSmallDegrees, HasSmallRank}
+use Rattle.hat_division.specs.Table.{homology_row}
+use Rattle.homology_cert.specs.Tables.{HasSmallDegrees, HasSmallRank}
 use Rattle.homology_cert.specs.Inner.Ranks.{key_of, HasRanks, AreCounted, AreRows}
 use Rattle.homology_cert.proofs.Homology.DegreeLemmas.{small-degrees}
 use Rattle.homology_cert.proofs.Homology.TableLemmas.{AreLeft, done-none, done-next, rows-homology_table, rows-small, rows-homology}
