@@ -10,6 +10,7 @@ use f2_chain::{Builder, Chain};
 use grid_ports::NoMemory;
 use grid_text::{Command, StateList};
 use legendrian_class::Follower;
+use stabilise::{destabilise, stabilise};
 use std::alloc::Global;
 
 /// Goes past a command. Where memory runs out, grid and chain are as before.
@@ -22,6 +23,10 @@ pub(crate) fn follow(alloc: Global, p: &mut Follower, command: &Command) -> Resu
         Command::Chain(states) => p.set(chain_of(alloc, states)?),
         Command::Turn(side) => p.turn(alloc, *side)?,
         Command::Commute(axis, c, corner) => p.commute(alloc, *axis, *c, *corner)?,
+        Command::Stab(c, empty) => *p = Follower::new(alloc, &stabilise(p.grid(), *c, *empty)),
+        Command::Destab(c, r, empty) => {
+            *p = Follower::new(alloc, &destabilise(p.grid(), *c, *r, *empty));
+        }
         _ => {}
     }
     Ok(())

@@ -109,7 +109,11 @@ fn answer_to(
         Command::Class(sign) => class_lines(alloc, g, *sign),
         Command::Show => set_line(alloc, "chain", g.size(), p.chain()),
         Command::Bounds => bounds_lines(alloc, g, p.chain()),
-        Command::Chain(_) | Command::Turn(_) | Command::Commute(_, _, _) => Ok(Vec::new(alloc)),
+        Command::Chain(_)
+        | Command::Turn(_)
+        | Command::Commute(_, _, _)
+        | Command::Stab(_, _)
+        | Command::Destab(_, _, _) => Ok(Vec::new(alloc)),
     }
 }
 

@@ -28,7 +28,11 @@ pub(crate) fn forget_if_moved(table: &mut Option<Table>, command: &Command)
     ensures { (g : Marks) → IfSome table.old (IsTableOf g)
         → IfSome table.new (IsTableOf (grid_after g command.now)) }
 {
-    if let Command::Turn(_) | Command::Commute(_, _, _) = command {
+    if let Command::Turn(_)
+    | Command::Commute(_, _, _)
+    | Command::Stab(_, _)
+    | Command::Destab(_, _, _) = command
+    {
         *table = None;
     }
 }

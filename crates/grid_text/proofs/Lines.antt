@@ -4,7 +4,9 @@ pub mod FaultLemmas
 pub mod SeenLemmas
 pub mod PartLemmas
 pub mod ScriptLemmas
+pub mod BlockLemmas
 pub mod KeywordLemmas
 pub mod CommandLemmas
 pub mod ReadLemmas
 pub mod BodyLemmas
+pub mod StabLemmas

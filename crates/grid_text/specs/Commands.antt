@@ -1,8 +1,11 @@
 -- The commands of a document: their words, what they ask of the grid that stands there, and what they make
 -- of it. Each command is said once, in the table `command_row`.
 --     sign_word, side_word, corner_word, axis_word   the word for each sign, side, corner and axis
---     signs, sides, corners      all of them
---     Argument                   what a word of a command after its first stands for
+--     square_word                the word for each square of a block of two columns and two rows
+--     signs, sides, corners, squares   all of them
+--     stab_word, destab_word     the first words of the commands of stabilisation
+--     Argument                   what a word of a command after its first stands for; a number is that of a column or
+--                                row, or of the first of two neighbouring ones
 --     argument_word a            the word for it
 --     command_row c              the row of a command: its first word, and its arguments
 --     command_words c            the words of a command
@@ -10,10 +13,11 @@
 --     IsStateOf g x              x is a state of the grid g
 --     IsAllowed g c              the command may stand where the grid g is in force
 --     grid_after g c             the grid in force after it
-use Rattle.std.specs.Prelude.{◌≡◌, ℕ, ◌<◌, true, List, [], ◌∷◌, length, map, codes}
+use Rattle.std.specs.Prelude.{◌≡◌, ℕ, ◌+◌, ◌<◌, true, List, [], ◌∷◌, length, map, codes}
 use Rattle.std.specs.List.{All}
 use Rattle.std.specs.List.Sorted.{IsPermutation}
 use Rattle.std.specs.Fmt.{decimal}
+use Rattle.state_rank.specs.Bijection.{greatest_size}
 use Rattle.state_rank.specs.States.{IsState, state_word}
 use Rattle.torus_geom.specs.Marks.{Marks, size}
 use Rattle.grid_moves.specs.Moves.{turned, are_commuting, swapped}
@@ -23,6 +27,9 @@ use Rattle.grid_moves.specs.declared.commutations.Axis.{Axis}
 use Rattle.grid_moves.specs.declared.commutations.Axis.TheVariants.{Cols, Rows}
 use Rattle.pentagon_map.specs.declared.Corner.{Corner}
 use Rattle.pentagon_map.specs.declared.Corner.TheVariants.{Over, Under}
+use Rattle.stabilise.specs.Stabilised.{stabilised, is_block, destabilised}
+use Rattle.stabilise.specs.declared.squares.Square.{Square}
+use Rattle.stabilise.specs.declared.squares.Square.TheVariants.{Nw, Ne, Sw, Se}
 use Rattle.grid_text.specs.Words.{Word}
 use Rattle.grid_text.specs.States.{AreAscending}
 use Rattle.grid_text.specs.declared.commands.Sign.{Sign}
@@ -59,20 +66,39 @@ abbrev pub axis_word : Axis → Word
 axis_word Cols = codes "cols"
 axis_word Rows = codes "rows"
 
+abbrev pub square_word : Square → Word
+square_word Nw = codes "nw"
+square_word Ne = codes "ne"
+square_word Sw = codes "sw"
+square_word Se = codes "se"
+
+abbrev pub squares : List Square
+squares = Nw ∷ Ne ∷ Sw ∷ Se ∷ []
+
 -- ---- the words of commands
+
+abbrev pub stab_word : Word
+stab_word = codes "stab"
+
+abbrev pub destab_word : Word
+destab_word = codes "destab"
 
 pub data Argument : Type 0 where
   sign : (v : Sign) → Argument
   side : (v : Side) → Argument
   corner : (v : Corner) → Argument
+  square : (v : Square) → Argument
   number : (c : ℕ) → Argument
+  first_of_two : (c : ℕ) → Argument
   state : (x : List ℕ) → Argument
 
 abbrev pub argument_word : Argument → Word
 argument_word (sign v) = sign_word v
 argument_word (side v) = side_word v
 argument_word (corner v) = corner_word v
+argument_word (square v) = square_word v
 argument_word (number c) = decimal c
+argument_word (first_of_two c) = decimal c
 argument_word (state x) = state_word x
 
 -- the table of commands
@@ -87,6 +113,8 @@ command_row command.Show = (codes "show", [])
 command_row command.Bounds = (codes "bounds", [])
 command_row (command.Turn v) = (codes "turn", side v ∷ [])
 command_row (command.Commute axis c v) = (axis_word axis, number c ∷ corner v ∷ [])
+command_row (command.Stab c v) = (stab_word, number c ∷ square v ∷ [])
+command_row (command.Destab c r v) = (destab_word, first_of_two c ∷ first_of_two r ∷ square v ∷ [])
 
 abbrev pub command_words : Command → List Word
 command_words c = (command_row c).0 ∷ map argument_word (command_row c).1
@@ -107,10 +135,14 @@ abbrev pub IsAllowed : Marks → Command → Type 0
 IsAllowed g (command.Border x) = IsStateOf g x
 IsAllowed g (command.Chain z) = All (IsStateOf g) z × AreAscending z
 IsAllowed g (command.Commute axis c v) = (c < size g) × (are_commuting axis g c ≡ true)
+IsAllowed g (command.Stab c v) = (c < size g) × (size g < greatest_size)
+IsAllowed g (command.Destab c r v) = (c + 1 < size g) × (r + 1 < size g) × (is_block g c r v ≡ true)
 IsAllowed g c = Unit {0}
 
 -- one that is not among these leaves the grid as it is
 abbrev pub grid_after : Marks → Command → Marks
 grid_after g (command.Turn v) = turned v g
 grid_after g (command.Commute axis c v) = swapped axis g c
+grid_after g (command.Stab c v) = stabilised g c v
+grid_after g (command.Destab c r v) = destabilised g c r v
 grid_after g c = g

@@ -31,6 +31,10 @@
 --     has_repeated_state form arguments   two states of a line `chain` are the same
 --     fails_to_commute axis g word     columns, or rows, c - 1 and c of g do not commute, where the word is c
 --     is_not_commuting p words         a line `cols` or `rows` exchanges such columns or rows
+--     has_no_block g c r v             the grid has no block in which the square v is empty, where the words are those of
+--                                      its first column, its first row and this square
+--     is_not_block p words             a line `destab` names no block
+--     is_at_limit p words              a line `stab` follows on a grid of the greatest size
 --     is_one_too_many p words          a command follows the greatest number of them
 --
 -- The table, and the first fault:
@@ -47,7 +51,7 @@
 use Rattle.std.specs.Prelude.{◌≡◌, ℕ, ◌+◌, ◌-◌, Bool, true, false, ◌&&◌, ◌||◌, not, List, [], ◌∷◌, ◌++◌, length, map, replicate, drop, is_none, nat_le, slice_index_or, count_by, ◌==◌, if◌then◌else◌}
 use Rattle.std.specs.declared.option.Option.{Option}
 use Rattle.std.specs.declared.option.Option.TheVariants.{None, Some}
-use Rattle.std.specs.List.{list_any, zip}
+use Rattle.std.specs.List.{list_any, find, zip}
 use Rattle.std.specs.Option.{option_map_or}
 use Rattle.std.specs.Fmt.{decimal}
 use Rattle.state_rank.specs.Bijection.{greatest_size}
@@ -57,9 +61,11 @@ use Rattle.grid_moves.specs.declared.turns.Side.TheVariants.{Left}
 use Rattle.grid_moves.specs.declared.commutations.Axis.{Axis}
 use Rattle.grid_moves.specs.declared.commutations.Axis.TheVariants.{Cols, Rows}
 use Rattle.pentagon_map.specs.declared.Corner.TheVariants.{Over}
+use Rattle.stabilise.specs.Stabilised.{is_block}
+use Rattle.stabilise.specs.declared.squares.Square.TheVariants.{Nw}
 use Rattle.grid_text.specs.Limits.{max_commands}
 use Rattle.grid_text.specs.Words.{Word, words_of_lines, symbols, is_blank, is_word, numeral, state_of}
-use Rattle.grid_text.specs.Commands.{sign_word, signs, side_word, sides, corner_word, corners, axis_word, Argument, sign, side, corner, number, state, command_row}
+use Rattle.grid_text.specs.Commands.{sign_word, signs, side_word, sides, corner_word, corners, square_word, squares, axis_word, stab_word, destab_word, Argument, sign, side, corner, square, number, first_of_two, state, command_row}
 use Rattle.grid_text.specs.Script.{grid_in_force}
 use Rattle.grid_text.specs.Picture.{empty_symbol}
 use Rattle.grid_text.specs.Document.{Place, head, o_line, x_line, picture, body, ended, grid_word, o_word, x_word, picture_word, end_word, Path}
@@ -80,7 +86,9 @@ abbrev pub kind_of : ℕ → Argument → Kind
 kind_of n (sign v) = choice_of (map sign_word signs)
 kind_of n (side v) = choice_of (map side_word sides)
 kind_of n (corner v) = choice_of (map corner_word corners)
+kind_of n (square v) = choice_of (map square_word squares)
 kind_of n (number c) = number_between 0 (n - 1)
+kind_of n (first_of_two c) = number_between 0 (n - 2)
 kind_of n (state x) = state_of_size n
 
 -- ---- forms of lines
@@ -97,7 +105,7 @@ abbrev pub examples : List Command
 examples =
     command.Front ∷ command.Ranks ∷ command.Hat ∷ command.Class Plus ∷ command.Border [] ∷ command.Chain []
     ∷ command.Show ∷ command.Bounds ∷ command.Turn Left ∷ command.Commute Cols 0 Over ∷ command.Commute Rows 0 Over
-    ∷ []
+    ∷ command.Stab 0 Nw ∷ command.Destab 0 0 Nw ∷ []
 
 abbrev pub body_forms : ℕ → List (Word × Form)
 body_forms n = map (λ c. ((command_row c).0, form_of n c)) examples ++ (end_word, exactly []) ∷ []
@@ -176,6 +184,18 @@ is_not_commuting (body s) (v ∷ c ∷ w ∷ []) = (is_word (axis_word Cols) v &
     || (is_word (axis_word Rows) v && fails_to_commute Rows (grid_in_force s) c)
 is_not_commuting p words = false
 
+abbrev pub has_no_block : Marks → Word → Word → Word → Bool
+has_no_block g c r v = option_map_or (λ d. option_map_or (λ q. option_map_or (λ empty. not (is_block g d q empty))
+    (find (λ e. is_word (square_word e) v) squares) false) (numeral 0 (size g - 2) r) false) (numeral 0 (size g - 2) c) false
+
+abbrev pub is_not_block : Place → List Word → Bool
+is_not_block (body s) (w ∷ c ∷ r ∷ v ∷ []) = is_word destab_word w && has_no_block (grid_in_force s) c r v
+is_not_block p words = false
+
+abbrev pub is_at_limit : Place → List Word → Bool
+is_at_limit (body s) (word ∷ words) = is_word stab_word word && (size (grid_in_force s) == greatest_size)
+is_at_limit p words = false
+
 abbrev pub is_one_too_many : Place → List Word → Bool
 is_one_too_many (body s) (word ∷ words) = not (is_word end_word word) && nat_le max_commands (length s.commands)
 is_one_too_many p words = false
@@ -197,6 +217,7 @@ rows_of_form p form arguments words =
     ∷ (fault.NotPermutation, is_not_permutation p arguments) ∷ (fault.SameSquare, has_same_square p arguments)
     ∷ (fault.BadState, has_bad fault.BadState form arguments)
     ∷ (fault.RepeatedState, has_repeated_state form arguments) ∷ (fault.NotCommuting, is_not_commuting p words)
+    ∷ (fault.NotBlock, is_not_block p words) ∷ (fault.SizeLimit, is_at_limit p words)
     ∷ (fault.TooMany, is_one_too_many p words) ∷ []
 
 abbrev pub table : Place → List Word → List (TextFault × Bool)

@@ -11,7 +11,7 @@ ghost use Rattle.grid_text.specs.Inner.Kinds.{is_bad};
 ghost use Rattle.grid_text.specs.Inner.Reading.{IsRead, keyword_word, stands_alone};
 ghost use Rattle.grid_text.specs.declared.keywords.Keyword.TheVariants as keyword;
 
-use crate::choices::{read_corner, read_side, read_sign};
+use crate::choices::{read_corner, read_side, read_sign, read_square};
 use crate::commands::{Command, StateList};
 use crate::faults::TextFault;
 use crate::keywords::{Keyword, command_alone, read_keyword};
@@ -19,7 +19,8 @@ use crate::scripts::Script;
 use crate::words::numeral;
 use grid_moves::{Axis, commutes};
 use grid_ports::NoMemory;
-use state_rank::State;
+use stabilise::is_block;
+use state_rank::{MAX_SIZE, State};
 use std::alloc::Global;
 
 /// The command of a line of a body with these words, none for the line `end`, or its fault, unless that is
@@ -57,6 +58,8 @@ fn read_command(
         Keyword::Turn => Ok(read_turn(arguments)),
         Keyword::Cols => Ok(read_commute(script, Axis::Cols, arguments)),
         Keyword::Rows => Ok(read_commute(script, Axis::Rows, arguments)),
+        Keyword::Stab => Ok(read_stab(script, arguments)),
+        Keyword::Destab => Ok(read_destab(script, arguments)),
         _ => Ok(read_alone(keyword, arguments)),
     }
 }
@@ -137,6 +140,52 @@ fn read_commute(
         return Err(TextFault::NotCommuting);
     }
     Ok(Some(Command::Commute(axis, c as u8, corner)))
+}
+
+// The command `stab`.
+fn read_stab(script: &Script, arguments: &[&[u8]]) -> Result<Option<Command>, TextFault>
+    ensures { IsRead script.now (keyword_word keyword.Stab ∷ map (λ w. w.now) arguments.now) result }
+{
+    if arguments.len() != 2 {
+        return Err(TextFault::BadCount);
+    }
+    let (word, choice) = (arguments[0], arguments[1]);
+    let Some(empty) = read_square(choice) else {
+        return Err(TextFault::BadChoice);
+    };
+    let n = script.in_force().size();
+    let Some(c) = numeral(word, 0, u32::from(n) - 1) else {
+        return Err(TextFault::BadNumber);
+    };
+    if n == MAX_SIZE {
+        return Err(TextFault::SizeLimit);
+    }
+    Ok(Some(Command::Stab(c as u8, empty)))
+}
+
+// The command `destab`.
+fn read_destab(script: &Script, arguments: &[&[u8]]) -> Result<Option<Command>, TextFault>
+    ensures { IsRead script.now (keyword_word keyword.Destab ∷ map (λ w. w.now) arguments.now) result }
+{
+    if arguments.len() != 3 {
+        return Err(TextFault::BadCount);
+    }
+    let (column, row, choice) = (arguments[0], arguments[1], arguments[2]);
+    let Some(empty) = read_square(choice) else {
+        return Err(TextFault::BadChoice);
+    };
+    let grid = script.in_force();
+    let last = u32::from(grid.size()) - 2;
+    let Some(c) = numeral(column, 0, last) else {
+        return Err(TextFault::BadNumber);
+    };
+    let Some(r) = numeral(row, 0, last) else {
+        return Err(TextFault::BadNumber);
+    };
+    if !is_block(grid, c as u8, r as u8, empty) {
+        return Err(TextFault::NotBlock);
+    }
+    Ok(Some(Command::Destab(c as u8, r as u8, empty)))
 }
 
 // The command `chain`.

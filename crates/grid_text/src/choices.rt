@@ -2,12 +2,13 @@
 ghost use Rattle.std.specs.Prelude.{◌≡◌};
 ghost use Rattle.std.specs.List.{find};
 ghost use Rattle.grid_text.specs.Words.{is_word as is_word_of};
-ghost use Rattle.grid_text.specs.Commands.{sign_word, signs, side_word, sides, corner_word, corners};
+ghost use Rattle.grid_text.specs.Commands.{sign_word, signs, side_word, sides, corner_word, corners, square_word, squares};
 
 use crate::commands::Sign;
 use crate::words::is_word;
 use grid_moves::Side;
 use pentagon_map::Corner;
+use stabilise::Square;
 
 /// All signs.
 const SIGNS: [Sign; 2] = [Sign::Plus, Sign::Minus];
@@ -17,6 +18,9 @@ const SIDES: [Side; 4] = [Side::Left, Side::Right, Side::Up, Side::Down];
 
 /// All corners.
 const CORNERS: [Corner; 2] = [Corner::Over, Corner::Under];
+
+/// All squares of a block.
+const SQUARES: [Square; 4] = [Square::Nw, Square::Ne, Square::Sw, Square::Se];
 
 /// The sign that the word is.
 pub(crate) fn read_sign(word: &[u8]) -> Option<Sign>
@@ -77,5 +81,27 @@ pub(crate) fn corner_text(corner: Corner) -> &'static [u8]
     match corner {
         Corner::Over => b"over",
         Corner::Under => b"under",
+    }
+}
+
+/// The square that the word is.
+pub(crate) fn read_square(word: &[u8]) -> Option<Square>
+    ensures { result ≡ find (λ v. is_word_of (square_word v) word.now) squares }
+{
+    SQUARES
+        .iter()
+        .copied()
+        .find(|square| is_word(square_text(*square), word))
+}
+
+/// The word for a square.
+pub(crate) fn square_text(square: Square) -> &'static [u8]
+    ensures { result.now ≡ square_word square }
+{
+    match square {
+        Square::Nw => b"nw",
+        Square::Ne => b"ne",
+        Square::Sw => b"sw",
+        Square::Se => b"se",
     }
 }

@@ -5,6 +5,7 @@ ghost use Rattle.grid_text.specs.States.{AreStates};
 
 use grid_moves::{Axis, Side};
 use pentagon_map::Corner;
+use stabilise::Square;
 use state_rank::State;
 use std::marker::Model;
 
@@ -103,4 +104,8 @@ pub enum Command {
     Bounds,
     Turn(Side),
     Commute(Axis, u8, Corner),
+    /// The stabilisation at the X of a column, with the square that stays empty.
+    Stab(u8, Square),
+    /// The stabilisation at a column and a row, with this square empty, undone.
+    Destab(u8, u8, Square),
 }

@@ -9,7 +9,7 @@ pub enum TextFault {
     BadWord,
     /// The number of words, or of symbols in a row of a picture, is not that of the form.
     BadCount,
-    /// A sign, side or corner, or a symbol of a picture, is not one of the words for it.
+    /// A sign, side, corner or square, or a symbol of a picture, is not one of the words for it.
     BadChoice,
     /// A word that is to be a number is no numeral in its bounds.
     BadNumber,
@@ -24,6 +24,10 @@ pub enum TextFault {
     RepeatedState,
     /// The two columns, or rows, do not commute in the grid that stands there.
     NotCommuting,
+    /// The two columns and two rows have no block of a stabilisation with this square empty.
+    NotBlock,
+    /// The grid that stands there has the greatest size.
+    SizeLimit,
     /// There are more than `MAX_COMMANDS` command lines.
     TooMany,
     /// The text stops before `end`.
@@ -46,6 +50,8 @@ pub fn fault_word(f: TextFault) -> &'static str
         TextFault::BadState => "BadState",
         TextFault::RepeatedState => "RepeatedState",
         TextFault::NotCommuting => "NotCommuting",
+        TextFault::NotBlock => "NotBlock",
+        TextFault::SizeLimit => "SizeLimit",
         TextFault::TooMany => "TooMany",
         TextFault::NoEnd => "NoEnd",
         TextFault::AfterEnd => "AfterEnd",

@@ -23,11 +23,13 @@ pub(crate) enum Keyword {
     Turn,
     Cols,
     Rows,
+    Stab,
+    Destab,
     End,
 }
 
 /// All keywords.
-const KEYWORDS: [Keyword; 12] = [
+const KEYWORDS: [Keyword; 14] = [
     Keyword::Front,
     Keyword::Ranks,
     Keyword::Hat,
@@ -39,6 +41,8 @@ const KEYWORDS: [Keyword; 12] = [
     Keyword::Turn,
     Keyword::Cols,
     Keyword::Rows,
+    Keyword::Stab,
+    Keyword::Destab,
     Keyword::End,
 ];
 
@@ -68,6 +72,8 @@ pub(crate) fn keyword_text(keyword: Keyword) -> &'static [u8]
         Keyword::Turn => b"turn",
         Keyword::Cols => b"cols",
         Keyword::Rows => b"rows",
+        Keyword::Stab => b"stab",
+        Keyword::Destab => b"destab",
         Keyword::End => b"end",
     }
 }
@@ -88,6 +94,8 @@ pub(crate) fn keyword_of(command: &Command) -> Keyword
         Command::Turn(_) => Keyword::Turn,
         Command::Commute(Axis::Cols, _, _) => Keyword::Cols,
         Command::Commute(Axis::Rows, _, _) => Keyword::Rows,
+        Command::Stab(_, _) => Keyword::Stab,
+        Command::Destab(_, _, _) => Keyword::Destab,
     }
 }
 

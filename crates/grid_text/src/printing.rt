@@ -4,17 +4,18 @@ ghost use Rattle.std.specs.List.{flat_map};
 ghost use Rattle.std.specs.Fmt.{decimal};
 ghost use Rattle.state_rank.specs.States.{state_word};
 ghost use Rattle.torus_geom.specs.Marks.{Marks};
-ghost use Rattle.grid_text.specs.Commands.{corner_word, argument_word, command_row};
+ghost use Rattle.grid_text.specs.Commands.{corner_word, square_word, argument_word, command_row};
 ghost use Rattle.grid_text.specs.PlainForm.{after_space, command_line, head_lines, plain_form};
 ghost use Rattle.grid_text.specs.Script.{GridScript, IsScript};
 ghost use Rattle.grid_text.specs.Document.{IsDocument};
 
-use crate::choices::{corner_text, side_text, sign_text};
+use crate::choices::{corner_text, side_text, sign_text, square_text};
 use crate::commands::Command;
 use crate::keywords::{keyword_of, keyword_text};
 use crate::scripts::Script;
 use grid_ports::NoMemory;
 use pentagon_map::Corner;
+use stabilise::Square;
 use state_rank::State;
 use std::alloc::Global;
 use text_lines::push_number;
@@ -82,6 +83,8 @@ fn push_arguments(text: &mut Vec<u8>, command: &Command) -> Result<(), NoMemory>
         Command::Chain(z) => push_states(text, z.states()),
         Command::Turn(side) => push_word(text, side_text(*side)),
         Command::Commute(_, c, corner) => push_commute(text, *c, *corner),
+        Command::Stab(c, empty) => push_stab(text, *c, *empty),
+        Command::Destab(c, r, empty) => push_destab(text, *c, *r, *empty),
         _ => Ok(()),
     }
 }
@@ -102,6 +105,26 @@ fn push_commute(text: &mut Vec<u8>, c: u8, corner: Corner) -> Result<(), NoMemor
     push(text, b" ")?;
     push_number(text, c)?;
     push_word(text, corner_text(corner))
+}
+
+// Appends a number and the word for a square, each after a space.
+fn push_stab(text: &mut Vec<u8>, c: u8, empty: Square) -> Result<(), NoMemory>
+    ensures { OnOk result
+        (text.new.items ≡ text.old.items ++ 32 ∷ decimal c ++ 32 ∷ square_word empty) }
+{
+    push(text, b" ")?;
+    push_number(text, c)?;
+    push_word(text, square_text(empty))
+}
+
+// Appends two numbers and the word for a square, each after a space.
+fn push_destab(text: &mut Vec<u8>, c: u8, r: u8, empty: Square) -> Result<(), NoMemory>
+    ensures { OnOk result
+        (text.new.items ≡ text.old.items ++ 32 ∷ decimal c ++ 32 ∷ decimal r ++ 32 ∷ square_word empty) }
+{
+    push(text, b" ")?;
+    push_number(text, c)?;
+    push_stab(text, r, empty)
 }
 
 // Appends the words of states, each after a space.

@@ -8,14 +8,15 @@ ghost use Rattle.grid_text.specs.Script.{GridScript, IsScript, grid_in_force, wi
 use crate::commands::Command;
 use grid_moves::{swap, turn};
 use grid_ports::NoMemory;
+use stabilise::{destabilise, stabilise};
 use std::alloc::Global;
 use std::marker::Model;
 use torus_geom::Grid;
 
 /// A grid and at most `MAX_COMMANDS` commands, each of which may stand where it does.
 ///
-/// A command may stand where its states have the grid's size, and where its columns or rows commute in the
-/// grid in force there, which is the grid after the turns and commutations before it.
+/// A command may stand where its states have the size of the grid in force there, which is the grid after the moves
+/// before it, and where its columns or rows commute in that grid, it has room for one column more, or it has the block.
 #[derive(Drop)]
 pub struct Script {
     grid: Grid,
@@ -96,6 +97,8 @@ fn grid_after(g: &Grid, command: &Command) -> Grid
     match command {
         Command::Turn(side) => turn(g, *side),
         Command::Commute(axis, c, _) => swap(g, *axis, *c),
+        Command::Stab(c, empty) => stabilise(g, *c, *empty),
+        Command::Destab(c, r, empty) => destabilise(g, *c, *r, *empty),
         _ => *g,
     }
 }

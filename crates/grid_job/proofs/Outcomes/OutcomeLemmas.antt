@@ -6,7 +6,7 @@ use Rattle.grid_text.specs.Words.{lines_of, words_of, words_of_lines}
 use Rattle.grid_text.specs.Document.{head, ended, IsDocument}
 use Rattle.grid_text.specs.Script.{GridScript, IsScript, grid_in_force}
 use Rattle.grid_text.specs.Limits.{max_text}
-use Rattle.grid_text.proofs.Lines.ScriptLemmas.{IsGridOf-grid_in_force}
+use Rattle.grid_text.proofs.Lines.ScriptLemmas.{IsGrid-grid_in_force}
 use Rattle.grid_text.proofs.Paths.JudgementLemmas.{no_document, one_script}
 use Rattle.grid_text.proofs.Paths.OutcomeLemmas.{every_text}
 use Rattle.grid_text.proofs.Paths.PlaceLemmas.{IsPlace-path}
@@ -202,7 +202,7 @@ some_certified text = some_refusal Cert text (λ answer refusal. inl refusal) ce
     of_small_grid : length text ≤ max_text → (s : GridScript) → IsDocument text s → size (grid_in_force s) ≤ 6
         → SomeOutcome Cert text
     of_small_grid within s document small =
-        let grid = (IsGridOf-grid_in_force s (is_script text s document)).grid in
+        let grid = IsGrid-grid_in_force s (is_script text s document) in
         let c = exists_certificate (grid_in_force s) grid small in
         let certified : IsCertificateText (grid_in_force s) (certificate_text c.0) =
         record { certificate = c.0; is_certificate = c.1; same_grid = c.2; passes = c.3; lines = refl; short = c.4 } in (

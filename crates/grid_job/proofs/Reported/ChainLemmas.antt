@@ -18,6 +18,8 @@ use Rattle.grid_text.specs.States.{AreStates}
 use Rattle.grid_text.specs.declared.commands.Command.{Command}
 use Rattle.grid_text.specs.declared.commands.Command.TheVariants as command
 use Rattle.torus_geom.specs.Chains.{IsChain}
+use Rattle.torus_geom.proofs.Chains.CodesLemmas.{IsChain-nothing}
+use Rattle.stabilise.specs.Stabilised.{stabilised, destabilised}
 use Rattle.torus_geom.specs.Codes.{HasRanks, states_of}
 use Rattle.grid_moves.specs.Carried.{turned_chain}
 use Rattle.grid_moves.proofs.Exchanged.SwappedTwice.{size-swapped}
@@ -135,4 +137,7 @@ IsChain-after_command p (command.Turn side) states allowed =
 IsChain-after_command p (command.Commute axis c corner) states allowed =
     subst (λ n. IsChain n (image axis p.grid c corner p.chain)) (sym (size-swapped axis p.grid c))
     (IsChain-image axis p.grid c corner p.chain)
+IsChain-after_command p (command.Stab c empty) states allowed = IsChain-nothing (size (stabilised p.grid c empty))
+IsChain-after_command p (command.Destab c r empty) states allowed =
+    IsChain-nothing (size (destabilised p.grid c r empty))
 IsChain-after_command p other states allowed = states

@@ -5,11 +5,11 @@ use Rattle.std.proofs.Common.{◌≡◌, ℕ, zero, suc, ◌+◌, ◌<◌, ◌�
 use Rattle.std.specs.Io.KnownBytes.{Appends}
 use Rattle.std.proofs.lemmas.List.{take-append-drop, take_more, take_all}
 use Rattle.torus_geom.specs.Marks.{Marks, size, IsGrid}
-use Rattle.grid_text.specs.Commands.{IsAllowed, grid_after}
+use Rattle.grid_text.specs.Commands.{IsAllowed}
 use Rattle.grid_text.specs.Script.{AreAllowed}
 use Rattle.grid_text.specs.declared.commands.Command.{Command}
 use Rattle.grid_text.specs.declared.commands.Command.TheVariants as command
-use Rattle.grid_text.proofs.Lines.ScriptLemmas.{IsGridOf-grid_after}
+use Rattle.grid_text.proofs.Lines.ScriptLemmas.{IsGrid-grid_after}
 use Rattle.grid_ports.specs.Bytes.{AppendsPrefix}
 use Rattle.grid_ports.proofs.BytesLemmas.{Appends-none, Appends-append}
 use Rattle.grid_job.specs.InForce.{InForce, after_command, after_commands}
@@ -32,16 +32,15 @@ exists_answer p command.Show grid states = (_, refl)
 exists_answer p command.Bounds grid states = exists_bounds_text p.grid grid p.chain states
 exists_answer p (command.Turn side) grid states = ([], refl)
 exists_answer p (command.Commute axis c corner) grid states = ([], refl)
-
-grid-after : (g : Marks) (c : Command) → IsGrid g → IsAllowed g c → IsGrid (grid_after g c)
-grid-after g c grid allowed = (IsGridOf-grid_after (size g) g c (record { grid = grid; same_size = refl }) allowed).grid
+exists_answer p (command.Stab c empty) grid states = ([], refl)
+exists_answer p (command.Destab c r empty) grid states = ([], refl)
 
 pub exists_answers : (p : InForce) (cs : List Command) → IsGrid p.grid → IsChain (size p.grid) p.chain → AreAllowed p.grid cs
     → (text : List ℕ) × AreAnswers p cs text
 exists_answers p [] grid states allowed = ([], refl)
 exists_answers p (c ∷ cs) grid states allowed =
     let first = exists_answer p c grid states in
-    let later = exists_answers (after_command p c) cs (grid-after p.grid c grid allowed.0)
+    let later = exists_answers (after_command p c) cs (IsGrid-grid_after p.grid c grid allowed.0)
     (IsChain-after_command p c states allowed.0) allowed.1 in
     (first.0 ++ later.0, (first.0, later.0, first.1, later.1, refl))
 
@@ -85,7 +84,7 @@ StandsAt-drop (suc k) p [] h = h
 StandsAt-drop (suc k) p (c ∷ cs) h =
     StandsAt-drop k (after_command p c) cs
     (record {
-      grid = grid-after p.grid c h.grid h.allowed.0;
+      grid = IsGrid-grid_after p.grid c h.grid h.allowed.0;
       states = IsChain-after_command p c h.states h.allowed.0;
       allowed = h.allowed.1;
     })

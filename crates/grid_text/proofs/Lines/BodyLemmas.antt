@@ -42,7 +42,7 @@ use Rattle.grid_text.proofs.Lines.SeenLemmas.{seen, seen-parts, seen-more}
 use Rattle.grid_text.proofs.Lines.FaultLemmas.{fault_in_table-no_word, fault_in_table-bad_word, fault_in_table-count, fault_in_table-choice, fault_in_table-number, fault_in_table-state, fault_in_table-repeated, fault_in_table-commuting}
 use Rattle.grid_text.proofs.Lines.CommandLemmas.{chain_words, states-good, faultless, fault_in_table-faultless}
 use Rattle.grid_text.proofs.Lines.ReadLemmas.{IsStateOf-from_bijection}
-use Rattle.grid_text.proofs.Lines.ScriptLemmas.{IsGridOf-grid_in_force}
+use Rattle.grid_text.proofs.Lines.ScriptLemmas.{IsGrid-grid_in_force}
 use Rattle.grid_text.proofs.States.ChainLemmas.{apart-states, AreStates-from_sorted}
 
 -- ---- the first word
@@ -123,6 +123,8 @@ module _ (s : GridScript) (arguments : List Word) where
       whole keyword.Turn e = let clash : false ≡ true = e in cc
       whole keyword.Cols e = let clash : false ≡ true = e in cc
       whole keyword.Rows e = let clash : false ≡ true = e in cc
+      whole keyword.Stab e = let clash : false ≡ true = e in cc
+      whole keyword.Destab e = let clash : false ≡ true = e in cc
       whole keyword.End e = refl
       whole k e = (refl, tt)
 
@@ -271,7 +273,7 @@ module _ (s : GridScript) (axis : Axis) (arguments : List Word) where
     commute-read h c found commuting =
         let read = numeral-found 0 (size (grid_in_force s) - 1) c w (numbered (Some c) found) in
         let high = read.2 in
-        let least = (IsGridOf-grid_in_force s h).grid.is_size.least in (
+        let least = (IsGrid-grid_in_force s h).is_size.least in (
           ap (λ a. axis_word axis ∷ a) (line ∙ ap (λ d. d ∷ corner_word v ∷ []) read.0),
           (omega arith, ap (λ k. are_commuting axis k c) (sym is) ∙ commuting),
         )
@@ -356,7 +358,7 @@ module _ (s : GridScript) (g : Marks) (m : ℕ) (words : List Word) (long : m �
           | inr once ↦
               let once_xs = subst (λ w. has_repeated w ≡ false) read.1 once in
               absurd (none (AreStates-from_sorted m (subst IsSize (sym same)
-              (IsGridOf-grid_in_force s h).grid.is_size) ys
+              (IsGrid-grid_in_force s h).is_size) ys
               (λ x k. all x (Contains-permutation ys xs x (IsPermutation-sym xs ys permutation) k)) sorted
               (apart-states xs ys permutation once_xs)))
         ])

@@ -1,7 +1,8 @@
 -- The lines of commands. A line with a command that may stand there has no fault before the last row of the table:
--- its words are good for their kinds, which are those of the table, and where it exchanges columns or rows they
--- commute. A line is that of one command.
-use Rattle.std.proofs.Common.{◌≡◌, ℕ, ◌-◌, ◌<◌, ◌^◌, true, false, not, ◌||◌, ◌&&◌, cond, List, [], ◌∷◌, length, map, None, Some, refl, ap, subst, ◌∙◌, sym, arith, true≢false}
+-- its words are good for their kinds, which are those of the table, where it exchanges columns or rows they commute,
+-- where it undoes a stabilisation there is the block, and where it stabilises there is room. A line is that of one
+-- command.
+use Rattle.std.proofs.Common.{◌≡◌, ℕ, ◌+◌, ◌-◌, ◌<◌, ◌^◌, true, false, not, ◌||◌, ◌&&◌, cond, List, [], ◌∷◌, length, map, None, Some, refl, ap, subst, ◌∙◌, sym, arith, true≢false}
 use Rattle.std.specs.Prelude.{nat_le}
 use Rattle.std.specs.Option.{option_map_or}
 use Rattle.std.specs.List.Sorted.{IsPermutation}
@@ -23,10 +24,13 @@ use Rattle.pentagon_map.specs.declared.Corner.{Corner}
 use Rattle.pentagon_map.specs.declared.Corner.TheVariants.{Over, Under}
 use Rattle.grid_text.specs.Limits.{max_commands}
 use Rattle.grid_text.specs.Words.{Word, is_comment, is_blank, is_word}
-use Rattle.grid_text.specs.Commands.{sign_word, side_word, corner_word, axis_word, state, argument_word, command_row, command_words, IsLineOf, IsAllowed, IsStateOf}
+use Rattle.stabilise.specs.Stabilised.{is_block}
+use Rattle.stabilise.specs.declared.squares.Square.{Square}
+use Rattle.stabilise.specs.declared.squares.Square.TheVariants.{Nw, Ne, Sw, Se}
+use Rattle.grid_text.specs.Commands.{sign_word, side_word, corner_word, square_word, axis_word, stab_word, destab_word, state, argument_word, command_row, command_words, IsLineOf, IsAllowed, IsStateOf}
 use Rattle.grid_text.specs.Script.{GridScript, IsScript, grid_in_force}
 use Rattle.grid_text.specs.Document.{body, end_word}
-use Rattle.grid_text.specs.Faults.{Form, exactly, any_number_of, state_of_size, kind_of, is_bad_by, form_at, has_repeated, fails_to_commute, is_not_commuting, fault_in_table}
+use Rattle.grid_text.specs.Faults.{Form, exactly, any_number_of, state_of_size, kind_of, is_bad_by, form_at, has_repeated, fails_to_commute, is_not_commuting, has_no_block, is_not_block, is_at_limit, fault_in_table}
 use Rattle.grid_text.specs.Inner.Kinds.{is_bad}
 use Rattle.grid_text.specs.declared.commands.Sign.{Sign}
 use Rattle.grid_text.specs.declared.commands.Sign.TheVariants.{Plus, Minus}
@@ -35,10 +39,11 @@ use Rattle.grid_text.specs.declared.commands.Command.TheVariants as command
 use Rattle.grid_text.specs.declared.faults.TextFault.TheVariants as fault
 use Rattle.grid_text.proofs.Lines.WordLemmas.{is_word-same, numeral-decimal}
 use Rattle.state_rank.proofs.WordLemmas.{state_word_injective}
-use Rattle.grid_text.proofs.Lines.KindLemmas.{state-good, list_any-never, AreGood, arguments-good, arguments-count}
+use Rattle.grid_text.proofs.Lines.KindLemmas.{state-good, list_any-never, AreGood, arguments-good, arguments-count, square-found}
+use Rattle.grid_text.proofs.Lines.BlockLemmas.{has_no_block-read, below_greatest}
 use Rattle.grid_text.proofs.Lines.KeywordLemmas.{not_end}
 use Rattle.grid_text.proofs.Lines.FaultLemmas.{NoRowHolds, fault_in_table-last}
-use Rattle.grid_text.proofs.Lines.ScriptLemmas.{IsGridOf-grid_in_force}
+use Rattle.grid_text.proofs.Lines.ScriptLemmas.{IsGrid-grid_in_force}
 use Rattle.grid_text.proofs.States.ChainLemmas.{repeated-none, one_chain}
 
 -- ---- the words of a chain
@@ -80,6 +85,8 @@ arguments-allowed g (command.Border x) allowed = (bijection_of g x allowed, tt)
 arguments-allowed g (command.Chain z) allowed = states-allowed g z allowed.0
 arguments-allowed g (command.Turn v) allowed = (tt, tt)
 arguments-allowed g (command.Commute axis c v) allowed = (allowed.0, (tt, tt))
+arguments-allowed g (command.Stab c v) allowed = (allowed.0, (tt, tt))
+arguments-allowed g (command.Destab c r v) allowed = (allowed.0, (allowed.1, (tt, tt)))
 arguments-allowed g c allowed = tt
 
 -- ---- what the rows are for a line of a command
@@ -101,13 +108,15 @@ module _ (s : GridScript) (h : IsScript s) where
 
   -- it is small
   n-small : n < 2 ^ 32
-  n-small = let most = (IsGridOf-grid_in_force s h).grid.is_size.greatest in omega arith
+  n-small = let most = (IsGrid-grid_in_force s h).is_size.greatest in omega arith
 
   -- a command with good arguments in their order
   exact-faultless : (c : Command) (words : List Word) → words ≡ command_words c
       → form_at (body s) (command_row c).0 ≡ Some (exactly (map (kind_of n) (command_row c).1))
-      → AreGood n (command_row c).1 → is_not_commuting (body s) (command_words c) ≡ false → IsFaultless words
-  exact-faultless c words e known good commuting =
+      → AreGood n (command_row c).1 → is_not_commuting (body s) (command_words c) ≡ false
+      → is_not_block (body s) (command_words c) ≡ false → is_at_limit (body s) (command_words c) ≡ false
+      → IsFaultless words
+  exact-faultless c words e known good commuting block limit =
       let small = n-small in
       let fits : n < 2 ^ 64 = omega arith in
       record {
@@ -125,6 +134,8 @@ module _ (s : GridScript) (h : IsScript s) where
           state = arguments-good n fits fault.BadState (command_row c).1 good;
           repeated = refl;
           commuting = commuting;
+          block = block;
+          limit = limit;
         };
         no_end = not_end c;
       }
@@ -138,13 +149,31 @@ module _ (s : GridScript) (h : IsScript s) where
       (numeral-decimal 0 (n - 1) c (decimal c) refl (omega arith) (omega arith) (omega arith))
       ∙ ap not t
 
-  -- whatever follows `chain`, no columns are to commute
+  -- there is the block
+  block-numbers : (c r : ℕ) (v : Square) → c + 1 < n → r + 1 < n → is_block (grid_in_force s) c r v ≡ true
+      → has_no_block (grid_in_force s) (decimal c) (decimal r) (square_word v) ≡ false
+  block-numbers c r v lc lr t =
+      let small = n-small in
+      has_no_block-read (grid_in_force s) (decimal c) (decimal r) (square_word v) c r v
+      (numeral-decimal 0 (n - 2) c (decimal c) refl (omega arith) (omega arith) (omega arith))
+      (numeral-decimal 0 (n - 2) r (decimal r) refl (omega arith) (omega arith) (omega arith)) (square-found v)
+      ∙ ap not t
+
+  -- whatever follows `chain`, no columns are to commute, and no block is named
   chain-commuting : (arguments : List Word)
       → is_not_commuting (body s) ((command_row (command.Chain [])).0 ∷ arguments) ≡ false
   chain-commuting [] = refl
   chain-commuting (a ∷ []) = refl
   chain-commuting (a ∷ b ∷ []) = refl
   chain-commuting (a ∷ b ∷ c ∷ arguments) = refl
+
+  chain-block : (arguments : List Word)
+      → is_not_block (body s) ((command_row (command.Chain [])).0 ∷ arguments) ≡ false
+  chain-block [] = refl
+  chain-block (a ∷ []) = refl
+  chain-block (a ∷ b ∷ []) = refl
+  chain-block (a ∷ b ∷ c ∷ []) = refl
+  chain-block (a ∷ b ∷ c ∷ d ∷ arguments) = refl
 
   -- `chain`
   chain-faultless : (xs : List (List ℕ)) (words : List Word) → words ≡ command_words (command.Chain xs)
@@ -164,6 +193,8 @@ module _ (s : GridScript) (h : IsScript s) where
       state = states-good n xs states;
       repeated = once;
       commuting = chain-commuting (map state_word xs);
+      block = chain-block (map state_word xs);
+      limit = refl;
     };
     no_end = refl;
   }
@@ -179,12 +210,20 @@ module _ (s : GridScript) (h : IsScript s) where
   faultless words (command.Commute Cols c v) e allowed =
       exact-faultless (command.Commute Cols c v) words e refl
       (arguments-allowed (grid_in_force s) (command.Commute Cols c v) allowed)
-      (ap (λ b. b || false) (commutes-number Cols c allowed.0 allowed.1))
+      (ap (λ b. b || false) (commutes-number Cols c allowed.0 allowed.1)) refl refl
   faultless words (command.Commute Rows c v) e allowed =
       exact-faultless (command.Commute Rows c v) words e refl
       (arguments-allowed (grid_in_force s) (command.Commute Rows c v) allowed)
-      (commutes-number Rows c allowed.0 allowed.1)
-  faultless words c e allowed = exact-faultless c words e refl (arguments-allowed (grid_in_force s) c allowed) refl
+      (commutes-number Rows c allowed.0 allowed.1) refl refl
+  faultless words (command.Stab c v) e allowed =
+      exact-faultless (command.Stab c v) words e refl
+      (arguments-allowed (grid_in_force s) (command.Stab c v) allowed) refl refl (below_greatest n allowed.1)
+  faultless words (command.Destab c r v) e allowed =
+      exact-faultless (command.Destab c r v) words e refl
+      (arguments-allowed (grid_in_force s) (command.Destab c r v) allowed) refl
+      (block-numbers c r v allowed.0 allowed.1 allowed.2) refl
+  faultless words c e allowed =
+      exact-faultless c words e refl (arguments-allowed (grid_in_force s) c allowed) refl refl refl
 
 -- then the last row decides
 pub fault_in_table-faultless : (s : GridScript) (h : IsScript s) (words : List Word) → IsFaultless s h words
@@ -208,6 +247,8 @@ fault_in_table-end s words e =
       state = refl;
       repeated = refl;
       commuting = refl;
+      block = refl;
+      limit = refl;
     })
 
 -- the line of a command is not `end`
@@ -244,6 +285,16 @@ corner_apart Over Under t = cc
 corner_apart Under Over t = cc
 corner_apart Under Under t = refl
 
+square_apart : (v w : Square) → is_word (square_word v) (square_word w) ≡ true → v ≡ w
+square_apart Nw Nw t = refl
+square_apart Nw w t = cc
+square_apart Ne Ne t = refl
+square_apart Ne w t = cc
+square_apart Sw Sw t = refl
+square_apart Sw w t = cc
+square_apart Se Se t = refl
+square_apart Se w t = cc
+
 axis_apart : (v w : Axis) → is_word (axis_word v) (axis_word w) ≡ true → v ≡ w
 axis_apart Cols Cols t = refl
 axis_apart Cols Rows t = cc
@@ -267,6 +318,9 @@ second_word e = cc
 third_word : {u t v w p q : Word} {x y : List Word} → u ∷ v ∷ p ∷ x ≡ t ∷ w ∷ q ∷ y → p ≡ q
 third_word e = cc
 
+fourth_word : {u t v w p q r m : Word} {x y : List Word} → u ∷ v ∷ p ∷ r ∷ x ≡ t ∷ w ∷ q ∷ m ∷ y → r ≡ m
+fourth_word e = cc
+
 -- commands of one first word are one, but for their arguments
 abbrev AreAlike : Command → Command → Type 0
 AreAlike (command.Class v) (command.Class w) = Unit {0}
@@ -274,6 +328,8 @@ AreAlike (command.Border x) (command.Border y) = Unit {0}
 AreAlike (command.Chain z) (command.Chain w) = Unit {0}
 AreAlike (command.Turn v) (command.Turn w) = Unit {0}
 AreAlike (command.Commute i c v) (command.Commute j d w) = Unit {0}
+AreAlike (command.Stab c v) (command.Stab d w) = Unit {0}
+AreAlike (command.Destab c r v) (command.Destab d q w) = Unit {0}
 AreAlike c d = c ≡ d
 
 alike : (c d : Command) → is_word (command_row c).0 (command_row d).0 ≡ true → AreAlike c d
@@ -282,6 +338,8 @@ alike (command.Border x) (command.Border y) t = tt
 alike (command.Chain z) (command.Chain w) t = tt
 alike (command.Turn v) (command.Turn w) t = tt
 alike (command.Commute i c v) (command.Commute j d w) t = tt
+alike (command.Stab c v) (command.Stab d w) t = tt
+alike (command.Destab c r v) (command.Destab d q w) t = tt
 alike (command.Commute Cols c v) d t = cc
 alike (command.Commute Rows c v) d t = cc
 alike c (command.Commute Cols d w) t = cc
@@ -344,4 +402,24 @@ one_command s h words (command.Commute i c v) (command.Commute j d w) l a m b =
     let number = decimal_injective c d (omega arith) (omega arith) (second_word whole) in
     let corner = corner_apart v w (same_is_word _ _ (third_word whole)) in
     (λ k. command.Commute (axis k) (number k) (corner k))
+one_command s h words (command.Stab c v) (command.Stab d w) l a m b =
+    let whole : stab_word ∷ decimal c ∷ square_word v ∷ [] ≡ stab_word ∷ decimal d ∷ square_word w ∷ [] = sym l ∙ m in
+    let small = n-small s h in
+    let below = a.0 in
+    let below' = b.0 in
+    let number = decimal_injective c d (omega arith) (omega arith) (second_word whole) in
+    let square = square_apart v w (same_is_word _ _ (third_word whole)) in
+    (λ k. command.Stab (number k) (square k))
+one_command s h words (command.Destab c r v) (command.Destab d q w) l a m b =
+    let whole : destab_word ∷ decimal c ∷ decimal r ∷ square_word v ∷ []
+    ≡ destab_word ∷ decimal d ∷ decimal q ∷ square_word w ∷ [] = sym l ∙ m in
+    let small = n-small s h in
+    let column_below = a.0 in
+    let row_below = a.1 in
+    let column_below' = b.0 in
+    let row_below' = b.1 in
+    let column = decimal_injective c d (omega arith) (omega arith) (second_word whole) in
+    let row = decimal_injective r q (omega arith) (omega arith) (third_word whole) in
+    let square = square_apart v w (same_is_word _ _ (fourth_word whole)) in
+    (λ k. command.Destab (column k) (row k) (square k))
 one_command s h words c d l a m b = alike_of_line words c d l m

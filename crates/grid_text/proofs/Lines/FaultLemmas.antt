@@ -6,7 +6,7 @@ use Rattle.std.specs.Prelude.{is_none}
 use Rattle.std.specs.Option.{option_map_or}
 use Rattle.grid_text.specs.Words.{Word}
 use Rattle.grid_text.specs.Document.{Place}
-use Rattle.grid_text.specs.Faults.{Form, form_at, form_of_line, arguments_at, is_after_end, is_bad_count, has_bad, is_not_permutation, has_same_square, has_repeated_state, is_not_commuting, is_one_too_many, rows_of_form, first_passed, fault_in_table}
+use Rattle.grid_text.specs.Faults.{Form, form_at, form_of_line, arguments_at, is_after_end, is_bad_count, has_bad, is_not_permutation, has_same_square, has_repeated_state, is_not_commuting, is_not_block, is_at_limit, is_one_too_many, rows_of_form, first_passed, fault_in_table}
 use Rattle.grid_text.specs.declared.faults.TextFault.{TextFault}
 use Rattle.grid_text.specs.declared.faults.TextFault.TheVariants as fault
 
@@ -32,6 +32,8 @@ pub record NoRowHolds (p : Place) (form : Form) (words arguments : List Word) : 
   pub state : has_bad fault.BadState form arguments ≡ false
   pub repeated : has_repeated_state form arguments ≡ false
   pub commuting : is_not_commuting p words ≡ false
+  pub block : is_not_block p words ≡ false
+  pub limit : is_at_limit p words ≡ false
 
 -- the rows from the first word on
 abbrev rows_from_word : Place → Option Form → List Word → List (TextFault × Bool)
@@ -72,7 +74,8 @@ module _ (p : Place) (form : Form) (words arguments : List Word) (here : is_afte
       fault_in_table-rows
       ∙ pass _ _ _ _ r.count (pass _ _ _ _ r.choice (pass _ _ _ _ r.number
       (pass _ _ _ _ r.permutation (pass _ _ _ _ r.square (pass _ _ _ _ r.state
-      (pass _ _ _ _ r.repeated (pass _ _ _ _ r.commuting refl)))))))
+      (pass _ _ _ _ r.repeated (pass _ _ _ _ r.commuting
+      (pass _ _ _ _ r.block (pass _ _ _ _ r.limit refl)))))))))
 
   -- and the other way round
   pub NoRowHolds-from_none : fault_in_table p words ≡ None
@@ -86,7 +89,9 @@ module _ (p : Place) (form : Form) (words arguments : List Word) (here : is_afte
       let state = no_hit _ _ _ square.1 in
       let repeated = no_hit _ _ _ state.1 in
       let commuting = no_hit _ _ _ repeated.1 in
-      let many = no_hit _ _ _ commuting.1 in (
+      let block = no_hit _ _ _ commuting.1 in
+      let limit = no_hit _ _ _ block.1 in
+      let many = no_hit _ _ _ limit.1 in (
         record {
           count = count.0;
           choice = choice.0;
@@ -96,6 +101,8 @@ module _ (p : Place) (form : Form) (words arguments : List Word) (here : is_afte
           state = state.0;
           repeated = repeated.0;
           commuting = commuting.0;
+          block = block.0;
+          limit = limit.0;
         },
         many.0,
       )
@@ -157,3 +164,21 @@ module _ (p : Place) (form : Form) (words arguments : List Word) (here : is_afte
                     ∙ pass _ _ _ _ count (pass _ _ _ _ choice (pass _ _ _ _ number
                     (pass _ _ _ _ permutation (pass _ _ _ _ square (pass _ _ _ _ state
                     (pass _ _ _ _ repeated (hit _ _ _ holds)))))))
+
+                module _ (commuting : is_not_commuting p words ≡ false) where
+                  -- a block is none
+                  pub fault_in_table-block : is_not_block p words ≡ true → fault_in_table p words ≡ Some fault.NotBlock
+                  fault_in_table-block holds =
+                      fault_in_table-rows
+                      ∙ pass _ _ _ _ count (pass _ _ _ _ choice (pass _ _ _ _ number
+                      (pass _ _ _ _ permutation (pass _ _ _ _ square (pass _ _ _ _ state
+                      (pass _ _ _ _ repeated (pass _ _ _ _ commuting (hit _ _ _ holds))))))))
+
+                  -- the grid has the greatest size
+                  pub fault_in_table-limit : is_not_block p words ≡ false → is_at_limit p words ≡ true
+                      → fault_in_table p words ≡ Some fault.SizeLimit
+                  fault_in_table-limit block holds =
+                      fault_in_table-rows
+                      ∙ pass _ _ _ _ count (pass _ _ _ _ choice (pass _ _ _ _ number
+                      (pass _ _ _ _ permutation (pass _ _ _ _ square (pass _ _ _ _ state
+                      (pass _ _ _ _ repeated (pass _ _ _ _ commuting (pass _ _ _ _ block (hit _ _ _ holds)))))))))

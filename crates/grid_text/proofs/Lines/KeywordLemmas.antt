@@ -78,6 +78,8 @@ form-stands_alone n keyword.Chain e = let clash : false ≡ true = e in cc
 form-stands_alone n keyword.Turn e = let clash : false ≡ true = e in cc
 form-stands_alone n keyword.Cols e = let clash : false ≡ true = e in cc
 form-stands_alone n keyword.Rows e = let clash : false ≡ true = e in cc
+form-stands_alone n keyword.Stab e = let clash : false ≡ true = e in cc
+form-stands_alone n keyword.Destab e = let clash : false ≡ true = e in cc
 form-stands_alone n k e = refl
 
 -- the keyword of the axis

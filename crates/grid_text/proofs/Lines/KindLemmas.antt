@@ -1,7 +1,7 @@
 -- The kinds of words: which words are bad for their kind, and the number of the words of a line. A word that is
 -- looked for among the words of some values is that of the value that is found; so a good word of a kind is that of
--- a sign, side or corner, of a number, or of a state, and the words of good arguments are good.
-use Rattle.std.proofs.Common.{◌≡◌, ◌≢◌, ℕ, ◌-◌, ◌<◌, ◌≤◌, ◌^◌, Bool, true, false, not, ◌||◌, cond, List, [], ◌∷◌, length, map, Option, None, Some, refl, ap, ◌∙◌, sym, arith, inl, inr, true≢false}
+-- a sign, side, corner or square, of a number, or of a state, and the words of good arguments are good.
+use Rattle.std.proofs.Common.{◌≡◌, ◌≢◌, ℕ, ◌+◌, ◌-◌, ◌<◌, ◌≤◌, ◌^◌, Bool, true, false, not, ◌||◌, cond, List, [], ◌∷◌, length, map, Option, None, Some, refl, ap, ◌∙◌, sym, arith, inl, inr, true≢false}
 use Rattle.std.specs.Prelude.{is_none, ◌==◌}
 use Rattle.std.specs.List.{list_any, find, zip}
 use Rattle.std.specs.Fmt.{decimal}
@@ -13,8 +13,10 @@ use Rattle.grid_moves.specs.declared.turns.Side.{Side}
 use Rattle.grid_moves.specs.declared.turns.Side.TheVariants.{Left, Right, Up, Down}
 use Rattle.pentagon_map.specs.declared.Corner.{Corner}
 use Rattle.pentagon_map.specs.declared.Corner.TheVariants.{Over, Under}
+use Rattle.stabilise.specs.declared.squares.Square.{Square}
+use Rattle.stabilise.specs.declared.squares.Square.TheVariants.{Nw, Ne, Sw, Se}
 use Rattle.grid_text.specs.Words.{Word, is_word, numeral, state_of}
-use Rattle.grid_text.specs.Commands.{sign_word, signs, side_word, sides, corner_word, corners, Argument, sign, side, corner, number, state, argument_word}
+use Rattle.grid_text.specs.Commands.{sign_word, signs, side_word, sides, corner_word, corners, square_word, squares, Argument, sign, side, corner, square, number, first_of_two, state, argument_word}
 use Rattle.grid_text.specs.Faults.{Kind, choice_of, number_between, state_of_size, kind_of, is_bad_by, has_bad, exactly, is_bad_count}
 use Rattle.grid_text.specs.Inner.Kinds.{is_bad}
 use Rattle.grid_text.specs.declared.commands.Sign.{Sign}
@@ -40,7 +42,7 @@ count-exact k words e = elim (cases_eq k (length words)) [
 pub count-right : (k : ℕ) (words : List Word) → length words ≡ k → not (k == length words) ≡ false
 count-right k words e = ap not (eq-eqb k (length words) (sym e))
 
--- lists of one and two words
+-- lists of one, two and three words
 pub one_word : (words : List Word) → length words ≡ 1 → (w : Word) × (words ≡ w ∷ [])
 one_word [] e = absurd (omega arith)
 one_word (w ∷ []) e = (w, refl)
@@ -51,6 +53,13 @@ two_words [] e = absurd (omega arith)
 two_words (w ∷ []) e = absurd (omega arith)
 two_words (v ∷ w ∷ []) e = (v, w, refl)
 two_words (v ∷ w ∷ u ∷ words) e = absurd (omega arith)
+
+pub three_words : (words : List Word) → length words ≡ 3 → (u : Word) × (v : Word) × (w : Word) × (words ≡ u ∷ v ∷ w ∷ [])
+three_words [] e = absurd (omega arith)
+three_words (w ∷ []) e = absurd (omega arith)
+three_words (v ∷ w ∷ []) e = absurd (omega arith)
+three_words (u ∷ v ∷ w ∷ []) e = (u, v, w, refl)
+three_words (t ∷ u ∷ v ∷ w ∷ words) e = absurd (omega arith)
 
 -- ---- tests
 
@@ -117,6 +126,19 @@ pub corner-good : (v : Corner) → is_bad (choice_of (map corner_word corners)) 
 corner-good Over = refl
 corner-good Under = refl
 
+pub square-good : (v : Square) → is_bad (choice_of (map square_word squares)) (square_word v) ≡ false
+square-good Nw = refl
+square-good Ne = refl
+square-good Sw = refl
+square-good Se = refl
+
+-- and a square is found by its word
+pub square-found : (v : Square) → find (λ u. is_word (square_word u) (square_word v)) squares ≡ Some v
+square-found Nw = refl
+square-found Ne = refl
+square-found Sw = refl
+square-found Se = refl
+
 -- ---- numbers and states
 
 -- where there is a value it is something
@@ -150,6 +172,7 @@ state-good n x bijection = ap is_none (state_of-state_word n x (state_word x) re
 -- an argument that may stand in a grid of size n
 abbrev pub IsGood : ℕ → Argument → Type 0
 IsGood n (number c) = c < n
+IsGood n (first_of_two c) = c + 1 < n
 IsGood n (state x) = IsBijection n x
 IsGood n a = Unit {0}
 
@@ -163,7 +186,9 @@ module _ (n : ℕ) (fits : n < 2 ^ 64) where
   argument-good (sign v) h = sign-good v
   argument-good (side v) h = side-good v
   argument-good (corner v) h = corner-good v
+  argument-good (square v) h = square-good v
   argument-good (number c) h = number-good 0 (n - 1) c (omega arith) (omega arith) (omega arith)
+  argument-good (first_of_two c) h = number-good 0 (n - 2) c (omega arith) (omega arith) (omega arith)
   argument-good (state x) h = state-good n x h
 
   -- neither are all their words

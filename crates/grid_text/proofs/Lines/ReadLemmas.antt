@@ -1,10 +1,10 @@
 -- A line of a body without a fault is `end` or that of a command that may stand there. It begins with a keyword,
 -- since the table knows its first word; no row of the table holds, so that its other words are as many as the
 -- form's and good for their kinds, and what they stand for makes the command.
-use Rattle.std.proofs.Common.{◌≡◌, ◌⊎◌, ℕ, ◌-◌, ◌<◌, false, not, List, [], ◌∷◌, length, map, get_or, None, Some, refl, ap, subst, ◌∙◌, sym, arith, inl, inr, true≢false}
+use Rattle.std.proofs.Common.{◌≡◌, ◌⊎◌, ℕ, ◌-◌, ◌<◌, false, not, ◌||◌, List, [], ◌∷◌, length, map, get_or, None, Some, refl, ap, subst, ◌∙◌, sym, arith, inl, inr, true≢false}
 use Rattle.std.specs.Prelude.{nat_le}
 use Rattle.std.specs.Option.{option_map_or}
-use Rattle.std.specs.List.{list_any, Contains}
+use Rattle.std.specs.List.{list_any, find, Contains}
 use Rattle.std.proofs.lemmas.List.Sorted.{IsPermutation-refl, All-permutation}
 use Rattle.std.proofs.lemmas.List.Elements.{Contains-get_or}
 use Rattle.std.proofs.lemmas.Bool.{cases_lt, le-leb, or_parts, not-false}
@@ -18,11 +18,12 @@ use Rattle.grid_moves.specs.Moves.{are_commuting}
 use Rattle.grid_moves.specs.declared.commutations.Axis.{Axis}
 use Rattle.grid_moves.specs.declared.commutations.Axis.TheVariants.{Cols, Rows}
 use Rattle.grid_text.specs.Limits.{max_commands}
-use Rattle.grid_text.specs.Words.{Word, numeral}
-use Rattle.grid_text.specs.Commands.{sign_word, signs, side_word, sides, corner_word, corners, axis_word, IsLineOf, IsAllowed, IsStateOf}
+use Rattle.stabilise.specs.Stabilised.{is_block}
+use Rattle.grid_text.specs.Words.{Word, is_word, numeral}
+use Rattle.grid_text.specs.Commands.{sign_word, signs, side_word, sides, corner_word, corners, square_word, squares, axis_word, stab_word, destab_word, IsLineOf, IsAllowed, IsStateOf}
 use Rattle.grid_text.specs.Script.{GridScript, IsScript, grid_in_force}
 use Rattle.grid_text.specs.Document.{body, end_word}
-use Rattle.grid_text.specs.Faults.{exactly, choice_of, number_between, state_of_size, is_bad_count, has_bad, has_repeated, fails_to_commute, is_not_commuting, is_one_too_many, fault_in_table}
+use Rattle.grid_text.specs.Faults.{exactly, choice_of, number_between, state_of_size, is_bad_count, has_bad, has_repeated, fails_to_commute, is_not_commuting, is_not_block, is_one_too_many, fault_in_table}
 use Rattle.grid_text.specs.Inner.Kinds.{is_bad}
 use Rattle.grid_text.specs.Inner.Reading.{example, keyword_word, keyword_form}
 use Rattle.grid_text.specs.declared.keywords.Keyword.{Keyword}
@@ -31,9 +32,10 @@ use Rattle.grid_text.specs.declared.commands.Command.{Command}
 use Rattle.grid_text.specs.declared.commands.Command.TheVariants as command
 use Rattle.grid_text.specs.declared.faults.TextFault.TheVariants as fault
 use Rattle.grid_text.proofs.Lines.WordLemmas.{numeral-decimal}
-use Rattle.grid_text.proofs.Lines.KindLemmas.{count-exact, one_word, two_words, value_of_word, number_of_word, state_of_word}
+use Rattle.grid_text.proofs.Lines.KindLemmas.{count-exact, one_word, two_words, three_words, value_of_word, number_of_word, state_of_word, square-found}
+use Rattle.grid_text.proofs.Lines.BlockLemmas.{has_no_block-read, room_below_greatest}
 use Rattle.grid_text.proofs.Lines.KeywordLemmas.{keyword_cases, form_at-keyword, keyword_of_axis}
-use Rattle.grid_text.proofs.Lines.ScriptLemmas.{IsGridOf-grid_in_force}
+use Rattle.grid_text.proofs.Lines.ScriptLemmas.{IsGrid-grid_in_force}
 use Rattle.grid_text.proofs.Lines.FaultLemmas.{NoRowHolds, NoRowHolds-from_none, fault_in_table-no_word, fault_in_table-bad_word}
 use Rattle.grid_text.proofs.Lines.CommandLemmas.{chain_words}
 use Rattle.grid_text.proofs.States.ChainLemmas.{apart-states, ascending_of}
@@ -59,7 +61,7 @@ pub IsStateOf-from_bijection : (s : GridScript) → IsScript s → (x : List ℕ
     → IsStateOf (grid_in_force s) x
 IsStateOf-from_bijection s h x bijection = record {
   state = record {
-    size = subst IsSize (sym bijection.long) (IsGridOf-grid_in_force s h).grid.is_size;
+    size = subst IsSize (sym bijection.long) (IsGrid-grid_in_force s h).is_size;
     bijection = subst (λ m. IsBijection m x) (sym bijection.long) bijection;
   };
   same_size = bijection.long;
@@ -126,8 +128,8 @@ module _ (s : GridScript) (h : IsScript s) where
       (subst (λ f. has_bad fault.BadNumber f arguments ≡ false) form r.0.number) in
       let v = value_of_word corner_word corners words.1 choice in
       let c = number_of_word 0 (n - 1) words.0 numbered in
-      let least = (IsGridOf-grid_in_force s h).grid.is_size.least in
-      let most = (IsGridOf-grid_in_force s h).grid.is_size.greatest in
+      let least = (IsGrid-grid_in_force s h).is_size.least in
+      let most = (IsGrid-grid_in_force s h).is_size.greatest in
       let high = c.1.2 in
       let is_c : numeral 0 (n - 1) words.0 ≡ Some c.0 =
       numeral-decimal 0 (n - 1) c.0 words.0 c.1.0 (omega arith) (omega arith) (omega arith) in
@@ -140,6 +142,61 @@ module _ (s : GridScript) (h : IsScript s) where
           ap (λ a. axis_word axis ∷ a) words.2 ∙ (λ i. axis_word axis ∷ c.1.0 i ∷ v.1 i ∷ []),
           (omega arith, not-false (are_commuting axis (grid_in_force s) c.0) fails),
           room,
+        ),
+      )
+
+  -- `stab`
+  stab-good : (arguments : List Word) → Rest keyword.Stab arguments → IsGood (stab_word ∷ arguments)
+  stab-good arguments r =
+      let words = two_words arguments (count-exact 2 arguments r.0.count) in
+      let choice : is_bad (choice_of (map square_word squares)) words.1 ≡ false =
+      sym (or-false _)
+      ∙ subst (λ a. has_bad fault.BadChoice (keyword_form n keyword.Stab) a ≡ false) words.2 r.0.choice in
+      let numbered : is_bad (number_between 0 (n - 1)) words.0 ≡ false =
+      sym (or-false _)
+      ∙ subst (λ a. has_bad fault.BadNumber (keyword_form n keyword.Stab) a ≡ false) words.2 r.0.number in
+      let v = value_of_word square_word squares words.1 choice in
+      let c = number_of_word 0 (n - 1) words.0 numbered in
+      let least = (IsGrid-grid_in_force s h).is_size.least in
+      let high = c.1.2 in
+      inr (
+        command.Stab c.0 v.0,
+        (
+          ap (λ a. stab_word ∷ a) words.2 ∙ (λ i. stab_word ∷ c.1.0 i ∷ v.1 i ∷ []),
+          (omega arith, room_below_greatest n (IsGrid-grid_in_force s h).is_size.greatest r.0.limit),
+          few r.1,
+        ),
+      )
+
+  -- `destab`
+  destab-good : (arguments : List Word) → Rest keyword.Destab arguments → IsGood (destab_word ∷ arguments)
+  destab-good arguments r =
+      let words = three_words arguments (count-exact 3 arguments r.0.count) in
+      let choice : is_bad (choice_of (map square_word squares)) words.2 ≡ false =
+      sym (or-false _)
+      ∙ subst (λ a. has_bad fault.BadChoice (keyword_form n keyword.Destab) a ≡ false) words.3 r.0.choice in
+      let numbered = or_parts (is_bad (number_between 0 (n - 2)) words.0)
+      (is_bad (number_between 0 (n - 2)) words.1 || false)
+      (subst (λ a. has_bad fault.BadNumber (keyword_form n keyword.Destab) a ≡ false) words.3 r.0.number) in
+      let v = value_of_word square_word squares words.2 choice in
+      let c = number_of_word 0 (n - 2) words.0 numbered.0 in
+      let q = number_of_word 0 (n - 2) words.1 (sym (or-false _) ∙ numbered.1) in
+      let least = (IsGrid-grid_in_force s h).is_size.least in
+      let most = (IsGrid-grid_in_force s h).is_size.greatest in
+      let column_high = c.1.2 in
+      let row_high = q.1.2 in
+      let none : not (is_block (grid_in_force s) c.0 q.0 v.0) ≡ false =
+      sym (has_no_block-read (grid_in_force s) words.0 words.1 words.2 c.0 q.0 v.0
+      (numeral-decimal 0 (n - 2) c.0 words.0 c.1.0 (omega arith) (omega arith) (omega arith))
+      (numeral-decimal 0 (n - 2) q.0 words.1 q.1.0 (omega arith) (omega arith) (omega arith))
+      (ap (λ w. find (λ e. is_word (square_word e) w) squares) v.1 ∙ square-found v.0))
+      ∙ subst (λ a. is_not_block (body s) (destab_word ∷ a) ≡ false) words.3 r.0.block in
+      inr (
+        command.Destab c.0 q.0 v.0,
+        (
+          ap (λ a. destab_word ∷ a) words.3 ∙ (λ i. destab_word ∷ c.1.0 i ∷ q.1.0 i ∷ v.1 i ∷ []),
+          (omega arith, omega arith, not-false (is_block (grid_in_force s) c.0 q.0 v.0) none),
+          few r.1,
         ),
       )
 
@@ -193,6 +250,8 @@ module _ (s : GridScript) (h : IsScript s) where
   key-good keyword.Rows arguments r =
       commute-good Rows arguments r (λ v w e. subst (λ a. is_not_commuting (body s) (axis_word Rows ∷ a) ≡ false) e
       r.0.commuting) refl refl (few r.1)
+  key-good keyword.Stab arguments r = stab-good arguments r
+  key-good keyword.Destab arguments r = destab-good arguments r
   key-good keyword.End arguments r =
       inl (ap (λ a. end_word ∷ a) (nil_from_length arguments (count-exact 0 arguments r.0.count)))
   key-good k arguments r = alone-good k (option_map_or (λ c. c) (example k) command.Front) arguments refl refl tt refl r

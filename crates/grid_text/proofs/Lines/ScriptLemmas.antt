@@ -1,53 +1,28 @@
--- Scripts with one more command, and the grids in force. Turns and exchanges make grids of grids, of the same size; so
--- the grid in force after commands that may stand there is a grid, and a script with one more command is a script.
-use Rattle.std.proofs.Common.{◌≡◌, ℕ, ◌<◌, List, [], ◌∷◌, ◌++◌, length, refl, ap, subst, ◌∙◌, sym, arith, length-append}
-use Rattle.torus_geom.specs.Marks.{Marks, IsGrid, size}
-use Rattle.torus_geom.specs.Transposed.{transposed}
-use Rattle.torus_geom.specs.Range.{one_down}
-use Rattle.torus_geom.proofs.TransposeLemmas.{IsGrid-transposed, length-transpose}
-use Rattle.std.proofs.lemmas.List.Edits.{length-swap}
-use Rattle.grid_moves.specs.Moves.{swapped, swapped_columns}
-use Rattle.grid_moves.specs.declared.commutations.Axis.{Axis}
-use Rattle.grid_moves.specs.declared.commutations.Axis.TheVariants.{Cols, Rows}
-use Rattle.grid_moves.proofs.Turned.TurnLemmas.{IsGrid-turned, length-turned_rows}
-use Rattle.grid_moves.proofs.Exchanged.SwapGridLemmas.{IsGrid-swapped_columns}
+-- Scripts with one more command, and the grids in force. Each command that may stand where it does makes a grid of a
+-- grid, of any size; so the grid in force after commands that may stand there is a grid, and a script with one more
+-- command is a script.
+use Rattle.std.proofs.Common.{◌≡◌, ◌<◌, List, [], ◌∷◌, ◌++◌, length, refl, ap, subst, ◌∙◌, sym, arith, length-append}
+use Rattle.torus_geom.specs.Marks.{Marks, IsGrid}
+use Rattle.grid_moves.proofs.Turned.TurnLemmas.{IsGrid-turned}
+use Rattle.grid_moves.proofs.Exchanged.SwappedTwice.{IsGrid-swapped}
+use Rattle.stabilise.proofs.StabilisedGrids.{IsGrid-stabilised}
+use Rattle.stabilise.proofs.BlockLemmas.{IsGrid-destabilised}
 use Rattle.grid_text.specs.Commands.{IsAllowed, grid_after}
 use Rattle.grid_text.specs.Script.{GridScript, IsScript, AreAllowed, grid_after_all, grid_in_force, with_command}
 use Rattle.grid_text.specs.declared.commands.Command.{Command}
 use Rattle.grid_text.specs.declared.commands.Command.TheVariants as command
 use Rattle.grid_text.specs.Limits.{max_commands}
 
--- a grid of the size of another
-pub record IsGridOf (n : ℕ) (g : Marks) : Type 0 where
-  pub grid : IsGrid g
-  pub same_size : size g ≡ n
-
--- the grid with two columns exchanged is one of the same size
-IsGridOf-swapped_columns : (n : ℕ) (g : Marks) (c : ℕ) → IsGridOf n g → c < size g → IsGridOf n (swapped_columns g c)
-IsGridOf-swapped_columns n g c h below = record {
-  grid = IsGrid-swapped_columns g c h.grid below;
-  same_size = length-swap g.o (one_down (size g) c) c ∙ h.same_size;
-}
-
--- so is the transposed grid
-IsGridOf-transposed : (n : ℕ) (g : Marks) → IsGridOf n g → IsGridOf n (transposed g)
-IsGridOf-transposed n g h = record { grid = IsGrid-transposed g h.grid; same_size = length-transpose g.o ∙ h.same_size }
-
--- and the grid with two columns or rows exchanged
-IsGridOf-swapped : (axis : Axis) (n : ℕ) (g : Marks) (c : ℕ) → IsGridOf n g → c < size g → IsGridOf n (swapped axis g c)
-IsGridOf-swapped Cols n g c h below = IsGridOf-swapped_columns n g c h below
-IsGridOf-swapped Rows n g c h below =
-    IsGridOf-transposed n (swapped_columns (transposed g) c)
-    (IsGridOf-swapped_columns n (transposed g) c (IsGridOf-transposed n g h) (omega (arith, length-transpose g.o)))
-
--- the grid after a command is one of the same size
-pub IsGridOf-grid_after : (n : ℕ) (g : Marks) (c : Command) → IsGridOf n g → IsAllowed g c → IsGridOf n (grid_after g c)
-IsGridOf-grid_after n g (command.Turn side) h a = record {
-  grid = IsGrid-turned side g h.grid;
-  same_size = length-turned_rows side (size g) g.o ∙ h.same_size;
-}
-IsGridOf-grid_after n g (command.Commute axis c corner) h a = IsGridOf-swapped axis n g c h a.0
-IsGridOf-grid_after n g c h a = h
+-- the grid after a command that may stand there is a grid
+pub IsGrid-grid_after : (g : Marks) (c : Command) → IsGrid g → IsAllowed g c → IsGrid (grid_after g c)
+IsGrid-grid_after g (command.Turn side) h a = IsGrid-turned side g h
+IsGrid-grid_after g (command.Commute axis c corner) h a = IsGrid-swapped axis g h c a.0
+IsGrid-grid_after g (command.Stab c empty) h a =
+    let least = h.is_size.least in
+    let room = a.1 in
+    IsGrid-stabilised g c empty h a.0 (record { least = omega arith; greatest = omega arith })
+IsGrid-grid_after g (command.Destab c r empty) h a = IsGrid-destabilised g c r empty h a.0 a.1 a.2
+IsGrid-grid_after g c h a = h
 
 -- the grid in force after one more command
 pub grid_after_all-push : (g : Marks) (commands : List Command) (c : Command)
@@ -61,17 +36,15 @@ pub AreAllowed-push : (g : Marks) (commands : List Command) (c : Command) → Ar
 AreAllowed-push g [] c all one = (one, tt)
 AreAllowed-push g (b ∷ commands) c all one = (all.0, AreAllowed-push (grid_after g b) commands c all.1 one)
 
--- the grid in force is a grid of the size of the first
-pub IsGridOf-grid_after_all : (n : ℕ) (g : Marks) (commands : List Command) → IsGridOf n g → AreAllowed g commands
-    → IsGridOf n (grid_after_all g commands)
-IsGridOf-grid_after_all n g [] h all = h
-IsGridOf-grid_after_all n g (c ∷ commands) h all =
-    IsGridOf-grid_after_all n (grid_after g c) commands (IsGridOf-grid_after n g c h all.0) all.1
+-- the grid in force is a grid
+IsGrid-grid_after_all : (g : Marks) (commands : List Command) → IsGrid g → AreAllowed g commands
+    → IsGrid (grid_after_all g commands)
+IsGrid-grid_after_all g [] h all = h
+IsGrid-grid_after_all g (c ∷ commands) h all =
+    IsGrid-grid_after_all (grid_after g c) commands (IsGrid-grid_after g c h all.0) all.1
 
--- the same of a script
-pub IsGridOf-grid_in_force : (s : GridScript) → IsScript s → IsGridOf (size s.grid) (grid_in_force s)
-IsGridOf-grid_in_force s h =
-    IsGridOf-grid_after_all (size s.grid) s.grid s.commands (record { grid = h.grid; same_size = refl }) h.allowed
+pub IsGrid-grid_in_force : (s : GridScript) → IsScript s → IsGrid (grid_in_force s)
+IsGrid-grid_in_force s h = IsGrid-grid_after_all s.grid s.commands h.grid h.allowed
 
 -- a script with one more command
 pub IsScript-with_command : (s : GridScript) (c : Command) → IsScript s → length s.commands < max_commands

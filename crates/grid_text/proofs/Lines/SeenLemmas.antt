@@ -26,6 +26,15 @@ seen-two (t ∷ []) d e two = absurd (omega arith)
 seen-two (t ∷ u ∷ []) d e two = refl
 seen-two (t ∷ u ∷ r ∷ words) d e two = absurd (omega arith)
 
+-- three words
+pub seen-three : (words : List (Bor (List ℕ))) (d e f : Bor (List ℕ)) → length words ≡ 3
+    → seen words ≡ (get_or words 0 d).now ∷ (get_or words 1 e).now ∷ (get_or words 2 f).now ∷ []
+seen-three [] d e f three = absurd (omega arith)
+seen-three (t ∷ []) d e f three = absurd (omega arith)
+seen-three (t ∷ u ∷ []) d e f three = absurd (omega arith)
+seen-three (t ∷ u ∷ r ∷ []) d e f three = refl
+seen-three (t ∷ u ∷ r ∷ v ∷ words) d e f three = absurd (omega arith)
+
 -- as many words
 pub length-seen : (words : List (Bor (List ℕ))) → length (seen words) ≡ length words
 length-seen words = length-map words (λ (w : Bor (List ℕ)). w.now)
@@ -64,6 +73,15 @@ seen-other words expected d some other rest e =
 pub seen-second : (words : List (Bor (List ℕ))) (e : Bor (List ℕ)) → length words ≡ 2
     → (v : Word) × (seen words ≡ v ∷ (get_or words 1 e).now ∷ [])
 seen-second words e two = ((get_or words 0 e).now, seen-two words e e two)
+
+-- the third of three words, and the first
+pub seen-third : (words : List (Bor (List ℕ))) (f : Bor (List ℕ)) → length words ≡ 3
+    → (v : Word) × (u : Word) × (seen words ≡ v ∷ u ∷ (get_or words 2 f).now ∷ [])
+seen-third words f three = ((get_or words 0 f).now, (get_or words 1 f).now, seen-three words f f f three)
+
+pub seen-first_of_three : (words : List (Bor (List ℕ))) (d f : Bor (List ℕ)) → length words ≡ 3
+    → (u : Word) × (seen words ≡ (get_or words 0 d).now ∷ u ∷ (get_or words 2 f).now ∷ [])
+seen-first_of_three words d f three = ((get_or words 1 f).now, seen-three words d f f three)
 
 -- one more word
 pub seen-more : (words : List (Bor (List ℕ))) (i : ℕ) (d : Bor (List ℕ)) → i < length words

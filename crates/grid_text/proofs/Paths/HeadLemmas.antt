@@ -57,6 +57,8 @@ module _ (word : Word) (known : form_at head word ≡ Some size_form) where
         state = refl;
         repeated = refl;
         commuting = refl;
+        block = refl;
+        limit = refl;
       })
 
   -- and the other way round

@@ -182,6 +182,8 @@ module _ (n : ℕ) (o x : List ℕ) (words : List Word) (filled : is_blank words
             state = row-states;
             repeated = refl;
             commuting = refl;
+            block = refl;
+            limit = refl;
           })
 
 -- the tests of the marks, for the four causes

@@ -16,7 +16,7 @@ use Rattle.torus_geom.specs.declared.grids.GridFault.{GridFault}
 use Rattle.torus_geom.specs.declared.grids.GridFault.TheVariants.{NotPermutation, SameSquare}
 use Rattle.std.proofs.lemmas.Fmt.{decimal_injective}
 use Rattle.grid_text.specs.Document.{Place, o_line, x_line, o_word, x_word}
-use Rattle.grid_text.specs.Faults.{Kind, Form, number_between, is_bad_by, form_at, form_among, row_form, is_after_end, is_not_commuting, has_same_square, has_repeated, is_bad_count, has_bad, fault_in_table}
+use Rattle.grid_text.specs.Faults.{Kind, Form, number_between, is_bad_by, form_at, form_among, row_form, is_after_end, is_not_commuting, is_not_block, is_at_limit, has_same_square, has_repeated, is_bad_count, has_bad, fault_in_table}
 use Rattle.grid_text.specs.Inner.Kinds.{is_bad}
 use Rattle.grid_text.specs.Inner.Reading.{IsRowPlace, AreNumerals}
 use Rattle.grid_text.specs.declared.faults.TextFault.TheVariants as fault
@@ -308,8 +308,10 @@ module _ (p : Place) (letter : Word) (n : ℕ) (place : IsRowPlace letter n p) w
   -- the rows of the table, but for the squares
   row-right : IsSize n → (x : List ℕ) → IsBijection n x → has_same_square p (map decimal x) ≡ false
       → is_not_commuting p (letter ∷ map decimal x) ≡ false
+      → is_not_block p (letter ∷ map decimal x) ≡ false
+      → is_at_limit p (letter ∷ map decimal x) ≡ false
       → NoRowHolds p (row_form n) (letter ∷ map decimal x) (map decimal x)
-  row-right small x bijection apart commuting =
+  row-right small x bijection apart commuting block limit =
       let most = small.greatest in
       let long : length (map decimal x) ≡ n = length-map x decimal ∙ bijection.long in
       let good = rows-good n x (omega arith) (below-IsBijection n x bijection) in
@@ -322,6 +324,8 @@ module _ (p : Place) (letter : Word) (n : ℕ) (place : IsRowPlace letter n p) w
         state = row-states p letter n place (letter ∷ map decimal x) (map decimal x) refl long good;
         repeated = refl;
         commuting = commuting;
+        block = block;
+        limit = limit;
       }
 
 -- O lines
@@ -331,7 +335,7 @@ o_line-right n o words small bijection e =
     ap (fault_in_table (o_line n)) e
     ∙ fault_in_table-last (o_line n) (row_form n) (o_word ∷ map decimal o) (map decimal o) refl
     (row-known (o_line n) o_word n (IsRowPlace-o_line n)) refl
-    (row-right (o_line n) o_word n (IsRowPlace-o_line n) small o bijection refl refl)
+    (row-right (o_line n) o_word n (IsRowPlace-o_line n) small o bijection refl refl refl refl)
 
 pub o_line-read : (n : ℕ) (words : List Word) → IsSize n → fault_in_table (o_line n) words ≡ None
     → (o : List ℕ) × (IsBijection n o × (words ≡ o_word ∷ map decimal o))
@@ -351,7 +355,7 @@ x_line-right n o x words small bijection_o bijection apart e =
     (row-right (x_line n o) x_word n (IsRowPlace-x_line n o) small x bijection
     (squares-apart o x (bijection_o.long ∙ sym bijection.long) (λ c l. apart c (omega arith))
     (λ r m. let b = below-IsBijection n o bijection_o r m in omega arith)
-    (λ r m. let b = below-IsBijection n x bijection r m in omega arith)) refl)
+    (λ r m. let b = below-IsBijection n x bijection r m in omega arith)) refl refl refl)
 
 pub x_line-read : (n : ℕ) (o : List ℕ) (words : List Word) → IsSize n → IsBijection n o
     → fault_in_table (x_line n o) words ≡ None

@@ -20,6 +20,8 @@ use Rattle.grid_text.specs.PlainForm.{after_space, line_of, command_line, plain_
 use Rattle.pentagon_map.specs.declared.Corner.{Corner}
 use Rattle.pentagon_map.specs.declared.Corner.TheVariants.{Over, Under}
 use Rattle.grid_moves.specs.declared.commutations.Axis.TheVariants.{Cols, Rows}
+use Rattle.stabilise.specs.declared.squares.Square.{Square}
+use Rattle.stabilise.specs.declared.squares.Square.TheVariants.{Nw, Ne, Sw, Se}
 use Rattle.grid_text.specs.declared.commands.Sign.{Sign}
 use Rattle.grid_text.specs.declared.commands.Sign.TheVariants.{Plus, Minus}
 use Rattle.grid_text.specs.declared.commands.Command.TheVariants as command
@@ -29,9 +31,9 @@ use Rattle.grid_text.specs.Document.{head, o_line, x_line, body, ended, end_word
 use Rattle.grid_text.proofs.Lines.PartLemmas.{is_space, parts-byte}
 use Rattle.grid_text.proofs.Lines.KindLemmas.{IsGood, AreGood}
 use Rattle.grid_text.proofs.Lines.CommandLemmas.{arguments-allowed}
-use Rattle.grid_text.proofs.Lines.ScriptLemmas.{IsGridOf-grid_in_force, IsScript-with_command, IsScript-no_command, grid_after_all-push}
+use Rattle.grid_text.proofs.Lines.ScriptLemmas.{IsGrid-grid_in_force, IsScript-with_command, IsScript-no_command, grid_after_all-push}
 use Rattle.grid_text.proofs.States.RepeatedLemmas.{below-IsBijection}
-use Rattle.grid_text.specs.Commands.{sign_word, side_word, corner_word, Argument, sign, side, corner, number, state, argument_word, command_row, command_words, IsLineOf}
+use Rattle.grid_text.specs.Commands.{sign_word, side_word, corner_word, square_word, Argument, sign, side, corner, square, number, first_of_two, state, argument_word, command_row, command_words, IsLineOf}
 use Rattle.grid_text.specs.declared.commands.Command.{Command}
 use Rattle.std.specs.List.{list_all}
 use Rattle.std.proofs.lemmas.Bool.Decides.{nat_tests}
@@ -175,6 +177,12 @@ plain_corner : (v : Corner) → IsPlainWord (corner_word v)
 plain_corner Over = closed (codes "over") refl (omega arith)
 plain_corner Under = closed (codes "under") refl (omega arith)
 
+plain_square : (v : Square) → IsPlainWord (square_word v)
+plain_square Nw = closed (codes "nw") refl (omega arith)
+plain_square Ne = closed (codes "ne") refl (omega arith)
+plain_square Sw = closed (codes "sw") refl (omega arith)
+plain_square Se = closed (codes "se") refl (omega arith)
+
 -- the words of good arguments
 plain_arguments : (n : ℕ) (arguments : List Argument) → 0 < n → n < 11 → AreGood n arguments
     → ArePlainWords (map argument_word arguments)
@@ -185,7 +193,9 @@ plain_arguments n (a ∷ arguments) some few h = (plain a h.0, plain_arguments n
     plain (sign v) k = plain_sign v
     plain (side v) k = plain_side v
     plain (corner v) k = plain_corner v
+    plain (square v) k = plain_square v
     plain (number c) k = plain_decimal c (omega (arith, k, few))
+    plain (first_of_two c) k = plain_decimal c (omega (arith, k, few))
     plain (state x) k =
         let long = k.long in (clean_state x, omega (arith, some, long, length-map x (λ (q : ℕ). 48 + q)))
 
@@ -214,11 +224,10 @@ commands-path g done [] h all few = (
 )
 commands-path g done (c ∷ later) h all few =
     let s : GridScript = record { grid = g; commands = done } in
-    let in_force = IsGridOf-grid_in_force s h in
-    let most = h.grid.is_size.greatest in
-    let same = in_force.same_size in
+    let in_force = IsGrid-grid_in_force s h in
+    let most = in_force.is_size.greatest in
     let words = map argument_word (command_row c).1 in
-    let least = h.grid.is_size.least in
+    let least = in_force.is_size.least in
     let plain = plain_arguments (size (grid_after_all g done)) (command_row c).1 (omega arith) (omega arith)
     (arguments-allowed (grid_after_all g done) c all.0) in
     let room : length done < max_commands = omega arith in

@@ -31,6 +31,7 @@ use Rattle.grid_text.specs.declared.commands.Sign.TheVariants.{Plus}
 use Rattle.grid_moves.specs.declared.turns.Side.TheVariants.{Left}
 use Rattle.grid_moves.specs.declared.commutations.Axis.TheVariants.{Cols, Rows}
 use Rattle.pentagon_map.specs.declared.Corner.TheVariants.{Over}
+use Rattle.stabilise.specs.declared.squares.Square.TheVariants.{Nw}
 use Rattle.grid_text.specs.declared.faults.TextFault.{TextFault}
 use Rattle.grid_text.specs.declared.keywords.Keyword.{Keyword}
 use Rattle.grid_text.specs.declared.keywords.Keyword.TheVariants as keyword
@@ -47,6 +48,8 @@ example keyword.Bounds = Some command.Bounds
 example keyword.Turn = Some (command.Turn Left)
 example keyword.Cols = Some (command.Commute Cols 0 Over)
 example keyword.Rows = Some (command.Commute Rows 0 Over)
+example keyword.Stab = Some (command.Stab 0 Nw)
+example keyword.Destab = Some (command.Destab 0 0 Nw)
 example keyword.End = None
 
 abbrev pub keyword_word : Keyword → Word
