@@ -26,6 +26,8 @@ mod reports;
 #[cfg(test)]
 mod rows;
 #[cfg(test)]
+mod stabilisations;
+#[cfg(test)]
 mod tests;
 #[cfg(test)]
 mod verdicts;

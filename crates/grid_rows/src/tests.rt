@@ -10,6 +10,7 @@ use crate::moves::{MOVES, MOVES_OF_NINE};
 use crate::refusals::REFUSALS;
 use crate::reports::REPORTS;
 use crate::rows::try_rows;
+use crate::stabilisations::STABILISATIONS;
 use crate::verdicts::VERDICTS;
 use crate::words::WORDS;
 use std::test::Fail;
@@ -27,6 +28,11 @@ fn moves(rt: HostRuntime) -> Result<(), Fail> {
 #[test]
 fn moves_of_nine(rt: HostRuntime) -> Result<(), Fail> {
     try_rows(&rt, MOVES_OF_NINE)
+}
+
+#[test]
+fn stabilisations(rt: HostRuntime) -> Result<(), Fail> {
+    try_rows(&rt, STABILISATIONS)
 }
 
 #[test]
