@@ -18,6 +18,7 @@ use Rattle.torus_geom.specs.Marks.{Marks, size}
 use Rattle.grid_text.specs.Script.{GridScript}
 use Rattle.grid_text.specs.declared.commands.Command.{Command}
 use Rattle.grid_text.specs.declared.commands.Command.TheVariants as command
+use Rattle.hexagon_map.specs.Hexagon.{homotopy, return_image}
 use Rattle.grid_job.specs.InForce.{InForce, at_start, after_command}
 use Rattle.grid_job.specs.Hat.{IsHatText}
 use Rattle.grid_job.specs.VerdictTexts.{IsClassText, IsBoundsText}
@@ -29,8 +30,9 @@ pub record IsTableText (g : Marks) (text : List ℕ) : Type 0 where
   pub lines : text ≡ table_lines rows
 
 -- the classical invariants of the front; the table of ranks; the hat, or that there is none; the verdict of the
--- class of x+ or x-, and of the chain in force, each with its evidence; the states of the border, and those of the
--- chain in force, in ascending order; nothing if a command makes what is in force
+-- class of x+ or x-, and of the chain in force, each with its evidence; the states of the border, those of the chain in
+-- force, and those of its image there and back across a commutation and of its homotopy, in ascending order; nothing if a
+-- command makes what is in force
 abbrev pub IsAnswer : InForce → Command → List ℕ → Type 0
 IsAnswer p command.Front text = text ≡ front_line (thurston_bennequin p.grid) (rotation p.grid) (components p.grid)
 IsAnswer p command.Ranks text = IsTableText p.grid text
@@ -39,6 +41,9 @@ IsAnswer p (command.Class sign) text = IsClassText p.grid sign text
 IsAnswer p (command.Border x) text = text ≡ line (chain_line (codes "border") (size p.grid) (border p.grid (single x)))
 IsAnswer p command.Show text = text ≡ line (chain_line (codes "chain") (size p.grid) p.chain)
 IsAnswer p command.Bounds text = IsBoundsText p.grid p.chain text
+IsAnswer p (command.Invert axis c corner) text = text
+    ≡ line (chain_line (codes "return") (size p.grid) (return_image axis p.grid c corner p.chain))
+    ++ line (chain_line (codes "homotopy") (size p.grid) (homotopy axis p.grid c corner p.chain))
 IsAnswer p other text = text ≡ []
 
 -- one answer to each command, in order, and nothing else

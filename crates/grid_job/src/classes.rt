@@ -85,8 +85,8 @@ fn verdict_line(
     class_line(alloc, sign, x, degree(g, x), alive)
 }
 
-// The text, and below it the line of a set of states.
-fn with_set(
+/// The text, and below it the line of a set of states.
+pub(crate) fn with_set(
     alloc: Global,
     mut text: Vec<u8>,
     word: &str,

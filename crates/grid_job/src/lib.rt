@@ -18,6 +18,7 @@ mod classes;
 mod generator;
 mod hats;
 mod in_force;
+mod inversions;
 mod jobs;
 mod made;
 mod modes;

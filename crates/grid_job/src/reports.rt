@@ -18,6 +18,7 @@ ghost use Rattle.grid_job.specs.Report.{IsAnswer, AreAnswers, IsTableText};
 use crate::classes::{bounds_lines, class_lines};
 use crate::hats::hat_text;
 use crate::in_force::follow;
+use crate::inversions::invert_lines;
 use crate::tables::{forget_if_moved, make_table};
 use front_data::front;
 use grid_ports::{NoMemory, Sink, WriteFault, write_all};
@@ -109,6 +110,7 @@ fn answer_to(
         Command::Class(sign) => class_lines(alloc, g, *sign),
         Command::Show => set_line(alloc, "chain", g.size(), p.chain()),
         Command::Bounds => bounds_lines(alloc, g, p.chain()),
+        Command::Invert(axis, c, corner) => invert_lines(alloc, g, *axis, *c, *corner, p.chain()),
         Command::Chain(_)
         | Command::Turn(_)
         | Command::Commute(_, _, _)

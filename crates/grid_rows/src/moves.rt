@@ -103,6 +103,38 @@ $ run
 < grid 4
 < O 0 2 1 3
 < X 1 3 2 0
+< chain 0312
+< invert cols 1 over
+< show
+< end
+> return 0123 2013 3102
+> homotopy 3012
+> chain 0312
+
+$ run
+< grid 4
+< O 0 2 1 3
+< X 1 3 2 0
+< chain 1203
+< invert cols 1 over
+< end
+> return 1203
+> homotopy
+
+$ run
+< grid 4
+< O 0 2 1 3
+< X 3 0 2 1
+< chain 0231
+< invert rows 1 over
+< end
+> return 0123 1203 2130
+> homotopy 1230
+
+$ run
+< grid 4
+< O 0 2 1 3
+< X 1 3 2 0
 < chain 0231 1203 3120
 < turn left
 < show

@@ -12,6 +12,42 @@ $ run
 > refused NotCommuting line 4
 
 $ run
+< grid 5
+< O 0 1 2 3 4
+< X 2 3 4 0 1
+< invert cols 1 over
+< end
+= 2
+> refused NotCommuting line 4
+
+$ run
+< grid 5
+< O 0 1 2 3 4
+< X 2 3 4 0 1
+< invert cols 1
+< end
+= 2
+> refused BadCount line 4
+
+$ run
+< grid 5
+< O 0 1 2 3 4
+< X 2 3 4 0 1
+< invert col 9 over
+< end
+= 2
+> refused BadChoice line 4
+
+$ run
+< grid 5
+< O 0 1 2 3 4
+< X 2 3 4 0 1
+< invert rows 5 over
+< end
+= 2
+> refused BadNumber line 4
+
+$ run
 < grid 2
 < O 1 0
 < X 0 1

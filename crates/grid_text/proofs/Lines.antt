@@ -10,3 +10,4 @@ pub mod CommandLemmas
 pub mod ReadLemmas
 pub mod BodyLemmas
 pub mod StabLemmas
+pub mod InvertLemmas

@@ -2,8 +2,9 @@
 -- of it. Each command is said once, in the table `command_row`.
 --     sign_word, side_word, corner_word, axis_word   the word for each sign, side, corner and axis
 --     square_word                the word for each square of a block of two columns and two rows
---     signs, sides, corners, squares   all of them
+--     signs, sides, corners, squares, axes   all of them
 --     stab_word, destab_word     the first words of the commands of stabilisation
+--     invert_word                the first word of the command for the way there and back across a commutation
 --     Argument                   what a word of a command after its first stands for; a number is that of a column or
 --                                row, or of the first of two neighbouring ones
 --     argument_word a            the word for it
@@ -75,6 +76,9 @@ square_word Se = codes "se"
 abbrev pub squares : List Square
 squares = Nw ∷ Ne ∷ Sw ∷ Se ∷ []
 
+abbrev pub axes : List Axis
+axes = Cols ∷ Rows ∷ []
+
 -- ---- the words of commands
 
 abbrev pub stab_word : Word
@@ -83,11 +87,15 @@ stab_word = codes "stab"
 abbrev pub destab_word : Word
 destab_word = codes "destab"
 
+abbrev pub invert_word : Word
+invert_word = codes "invert"
+
 pub data Argument : Type 0 where
   sign : (v : Sign) → Argument
   side : (v : Side) → Argument
   corner : (v : Corner) → Argument
   square : (v : Square) → Argument
+  axis : (v : Axis) → Argument
   number : (c : ℕ) → Argument
   first_of_two : (c : ℕ) → Argument
   state : (x : List ℕ) → Argument
@@ -97,6 +105,7 @@ argument_word (sign v) = sign_word v
 argument_word (side v) = side_word v
 argument_word (corner v) = corner_word v
 argument_word (square v) = square_word v
+argument_word (axis v) = axis_word v
 argument_word (number c) = decimal c
 argument_word (first_of_two c) = decimal c
 argument_word (state x) = state_word x
@@ -112,9 +121,10 @@ command_row (command.Chain z) = (codes "chain", map state z)
 command_row command.Show = (codes "show", [])
 command_row command.Bounds = (codes "bounds", [])
 command_row (command.Turn v) = (codes "turn", side v ∷ [])
-command_row (command.Commute axis c v) = (axis_word axis, number c ∷ corner v ∷ [])
+command_row (command.Commute i c v) = (axis_word i, number c ∷ corner v ∷ [])
 command_row (command.Stab c v) = (stab_word, number c ∷ square v ∷ [])
 command_row (command.Destab c r v) = (destab_word, first_of_two c ∷ first_of_two r ∷ square v ∷ [])
+command_row (command.Invert i c v) = (invert_word, axis i ∷ number c ∷ corner v ∷ [])
 
 abbrev pub command_words : Command → List Word
 command_words c = (command_row c).0 ∷ map argument_word (command_row c).1
@@ -134,15 +144,16 @@ pub record IsStateOf (g : Marks) (x : List ℕ) : Type 0 where
 abbrev pub IsAllowed : Marks → Command → Type 0
 IsAllowed g (command.Border x) = IsStateOf g x
 IsAllowed g (command.Chain z) = All (IsStateOf g) z × AreAscending z
-IsAllowed g (command.Commute axis c v) = (c < size g) × (are_commuting axis g c ≡ true)
+IsAllowed g (command.Commute i c v) = (c < size g) × (are_commuting i g c ≡ true)
 IsAllowed g (command.Stab c v) = (c < size g) × (size g < greatest_size)
 IsAllowed g (command.Destab c r v) = (c + 1 < size g) × (r + 1 < size g) × (is_block g c r v ≡ true)
+IsAllowed g (command.Invert i c v) = (c < size g) × (are_commuting i g c ≡ true)
 IsAllowed g c = Unit {0}
 
 -- one that is not among these leaves the grid as it is
 abbrev pub grid_after : Marks → Command → Marks
 grid_after g (command.Turn v) = turned v g
-grid_after g (command.Commute axis c v) = swapped axis g c
+grid_after g (command.Commute i c v) = swapped i g c
 grid_after g (command.Stab c v) = stabilised g c v
 grid_after g (command.Destab c r v) = destabilised g c r v
 grid_after g c = g

@@ -30,7 +30,8 @@
 --     has_same_square p arguments      on an X line, the row of some column is that of its O
 --     has_repeated_state form arguments   two states of a line `chain` are the same
 --     fails_to_commute axis g word     columns, or rows, c - 1 and c of g do not commute, where the word is c
---     is_not_commuting p words         a line `cols` or `rows` exchanges such columns or rows
+--     fails_by_words g first word      the first word is that of an axis, and its columns or rows do not commute
+--     is_not_commuting p words         a line `cols`, `rows` or `invert` is about such columns or rows
 --     has_no_block g c r v             the grid has no block in which the square v is empty, where the words are those of
 --                                      its first column, its first row and this square
 --     is_not_block p words             a line `destab` names no block
@@ -65,7 +66,7 @@ use Rattle.stabilise.specs.Stabilised.{is_block}
 use Rattle.stabilise.specs.declared.squares.Square.TheVariants.{Nw}
 use Rattle.grid_text.specs.Limits.{max_commands}
 use Rattle.grid_text.specs.Words.{Word, words_of_lines, symbols, is_blank, is_word, numeral, state_of}
-use Rattle.grid_text.specs.Commands.{sign_word, signs, side_word, sides, corner_word, corners, square_word, squares, axis_word, stab_word, destab_word, Argument, sign, side, corner, square, number, first_of_two, state, command_row}
+use Rattle.grid_text.specs.Commands.{sign_word, signs, side_word, sides, corner_word, corners, square_word, squares, axis_word, axes, stab_word, destab_word, invert_word, Argument, sign, side, corner, square, axis, number, first_of_two, state, command_row}
 use Rattle.grid_text.specs.Script.{grid_in_force}
 use Rattle.grid_text.specs.Picture.{empty_symbol}
 use Rattle.grid_text.specs.Document.{Place, head, o_line, x_line, picture, body, ended, grid_word, o_word, x_word, picture_word, end_word, Path}
@@ -87,6 +88,7 @@ kind_of n (sign v) = choice_of (map sign_word signs)
 kind_of n (side v) = choice_of (map side_word sides)
 kind_of n (corner v) = choice_of (map corner_word corners)
 kind_of n (square v) = choice_of (map square_word squares)
+kind_of n (axis v) = choice_of (map axis_word axes)
 kind_of n (number c) = number_between 0 (n - 1)
 kind_of n (first_of_two c) = number_between 0 (n - 2)
 kind_of n (state x) = state_of_size n
@@ -105,7 +107,7 @@ abbrev pub examples : List Command
 examples =
     command.Front ∷ command.Ranks ∷ command.Hat ∷ command.Class Plus ∷ command.Border [] ∷ command.Chain []
     ∷ command.Show ∷ command.Bounds ∷ command.Turn Left ∷ command.Commute Cols 0 Over ∷ command.Commute Rows 0 Over
-    ∷ command.Stab 0 Nw ∷ command.Destab 0 0 Nw ∷ []
+    ∷ command.Stab 0 Nw ∷ command.Destab 0 0 Nw ∷ command.Invert Cols 0 Over ∷ []
 
 abbrev pub body_forms : ℕ → List (Word × Form)
 body_forms n = map (λ c. ((command_row c).0, form_of n c)) examples ++ (end_word, exactly []) ∷ []
@@ -177,11 +179,15 @@ has_repeated_state (any_number_of kind) arguments = has_repeated arguments
 has_repeated_state (exactly kinds) arguments = false
 
 abbrev pub fails_to_commute : Axis → Marks → Word → Bool
-fails_to_commute axis g word = option_map_or (λ c. not (are_commuting axis g c)) (numeral 0 (size g - 1) word) false
+fails_to_commute a g word = option_map_or (λ c. not (are_commuting a g c)) (numeral 0 (size g - 1) word) false
+
+abbrev pub fails_by_words : Marks → Word → Word → Bool
+fails_by_words g v c =
+    (is_word (axis_word Cols) v && fails_to_commute Cols g c) || (is_word (axis_word Rows) v && fails_to_commute Rows g c)
 
 abbrev pub is_not_commuting : Place → List Word → Bool
-is_not_commuting (body s) (v ∷ c ∷ w ∷ []) = (is_word (axis_word Cols) v && fails_to_commute Cols (grid_in_force s) c)
-    || (is_word (axis_word Rows) v && fails_to_commute Rows (grid_in_force s) c)
+is_not_commuting (body s) (v ∷ c ∷ w ∷ []) = fails_by_words (grid_in_force s) v c
+is_not_commuting (body s) (u ∷ v ∷ c ∷ w ∷ []) = is_word invert_word u && fails_by_words (grid_in_force s) v c
 is_not_commuting p words = false
 
 abbrev pub has_no_block : Marks → Word → Word → Word → Bool

@@ -11,7 +11,7 @@ ghost use Rattle.grid_text.specs.Inner.Kinds.{is_bad};
 ghost use Rattle.grid_text.specs.Inner.Reading.{IsRead, keyword_word, stands_alone};
 ghost use Rattle.grid_text.specs.declared.keywords.Keyword.TheVariants as keyword;
 
-use crate::choices::{read_corner, read_side, read_sign, read_square};
+use crate::choices::{read_axis, read_corner, read_side, read_sign, read_square};
 use crate::commands::{Command, StateList};
 use crate::faults::TextFault;
 use crate::keywords::{Keyword, command_alone, read_keyword};
@@ -60,6 +60,7 @@ fn read_command(
         Keyword::Rows => Ok(read_commute(script, Axis::Rows, arguments)),
         Keyword::Stab => Ok(read_stab(script, arguments)),
         Keyword::Destab => Ok(read_destab(script, arguments)),
+        Keyword::Invert => Ok(read_invert(script, arguments)),
         _ => Ok(read_alone(keyword, arguments)),
     }
 }
@@ -186,6 +187,30 @@ fn read_destab(script: &Script, arguments: &[&[u8]]) -> Result<Option<Command>, 
         return Err(TextFault::NotBlock);
     }
     Ok(Some(Command::Destab(c as u8, r as u8, empty)))
+}
+
+// The command `invert`.
+fn read_invert(script: &Script, arguments: &[&[u8]]) -> Result<Option<Command>, TextFault>
+    ensures { IsRead script.now (keyword_word keyword.Invert ∷ map (λ w. w.now) arguments.now) result }
+{
+    if arguments.len() != 3 {
+        return Err(TextFault::BadCount);
+    }
+    let (first, word, choice) = (arguments[0], arguments[1], arguments[2]);
+    let Some(axis) = read_axis(first) else {
+        return Err(TextFault::BadChoice);
+    };
+    let Some(corner) = read_corner(choice) else {
+        return Err(TextFault::BadChoice);
+    };
+    let grid = script.in_force();
+    let Some(c) = numeral(word, 0, u32::from(grid.size()) - 1) else {
+        return Err(TextFault::BadNumber);
+    };
+    if !commutes(grid, axis, c as u8) {
+        return Err(TextFault::NotCommuting);
+    }
+    Ok(Some(Command::Invert(axis, c as u8, corner)))
 }
 
 // The command `chain`.

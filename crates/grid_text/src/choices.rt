@@ -2,11 +2,11 @@
 ghost use Rattle.std.specs.Prelude.{◌≡◌};
 ghost use Rattle.std.specs.List.{find};
 ghost use Rattle.grid_text.specs.Words.{is_word as is_word_of};
-ghost use Rattle.grid_text.specs.Commands.{sign_word, signs, side_word, sides, corner_word, corners, square_word, squares};
+ghost use Rattle.grid_text.specs.Commands.{sign_word, signs, side_word, sides, corner_word, corners, square_word, squares, axis_word, axes};
 
 use crate::commands::Sign;
 use crate::words::is_word;
-use grid_moves::Side;
+use grid_moves::{Axis, Side};
 use pentagon_map::Corner;
 use stabilise::Square;
 
@@ -21,6 +21,9 @@ const CORNERS: [Corner; 2] = [Corner::Over, Corner::Under];
 
 /// All squares of a block.
 const SQUARES: [Square; 4] = [Square::Nw, Square::Ne, Square::Sw, Square::Se];
+
+/// All axes.
+const AXES: [Axis; 2] = [Axis::Cols, Axis::Rows];
 
 /// The sign that the word is.
 pub(crate) fn read_sign(word: &[u8]) -> Option<Sign>
@@ -103,5 +106,24 @@ pub(crate) fn square_text(square: Square) -> &'static [u8]
         Square::Ne => b"ne",
         Square::Sw => b"sw",
         Square::Se => b"se",
+    }
+}
+
+/// The axis that the word is.
+pub(crate) fn read_axis(word: &[u8]) -> Option<Axis>
+    ensures { result ≡ find (λ v. is_word_of (axis_word v) word.now) axes }
+{
+    AXES.iter()
+        .copied()
+        .find(|axis| is_word(axis_text(*axis), word))
+}
+
+/// The word for an axis.
+pub(crate) fn axis_text(axis: Axis) -> &'static [u8]
+    ensures { result.now ≡ axis_word axis }
+{
+    match axis {
+        Axis::Cols => b"cols",
+        Axis::Rows => b"rows",
     }
 }

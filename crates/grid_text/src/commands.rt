@@ -108,4 +108,6 @@ pub enum Command {
     Stab(u8, Square),
     /// The stabilisation at a column and a row, with this square empty, undone.
     Destab(u8, u8, Square),
+    /// What the way there and back across a commutation does to the chain.
+    Invert(Axis, u8, Corner),
 }

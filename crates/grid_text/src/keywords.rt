@@ -25,11 +25,12 @@ pub(crate) enum Keyword {
     Rows,
     Stab,
     Destab,
+    Invert,
     End,
 }
 
 /// All keywords.
-const KEYWORDS: [Keyword; 14] = [
+const KEYWORDS: [Keyword; 15] = [
     Keyword::Front,
     Keyword::Ranks,
     Keyword::Hat,
@@ -43,6 +44,7 @@ const KEYWORDS: [Keyword; 14] = [
     Keyword::Rows,
     Keyword::Stab,
     Keyword::Destab,
+    Keyword::Invert,
     Keyword::End,
 ];
 
@@ -74,6 +76,7 @@ pub(crate) fn keyword_text(keyword: Keyword) -> &'static [u8]
         Keyword::Rows => b"rows",
         Keyword::Stab => b"stab",
         Keyword::Destab => b"destab",
+        Keyword::Invert => b"invert",
         Keyword::End => b"end",
     }
 }
@@ -96,6 +99,7 @@ pub(crate) fn keyword_of(command: &Command) -> Keyword
         Command::Commute(Axis::Rows, _, _) => Keyword::Rows,
         Command::Stab(_, _) => Keyword::Stab,
         Command::Destab(_, _, _) => Keyword::Destab,
+        Command::Invert(_, _, _) => Keyword::Invert,
     }
 }
 

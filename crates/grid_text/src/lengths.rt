@@ -5,7 +5,7 @@ ghost use Rattle.grid_text.specs.Commands.{argument_word, command_row};
 ghost use Rattle.grid_text.specs.PlainForm.{after_space, command_line, head_lines, plain_form};
 ghost use Rattle.std.specs.Fmt.{decimal};
 
-use crate::choices::{corner_text, side_text, sign_text, square_text};
+use crate::choices::{axis_text, corner_text, side_text, sign_text, square_text};
 use crate::commands::Command;
 use crate::keywords::{keyword_of, keyword_text};
 use crate::scripts::Script;
@@ -54,6 +54,9 @@ fn arguments_len(command: &Command) -> u128
         Command::Stab(c, empty) => 2 + number_len(*c) + square_text(*empty).len() as u128,
         Command::Destab(c, r, empty) => {
             3 + number_len(*c) + number_len(*r) + square_text(*empty).len() as u128
+        }
+        Command::Invert(axis, c, corner) => {
+            3 + axis_text(*axis).len() as u128 + number_len(*c) + corner_text(*corner).len() as u128
         }
         _ => 0,
     }

@@ -4,15 +4,16 @@ ghost use Rattle.std.specs.List.{flat_map};
 ghost use Rattle.std.specs.Fmt.{decimal};
 ghost use Rattle.state_rank.specs.States.{state_word};
 ghost use Rattle.torus_geom.specs.Marks.{Marks};
-ghost use Rattle.grid_text.specs.Commands.{corner_word, square_word, argument_word, command_row};
+ghost use Rattle.grid_text.specs.Commands.{axis_word, corner_word, square_word, argument_word, command_row};
 ghost use Rattle.grid_text.specs.PlainForm.{after_space, command_line, head_lines, plain_form};
 ghost use Rattle.grid_text.specs.Script.{GridScript, IsScript};
 ghost use Rattle.grid_text.specs.Document.{IsDocument};
 
-use crate::choices::{corner_text, side_text, sign_text, square_text};
+use crate::choices::{axis_text, corner_text, side_text, sign_text, square_text};
 use crate::commands::Command;
 use crate::keywords::{keyword_of, keyword_text};
 use crate::scripts::Script;
+use grid_moves::Axis;
 use grid_ports::NoMemory;
 use pentagon_map::Corner;
 use stabilise::Square;
@@ -85,6 +86,7 @@ fn push_arguments(text: &mut Vec<u8>, command: &Command) -> Result<(), NoMemory>
         Command::Commute(_, c, corner) => push_commute(text, *c, *corner),
         Command::Stab(c, empty) => push_stab(text, *c, *empty),
         Command::Destab(c, r, empty) => push_destab(text, *c, *r, *empty),
+        Command::Invert(axis, c, corner) => push_invert(text, *axis, *c, *corner),
         _ => Ok(()),
     }
 }
@@ -125,6 +127,15 @@ fn push_destab(text: &mut Vec<u8>, c: u8, r: u8, empty: Square) -> Result<(), No
     push(text, b" ")?;
     push_number(text, c)?;
     push_stab(text, r, empty)
+}
+
+// Appends the word for an axis, a number and the word for a corner, each after a space.
+fn push_invert(text: &mut Vec<u8>, axis: Axis, c: u8, corner: Corner) -> Result<(), NoMemory>
+    ensures { OnOk result (text.new.items
+        ≡ text.old.items ++ 32 ∷ axis_word axis ++ 32 ∷ decimal c ++ 32 ∷ corner_word corner) }
+{
+    push_word(text, axis_text(axis))?;
+    push_commute(text, c, corner)
 }
 
 // Appends the words of states, each after a space.

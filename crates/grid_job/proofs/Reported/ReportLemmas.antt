@@ -34,6 +34,7 @@ exists_answer p (command.Turn side) grid states = ([], refl)
 exists_answer p (command.Commute axis c corner) grid states = ([], refl)
 exists_answer p (command.Stab c empty) grid states = ([], refl)
 exists_answer p (command.Destab c r empty) grid states = ([], refl)
+exists_answer p (command.Invert axis c corner) grid states = (_, refl)
 
 pub exists_answers : (p : InForce) (cs : List Command) → IsGrid p.grid → IsChain (size p.grid) p.chain → AreAllowed p.grid cs
     → (text : List ℕ) × AreAnswers p cs text

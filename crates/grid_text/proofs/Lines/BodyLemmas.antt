@@ -125,6 +125,7 @@ module _ (s : GridScript) (arguments : List Word) where
       whole keyword.Rows e = let clash : false ≡ true = e in cc
       whole keyword.Stab e = let clash : false ≡ true = e in cc
       whole keyword.Destab e = let clash : false ≡ true = e in cc
+      whole keyword.Invert e = let clash : false ≡ true = e in cc
       whole keyword.End e = refl
       whole k e = (refl, tt)
 

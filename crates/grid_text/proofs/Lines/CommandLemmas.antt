@@ -27,7 +27,7 @@ use Rattle.grid_text.specs.Words.{Word, is_comment, is_blank, is_word}
 use Rattle.stabilise.specs.Stabilised.{is_block}
 use Rattle.stabilise.specs.declared.squares.Square.{Square}
 use Rattle.stabilise.specs.declared.squares.Square.TheVariants.{Nw, Ne, Sw, Se}
-use Rattle.grid_text.specs.Commands.{sign_word, side_word, corner_word, square_word, axis_word, stab_word, destab_word, state, argument_word, command_row, command_words, IsLineOf, IsAllowed, IsStateOf}
+use Rattle.grid_text.specs.Commands.{sign_word, side_word, corner_word, square_word, axis_word, stab_word, destab_word, invert_word, state, argument_word, command_row, command_words, IsLineOf, IsAllowed, IsStateOf}
 use Rattle.grid_text.specs.Script.{GridScript, IsScript, grid_in_force}
 use Rattle.grid_text.specs.Document.{body, end_word}
 use Rattle.grid_text.specs.Faults.{Form, exactly, any_number_of, state_of_size, kind_of, is_bad_by, form_at, has_repeated, fails_to_commute, is_not_commuting, has_no_block, is_not_block, is_at_limit, fault_in_table}
@@ -87,6 +87,7 @@ arguments-allowed g (command.Turn v) allowed = (tt, tt)
 arguments-allowed g (command.Commute axis c v) allowed = (allowed.0, (tt, tt))
 arguments-allowed g (command.Stab c v) allowed = (allowed.0, (tt, tt))
 arguments-allowed g (command.Destab c r v) allowed = (allowed.0, (allowed.1, (tt, tt)))
+arguments-allowed g (command.Invert i c v) allowed = (tt, (allowed.0, (tt, tt)))
 arguments-allowed g c allowed = tt
 
 -- ---- what the rows are for a line of a command
@@ -165,7 +166,8 @@ module _ (s : GridScript) (h : IsScript s) where
   chain-commuting [] = refl
   chain-commuting (a ∷ []) = refl
   chain-commuting (a ∷ b ∷ []) = refl
-  chain-commuting (a ∷ b ∷ c ∷ arguments) = refl
+  chain-commuting (a ∷ b ∷ c ∷ []) = refl
+  chain-commuting (a ∷ b ∷ c ∷ d ∷ arguments) = refl
 
   chain-block : (arguments : List Word)
       → is_not_block (body s) ((command_row (command.Chain [])).0 ∷ arguments) ≡ false
@@ -222,6 +224,14 @@ module _ (s : GridScript) (h : IsScript s) where
       exact-faultless (command.Destab c r v) words e refl
       (arguments-allowed (grid_in_force s) (command.Destab c r v) allowed) refl
       (block-numbers c r v allowed.0 allowed.1 allowed.2) refl
+  faultless words (command.Invert Cols c v) e allowed =
+      exact-faultless (command.Invert Cols c v) words e refl
+      (arguments-allowed (grid_in_force s) (command.Invert Cols c v) allowed)
+      (ap (λ b. b || false) (commutes-number Cols c allowed.0 allowed.1)) refl refl
+  faultless words (command.Invert Rows c v) e allowed =
+      exact-faultless (command.Invert Rows c v) words e refl
+      (arguments-allowed (grid_in_force s) (command.Invert Rows c v) allowed)
+      (commutes-number Rows c allowed.0 allowed.1) refl refl
   faultless words c e allowed =
       exact-faultless c words e refl (arguments-allowed (grid_in_force s) c allowed) refl refl refl
 
@@ -330,6 +340,7 @@ AreAlike (command.Turn v) (command.Turn w) = Unit {0}
 AreAlike (command.Commute i c v) (command.Commute j d w) = Unit {0}
 AreAlike (command.Stab c v) (command.Stab d w) = Unit {0}
 AreAlike (command.Destab c r v) (command.Destab d q w) = Unit {0}
+AreAlike (command.Invert i c v) (command.Invert j d w) = Unit {0}
 AreAlike c d = c ≡ d
 
 alike : (c d : Command) → is_word (command_row c).0 (command_row d).0 ≡ true → AreAlike c d
@@ -340,6 +351,7 @@ alike (command.Turn v) (command.Turn w) t = tt
 alike (command.Commute i c v) (command.Commute j d w) t = tt
 alike (command.Stab c v) (command.Stab d w) t = tt
 alike (command.Destab c r v) (command.Destab d q w) t = tt
+alike (command.Invert i c v) (command.Invert j d w) t = tt
 alike (command.Commute Cols c v) d t = cc
 alike (command.Commute Rows c v) d t = cc
 alike c (command.Commute Cols d w) t = cc
@@ -422,4 +434,14 @@ one_command s h words (command.Destab c r v) (command.Destab d q w) l a m b =
     let row = decimal_injective r q (omega arith) (omega arith) (third_word whole) in
     let square = square_apart v w (same_is_word _ _ (fourth_word whole)) in
     (λ k. command.Destab (column k) (row k) (square k))
+one_command s h words (command.Invert i c v) (command.Invert j d w) l a m b =
+    let whole : invert_word ∷ axis_word i ∷ decimal c ∷ corner_word v ∷ []
+    ≡ invert_word ∷ axis_word j ∷ decimal d ∷ corner_word w ∷ [] = sym l ∙ m in
+    let small = n-small s h in
+    let below = a.0 in
+    let below' = b.0 in
+    let axis = axis_apart i j (same_is_word _ _ (second_word whole)) in
+    let number = decimal_injective c d (omega arith) (omega arith) (third_word whole) in
+    let corner = corner_apart v w (same_is_word _ _ (fourth_word whole)) in
+    (λ k. command.Invert (axis k) (number k) (corner k))
 one_command s h words c d l a m b = alike_of_line words c d l m

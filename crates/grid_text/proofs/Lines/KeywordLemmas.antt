@@ -80,6 +80,7 @@ form-stands_alone n keyword.Cols e = let clash : false ≡ true = e in cc
 form-stands_alone n keyword.Rows e = let clash : false ≡ true = e in cc
 form-stands_alone n keyword.Stab e = let clash : false ≡ true = e in cc
 form-stands_alone n keyword.Destab e = let clash : false ≡ true = e in cc
+form-stands_alone n keyword.Invert e = let clash : false ≡ true = e in cc
 form-stands_alone n k e = refl
 
 -- the keyword of the axis

@@ -11,12 +11,14 @@ use Rattle.state_rank.specs.States.{state_word}
 use Rattle.state_rank.specs.Bijection.{IsBijection}
 use Rattle.grid_moves.specs.declared.turns.Side.{Side}
 use Rattle.grid_moves.specs.declared.turns.Side.TheVariants.{Left, Right, Up, Down}
+use Rattle.grid_moves.specs.declared.commutations.Axis.{Axis}
+use Rattle.grid_moves.specs.declared.commutations.Axis.TheVariants.{Cols, Rows}
 use Rattle.pentagon_map.specs.declared.Corner.{Corner}
 use Rattle.pentagon_map.specs.declared.Corner.TheVariants.{Over, Under}
 use Rattle.stabilise.specs.declared.squares.Square.{Square}
 use Rattle.stabilise.specs.declared.squares.Square.TheVariants.{Nw, Ne, Sw, Se}
 use Rattle.grid_text.specs.Words.{Word, is_word, numeral, state_of}
-use Rattle.grid_text.specs.Commands.{sign_word, signs, side_word, sides, corner_word, corners, square_word, squares, Argument, sign, side, corner, square, number, first_of_two, state, argument_word}
+use Rattle.grid_text.specs.Commands.{sign_word, signs, side_word, sides, corner_word, corners, square_word, squares, axis_word, axes, Argument, sign, side, corner, square, axis, number, first_of_two, state, argument_word}
 use Rattle.grid_text.specs.Faults.{Kind, choice_of, number_between, state_of_size, kind_of, is_bad_by, has_bad, exactly, is_bad_count}
 use Rattle.grid_text.specs.Inner.Kinds.{is_bad}
 use Rattle.grid_text.specs.declared.commands.Sign.{Sign}
@@ -139,6 +141,10 @@ square-found Ne = refl
 square-found Sw = refl
 square-found Se = refl
 
+pub axis-good : (v : Axis) → is_bad (choice_of (map axis_word axes)) (axis_word v) ≡ false
+axis-good Cols = refl
+axis-good Rows = refl
+
 -- ---- numbers and states
 
 -- where there is a value it is something
@@ -187,6 +193,7 @@ module _ (n : ℕ) (fits : n < 2 ^ 64) where
   argument-good (side v) h = side-good v
   argument-good (corner v) h = corner-good v
   argument-good (square v) h = square-good v
+  argument-good (axis v) h = axis-good v
   argument-good (number c) h = number-good 0 (n - 1) c (omega arith) (omega arith) (omega arith)
   argument-good (first_of_two c) h = number-good 0 (n - 2) c (omega arith) (omega arith) (omega arith)
   argument-good (state x) h = state-good n x h

@@ -20,7 +20,7 @@ use Rattle.grid_moves.specs.declared.commutations.Axis.TheVariants.{Cols, Rows}
 use Rattle.grid_text.specs.Limits.{max_commands}
 use Rattle.stabilise.specs.Stabilised.{is_block}
 use Rattle.grid_text.specs.Words.{Word, is_word, numeral}
-use Rattle.grid_text.specs.Commands.{sign_word, signs, side_word, sides, corner_word, corners, square_word, squares, axis_word, stab_word, destab_word, IsLineOf, IsAllowed, IsStateOf}
+use Rattle.grid_text.specs.Commands.{sign_word, signs, side_word, sides, corner_word, corners, square_word, squares, axis_word, axes, stab_word, destab_word, IsLineOf, IsAllowed, IsStateOf}
 use Rattle.grid_text.specs.Script.{GridScript, IsScript, grid_in_force}
 use Rattle.grid_text.specs.Document.{body, end_word}
 use Rattle.grid_text.specs.Faults.{exactly, choice_of, number_between, state_of_size, is_bad_count, has_bad, has_repeated, fails_to_commute, is_not_commuting, is_not_block, is_one_too_many, fault_in_table}
@@ -200,6 +200,47 @@ module _ (s : GridScript) (h : IsScript s) where
         ),
       )
 
+  -- `invert`
+  invert-good : (arguments : List Word) → Rest keyword.Invert arguments → length s.commands < max_commands
+      → IsGood (keyword_word keyword.Invert ∷ arguments)
+  invert-good arguments r room =
+      let words = three_words arguments (count-exact 3 arguments r.0.count) in
+      let line = words.3 in
+      let choices = or_parts (is_bad (choice_of (map axis_word axes)) words.0)
+      (is_bad (choice_of (map corner_word corners)) words.2 || false)
+      (subst (λ a. has_bad fault.BadChoice (keyword_form n keyword.Invert) a ≡ false) line r.0.choice) in
+      let numbered : is_bad (number_between 0 (n - 1)) words.1 ≡ false =
+      sym (or-false _)
+      ∙ subst (λ a. has_bad fault.BadNumber (keyword_form n keyword.Invert) a ≡ false) line r.0.number in
+      let i = value_of_word axis_word axes words.0 choices.0 in
+      let v = value_of_word corner_word corners words.2 (sym (or-false _) ∙ choices.1) in
+      let c = number_of_word 0 (n - 1) words.1 numbered in
+      let least = (IsGrid-grid_in_force s h).is_size.least in
+      let most = (IsGrid-grid_in_force s h).is_size.greatest in
+      let high = c.1.2 in
+      let is_c : numeral 0 (n - 1) words.1 ≡ Some c.0 =
+      numeral-decimal 0 (n - 1) c.0 words.1 c.1.0 (omega arith) (omega arith) (omega arith) in
+      let whole = line ∙ (λ k. i.1 k ∷ words.1 ∷ words.2 ∷ []) in
+      let fails : not (are_commuting i.0 (grid_in_force s) c.0) ≡ false =
+      sym (ap (λ o. option_map_or (λ d. not (are_commuting i.0 (grid_in_force s) d)) o false) is_c)
+      ∙ at i.0 words.1 words.2 (subst (λ a. is_not_commuting (body s) (keyword_word keyword.Invert ∷ a) ≡ false) whole
+      r.0.commuting) in
+      inr (
+        command.Invert i.0 c.0 v.0,
+        (
+          ap (λ a. keyword_word keyword.Invert ∷ a) line
+              ∙ (λ k. keyword_word keyword.Invert ∷ i.1 k ∷ c.1.0 k ∷ v.1 k ∷ []),
+          (omega arith, not-false (are_commuting i.0 (grid_in_force s) c.0) fails),
+          room,
+        ),
+      )
+    where
+      at : (a : Axis) (w u : Word)
+          → is_not_commuting (body s) (keyword_word keyword.Invert ∷ axis_word a ∷ w ∷ u ∷ []) ≡ false
+          → fails_to_commute a (grid_in_force s) w ≡ false
+      at Cols w u e = sym (or-false (fails_to_commute Cols (grid_in_force s) w)) ∙ e
+      at Rows w u e = e
+
   -- by the keyword
   key-good : (k : Keyword) (arguments : List Word) → Rest k arguments → IsGood (keyword_word k ∷ arguments)
   key-good keyword.Class arguments r =
@@ -252,6 +293,7 @@ module _ (s : GridScript) (h : IsScript s) where
       r.0.commuting) refl refl (few r.1)
   key-good keyword.Stab arguments r = stab-good arguments r
   key-good keyword.Destab arguments r = destab-good arguments r
+  key-good keyword.Invert arguments r = invert-good arguments r (few r.1)
   key-good keyword.End arguments r =
       inl (ap (λ a. end_word ∷ a) (nil_from_length arguments (count-exact 0 arguments r.0.count)))
   key-good k arguments r = alone-good k (option_map_or (λ c. c) (example k) command.Front) arguments refl refl tt refl r

@@ -35,6 +35,16 @@ seen-three (t ∷ u ∷ []) d e f three = absurd (omega arith)
 seen-three (t ∷ u ∷ r ∷ []) d e f three = refl
 seen-three (t ∷ u ∷ r ∷ v ∷ words) d e f three = absurd (omega arith)
 
+-- the first of three words
+pub seen-three_first : (words : List (Bor (List ℕ))) (d : Bor (List ℕ)) → length words ≡ 3
+    → (w : Word) × (u : Word) × (seen words ≡ (get_or words 0 d).now ∷ w ∷ u ∷ [])
+seen-three_first words d three = ((get_or words 1 d).now, (get_or words 2 d).now, seen-three words d d d three)
+
+-- the first and the last of three words
+pub seen-three_ends : (words : List (Bor (List ℕ))) (d f : Bor (List ℕ)) → length words ≡ 3
+    → (w : Word) × (seen words ≡ (get_or words 0 d).now ∷ w ∷ (get_or words 2 f).now ∷ [])
+seen-three_ends words d f three = ((get_or words 1 d).now, seen-three words d d f three)
+
 -- as many words
 pub length-seen : (words : List (Bor (List ℕ))) → length (seen words) ≡ length words
 length-seen words = length-map words (λ (w : Bor (List ℕ)). w.now)

@@ -19,6 +19,7 @@ use Rattle.grid_text.specs.Words.{Word, parts, before_parts, is_filled, without_
 use Rattle.grid_text.specs.PlainForm.{after_space, line_of, command_line, plain_form}
 use Rattle.pentagon_map.specs.declared.Corner.{Corner}
 use Rattle.pentagon_map.specs.declared.Corner.TheVariants.{Over, Under}
+use Rattle.grid_moves.specs.declared.commutations.Axis.{Axis}
 use Rattle.grid_moves.specs.declared.commutations.Axis.TheVariants.{Cols, Rows}
 use Rattle.stabilise.specs.declared.squares.Square.{Square}
 use Rattle.stabilise.specs.declared.squares.Square.TheVariants.{Nw, Ne, Sw, Se}
@@ -33,7 +34,7 @@ use Rattle.grid_text.proofs.Lines.KindLemmas.{IsGood, AreGood}
 use Rattle.grid_text.proofs.Lines.CommandLemmas.{arguments-allowed}
 use Rattle.grid_text.proofs.Lines.ScriptLemmas.{IsGrid-grid_in_force, IsScript-with_command, IsScript-no_command, grid_after_all-push}
 use Rattle.grid_text.proofs.States.RepeatedLemmas.{below-IsBijection}
-use Rattle.grid_text.specs.Commands.{sign_word, side_word, corner_word, square_word, Argument, sign, side, corner, square, number, first_of_two, state, argument_word, command_row, command_words, IsLineOf}
+use Rattle.grid_text.specs.Commands.{sign_word, side_word, corner_word, square_word, axis_word, Argument, sign, side, corner, square, axis, number, first_of_two, state, argument_word, command_row, command_words, IsLineOf}
 use Rattle.grid_text.specs.declared.commands.Command.{Command}
 use Rattle.std.specs.List.{list_all}
 use Rattle.std.proofs.lemmas.Bool.Decides.{nat_tests}
@@ -183,6 +184,10 @@ plain_square Ne = closed (codes "ne") refl (omega arith)
 plain_square Sw = closed (codes "sw") refl (omega arith)
 plain_square Se = closed (codes "se") refl (omega arith)
 
+plain_axis : (v : Axis) → IsPlainWord (axis_word v)
+plain_axis Cols = closed (codes "cols") refl (omega arith)
+plain_axis Rows = closed (codes "rows") refl (omega arith)
+
 -- the words of good arguments
 plain_arguments : (n : ℕ) (arguments : List Argument) → 0 < n → n < 11 → AreGood n arguments
     → ArePlainWords (map argument_word arguments)
@@ -194,6 +199,7 @@ plain_arguments n (a ∷ arguments) some few h = (plain a h.0, plain_arguments n
     plain (side v) k = plain_side v
     plain (corner v) k = plain_corner v
     plain (square v) k = plain_square v
+    plain (axis v) k = plain_axis v
     plain (number c) k = plain_decimal c (omega (arith, k, few))
     plain (first_of_two c) k = plain_decimal c (omega (arith, k, few))
     plain (state x) k =
