@@ -19,15 +19,8 @@ use Rattle.rectangles.proofs.Law.GridComplexLemmas.{grid_complex_rules}
 use Rattle.legendrian_class.specs.declared.verdicts.ClassVerdict.TheVariants as verdict
 use Rattle.torus_geom.specs.Codes.{HasRanks}
 use Rattle.legendrian_class.specs.Inner.CodeVerdicts.{IsNotCycle, IsNull, IsAlive, HasVerdict, HasOneVerdict}
+use Rattle.rectangles.proofs.Homology.CorankLemmas.{targets-below}
 use Rattle.rectangles.proofs.Homology.HomologyLemmas.{degree_is}
-
--- ---- the cells of the grid complex
-
--- the targets of a state are its border
-targets_is : (g : Marks) (s : ℕ) → s < factorial (size g)
-    → (grid_complex g).targets s ≡ border_of_state g (unrank (size g) s)
-targets_is g s below =
-    ap (λ b. cond b (border_of_state g (unrank (size g) s)) nothing) (lt-ltb s (factorial (size g)) below)
 
 -- ---- verdicts
 -- the least state of the border
@@ -66,7 +59,7 @@ IsAlive-by g z f alive =
     record {
       states = All-codes (λ code. code < factorial (size g)) f (λ s h. (degree_is g s m (of s h)).0);
       cycle = sym (border-grid_complex g z) ∙ alive.cycle;
-      even = λ s below. ap (λ c. pairs_oddly c f) (sym (targets_is g s below)) ∙ alive.cocycle s;
+      even = λ s below. ap (λ c. pairs_oddly c f) (sym (targets-below g s below)) ∙ alive.cocycle s;
       odd = alive.odd;
       degrees = (
         t,
@@ -84,7 +77,7 @@ IsAlive-by g z f alive =
 even_everywhere : (g : Marks) (z f : Chain) → IsAlive g z f → (s : ℕ)
     → pairs_oddly ((grid_complex g).targets s) f ≡ false
 even_everywhere g z f alive s = elim (cases_lt s (factorial (size g))) [
-  | inl below ↦ ap (λ c. pairs_oddly c f) (targets_is g s below) ∙ alive.even s below
+  | inl below ↦ ap (λ c. pairs_oddly c f) (targets-below g s below) ∙ alive.even s below
   | inr past ↦
       ap (λ b. pairs_oddly (cond b (border_of_state g (unrank (size g) s)) nothing) f)
       (not_below s (factorial (size g)) past) ∙ pairs_oddly-weight nothing f ∙ weight-nothing (holds f)

@@ -1,3 +1,4 @@
+pub mod GradedStates
 pub mod HomologyLemmas
 pub mod BorderLaws
 pub mod CorankLemmas

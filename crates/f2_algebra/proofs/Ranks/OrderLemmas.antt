@@ -1,9 +1,9 @@
 -- The order of bidegrees.
-use Rattle.std.proofs.Common.{◌≡◌, ℤ, true, inl, inr, arith}
+use Rattle.std.proofs.Common.{◌≡◌, ◌↔◌, ℤ, Bool, true, inl, inr, ap, arith}
 use Rattle.std.specs.Prelude.{◌<ℤ◌, ◌&&◌, int_lt}
 use Rattle.std.specs.Bool.{Decides}
 use Rattle.std.specs.Ordering.{int_eq}
-use Rattle.std.proofs.lemmas.Bool.{and_parts, or_cases}
+use Rattle.std.proofs.lemmas.Bool.{and_parts, and_from, or_cases}
 use Rattle.std.proofs.lemmas.Bool.Decides.{Decides-int_eq}
 use Rattle.std.proofs.lemmas.Int.{ints}
 use Rattle.f2_algebra.specs.Bigraded.{stands_before, StandsBefore}
@@ -43,3 +43,18 @@ StandsBefore-asymmetric p q (inl a) (inl b) = omega (arith, ints, a, b)
 StandsBefore-asymmetric p q (inl a) (inr b) = omega (arith, ints, a, b.0)
 StandsBefore-asymmetric p q (inr a) (inl b) = omega (arith, ints, a.0, b)
 StandsBefore-asymmetric p q (inr a) (inr b) = omega (arith, ints, a.1, b.1)
+
+-- a test of equal bidegrees
+abbrev pub same_bidegree : ℤ × ℤ → ℤ × ℤ → Bool
+same_bidegree p q = int_eq p.0 q.0 && int_eq p.1 q.1
+
+pub same_bidegree-is : (p q : ℤ × ℤ) → (same_bidegree p q ≡ true) ↔ (p ≡ q)
+same_bidegree-is p q = (
+  λ h.
+      let (first, second) = and_parts (int_eq p.0 q.0) (int_eq p.1 q.1) h in
+      let e = (Decides-int_eq p.0 q.0).0 first in
+      let f = (Decides-int_eq p.1 q.1).0 second in
+      λ i. (e i, f i),
+  λ e. and_from (int_eq p.0 q.0) (int_eq p.1 q.1) ((Decides-int_eq p.0 q.0).1 (ap (λ (t : ℤ × ℤ). t.0) e))
+      ((Decides-int_eq p.1 q.1).1 (ap (λ (t : ℤ × ℤ). t.1) e)),
+)

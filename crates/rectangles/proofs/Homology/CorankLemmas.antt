@@ -22,7 +22,7 @@ use Rattle.torus_geom.specs.Border.{border, is_step}
 use Rattle.torus_geom.specs.Chains as chains
 use Rattle.torus_geom.specs.Codes.{states_of}
 use Rattle.torus_geom.specs.Degrees.{bidegree}
-use Rattle.torus_geom.specs.Homology.{IsHomologyRank, Row, IsHomologyTable}
+use Rattle.torus_geom.specs.Homology.{HasDegree, IsHomologyRank, IsHomologyTable, Row}
 use Rattle.torus_geom.specs.Inner.CodeBorder.{states_where, border_of_state}
 use Rattle.torus_geom.specs.Inner.CodeHomology as code_homology
 use Rattle.torus_geom.specs.Inner.GridComplex.{grid_complex}
@@ -34,8 +34,10 @@ use Rattle.torus_geom.proofs.Chains.StateTests.{is_same-true, parity-states}
 use Rattle.rectangles.specs.Coranks as over_states
 use Rattle.rectangles.specs.Coranks.{IsCorank, IsCorankTable}
 use Rattle.rectangles.specs.Inner.CodeCoranks.{coborder, down_m, cochain_complex}
-use Rattle.rectangles.proofs.Homology.GridCells.{same_bidegree, same_bidegree-is, has_all_cells}
-use Rattle.rectangles.proofs.Homology.HomologyLemmas.{StandsFor, rank-states, homology_rank-states}
+use Rattle.f2_algebra.proofs.Ranks.OrderLemmas.{same_bidegree, same_bidegree-is}
+use Rattle.rectangles.proofs.Homology.GridCells.{has_all_cells}
+use Rattle.rectangles.proofs.Homology.GradedStates.{StandsFor, rank-states}
+use Rattle.rectangles.proofs.Homology.HomologyLemmas.{has_bidegree, homology_rank-states}
 use Rattle.rectangles.proofs.Law.GridComplexLemmas.{grid_complex_rules}
 use Rattle.rectangles.proofs.Square.BorderLemmas.{border_of_state-below}
 
@@ -201,10 +203,10 @@ pub AreRanks-coborder : (g : Marks) (f : Codes) → AreRanks (size g) (coborder 
 unfolding coborder
 AreRanks-coborder g f = states_where-below (size g) (λ y. pairs_oddly (border_of_state g y) f)
 
-cochain_complex_StandsFor : (g : Marks) → StandsFor g (cochain_complex g) (over_states.coborder g) (λ m. m -ℤ pos 1)
+cochain_complex_StandsFor : (g : Marks) → StandsFor g (bidegree g) (cochain_complex g) (over_states.coborder g) down_m
 cochain_complex_StandsFor g = record {
   degrees = λ s. refl;
-  rises = λ m a. refl;
+  rises = λ d. refl;
   ranks = λ f. subst (AreRanks (size g)) (sym (border-cochain_complex g f)) (AreRanks-coborder g f);
   borders = λ f below. ap (states_of (size g)) (border-cochain_complex g f) ∙ states_of-coborder g f below;
 }
@@ -225,7 +227,8 @@ corank_of_codes g s m a d = (
 pub corank-rank : (g : Marks) → IsGrid g → (m a : ℤ) (d : ℕ) → IsCorank g m a d ↔ IsHomologyRank g m a d
 corank-rank g s m a d =
     let (states_from, states_to) =
-    rank-states g (cochain_complex g) (over_states.coborder g) (λ m. m -ℤ pos 1) (cochain_complex_StandsFor g) m a d in
+    rank-states g (bidegree g) (λ p. HasDegree g p.0 p.1) (has_bidegree g) (cochain_complex g) (over_states.coborder g) down_m
+    (cochain_complex_StandsFor g) (m, a) d in
     let (there, back) = corank_of_codes g s m a d in
     let (to, from) = homology_rank-states g m a d in (
       λ is. to (there (states_to is)),

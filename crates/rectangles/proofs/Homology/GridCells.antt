@@ -1,8 +1,6 @@
--- The cells of the grid complex: each is the rank of a state; and a test of equal bidegrees.
-use Rattle.std.proofs.Common.{◌≡◌, ◌↔◌, ℕ, ◌<◌, ℤ, Bool, true, false, ◌&&◌, Some, None, if◌then◌else◌, is_some, refl, ap}
-use Rattle.std.specs.Ordering.{int_eq}
-use Rattle.std.proofs.lemmas.Bool.{ltb-true, and_parts, and_from}
-use Rattle.std.proofs.lemmas.Bool.Decides.{Decides-int_eq}
+-- The cells of the grid complex: each is the rank of a state.
+use Rattle.std.proofs.Common.{◌≡◌, ℕ, ◌<◌, Bool, true, false, Some, None, if◌then◌else◌, is_some, refl}
+use Rattle.std.proofs.lemmas.Bool.{ltb-true}
 use Rattle.std.proofs.lemmas.Cmp.{nat_eq_equiv}
 use Rattle.std.proofs.lemmas.Map.Views.{list_any-from_Contains}
 use Rattle.f2_algebra.proofs.Chains.Sets.{any}
@@ -13,21 +11,6 @@ use Rattle.state_rank.proofs.OrderLemmas.{Contains-ascending}
 use Rattle.torus_geom.specs.Degrees.{bidegree}
 use Rattle.torus_geom.specs.Inner.GridComplex.{grid_complex}
 use Rattle.torus_geom.specs.Marks.{Marks, size}
-
-pub same_bidegree : ℤ × ℤ → ℤ × ℤ → Bool
-same_bidegree p q = int_eq p.0 q.0 && int_eq p.1 q.1
-
-pub same_bidegree-is : (p q : ℤ × ℤ) → (same_bidegree p q ≡ true) ↔ (p ≡ q)
-unfolding same_bidegree
-same_bidegree-is p q = (
-  λ h.
-      let (first, second) = and_parts (int_eq p.0 q.0) (int_eq p.1 q.1) h in
-      let e = (Decides-int_eq p.0 q.0).0 first in
-      let f = (Decides-int_eq p.1 q.1).0 second in
-      λ i. (e i, f i),
-  λ e. and_from (int_eq p.0 q.0) (int_eq p.1 q.1) ((Decides-int_eq p.0 q.0).1 (ap (λ (t : ℤ × ℤ). t.0) e))
-      ((Decides-int_eq p.1 q.1).1 (ap (λ (t : ℤ × ℤ). t.1) e)),
-)
 
 -- the rank of a state is among the numbers below the number of states
 pub any-ascending : (n s : ℕ) → s < n → any s (ascending n) ≡ true

@@ -150,8 +150,8 @@ module _ (g : Marks) (grid : IsGrid g) (x y : List ℕ) (r : Rect) (from : IsBij
       (at_all_below (length (swap x r.left r.right))
       (λ c. eqb (slice_index (swap x r.left r.right) c) (slice_index y c)) same c (omega arith))
 
-  way : IsWay n x y r
-  way =
+  pub way_of_step : IsWay n x y r
+  way_of_step =
       let swapped = IsWay-swap n x r from proper.left_below proper.right_below proper.columns low high in
       record {
         from = from;
@@ -172,10 +172,10 @@ module _ (g : Marks) (grid : IsGrid g) (x y : List ℕ) (r : Rect) (from : IsBij
       (subst (λ m. all_below m (λ c. not (is_inside m r.left r.right c && is_inside m r.low r.high (slice_index x c)))
       ≡ true) from.long empty) c l))
 
-  no_marks : (c : ℕ) → c < n
+  pub no_marks_of_step : (c : ℕ) → c < n
       → ((in_range n r.left r.right c && in_range n r.low r.high (slice_index g.o c)) ≡ false)
       × ((in_range n r.left r.right c && in_range n r.low r.high (slice_index g.x c)) ≡ false)
-  no_marks c l =
+  no_marks_of_step c l =
       none_of_two (in_range n r.left r.right c) (in_range n r.low r.high (slice_index g.o c))
       (in_range n r.low r.high (slice_index g.x c))
       (at_all_below n (λ c. not (in_range n r.left r.right c
@@ -185,21 +185,21 @@ module _ (g : Marks) (grid : IsGrid g) (x y : List ℕ) (r : Rect) (from : IsBij
   -- M falls by one, by the O
   pub step_lowers_maslov : maslov_o g x ≡ maslov_o g y +ℤ pos 1
   step_lowers_maslov =
-      let law = maslov-rectangle n x y r way g.o grid.o in
+      let law = maslov-rectangle n x y r way_of_step g.o grid.o in
       let points = no_points in
       let marks =
       count_below_none n (λ c. in_range n r.left r.right c && in_range n r.low r.high (slice_index g.o c))
-      (λ c l. (no_marks c l).0) in
+      (λ c l. (no_marks_of_step c l).0) in
       omega (arith, ints)
 
   -- and by the X
   pub step_lowers_maslov_x : maslov_x g x ≡ maslov_x g y +ℤ pos 1
   step_lowers_maslov_x =
-      let law = maslov-rectangle n x y r way g.x grid.x in
+      let law = maslov-rectangle n x y r way_of_step g.x grid.x in
       let points = no_points in
       let marks =
       count_below_none n (λ c. in_range n r.left r.right c && in_range n r.low r.high (slice_index g.x c))
-      (λ c l. (no_marks c l).1) in
+      (λ c l. (no_marks_of_step c l).1) in
       omega (arith, ints)
 
   -- A stays

@@ -26,13 +26,13 @@ seam_term-next n a b j k =
     λ i. cond (s i) (u i) (pos 0) +ℤ cond (t i) (v i) (pos 0) +ℤ cond (s i && t i) (pos n) (pos 0)
 
 -- one order of a and b, by what is left of both
-abbrev fits : Bool → Bool → Bool → Bool
+abbrev pub fits : Bool → Bool → Bool → Bool
 fits s la lb = (s || (not la || lb)) && (not s || (not lb || la))
 
-fits_hold : (a b d : ℕ) → fits (ltb b a) (ltb d a) (ltb d b) ≡ true
+pub fits_hold : (a b d : ℕ) → fits (ltb b a) (ltb d a) (ltb d b) ≡ true
 fits_hold a b d = grind arith
 
-leb-not_ltb : (a d : ℕ) → leb a d ≡ not (ltb d a)
+pub leb-not_ltb : (a d : ℕ) → leb a d ≡ not (ltb d a)
 leb-not_ltb a d = grind arith
 
 choice : Bool → ℤ → ℤ → ℤ

@@ -75,13 +75,13 @@ sum_below_triangle n =
 even-even : (a b : ℕ) → ltb (2 * a) (2 * b) ≡ ltb a b
 even-even a b = grind arith
 
-odd-odd : (a b : ℕ) → ltb (2 * a + 1) (2 * b + 1) ≡ ltb a b
+pub odd-odd : (a b : ℕ) → ltb (2 * a + 1) (2 * b + 1) ≡ ltb a b
 odd-odd a b = grind arith
 
-odd-even : (a b : ℕ) → ltb (2 * a + 1) (2 * b) ≡ ltb a b
+pub odd-even : (a b : ℕ) → ltb (2 * a + 1) (2 * b) ≡ ltb a b
 odd-even a b = grind arith
 
-even-odd : (a b : ℕ) → ltb (2 * a) (2 * b + 1) ≡ not (ltb b a)
+pub even-odd : (a b : ℕ) → ltb (2 * a) (2 * b + 1) ≡ not (ltb b a)
 even-odd a b = grind arith
 
 module _ (n : ℕ) (x y : List ℕ) where
