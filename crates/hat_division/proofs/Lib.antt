@@ -4,3 +4,5 @@ pub mod RankLemmas
 pub mod ProductLemmas
 pub mod QuotientLemmas
 pub mod WordLemmas
+pub mod Factors
+pub mod Multi

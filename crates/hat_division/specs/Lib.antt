@@ -1,3 +1,6 @@
-pub mod Product
 pub mod Table
+pub mod Product
+pub mod Factors
+pub mod DegreeLists
+pub mod MultiTable
 pub mod Inner

@@ -8,10 +8,18 @@
 //! is the table (1, 1, 1), (0, 0, 2), (-1, -1, 1).
 #![tactic(auto)]
 
+mod counts;
+mod degree_lists;
+mod multi_quotients;
+mod multi_tables;
 mod products;
 mod quotients;
 mod tables;
 
+pub use counts::count_cell;
+pub use degree_lists::{DegreeList, MAX_COMPONENTS};
+pub use multi_quotients::divide_multi;
+pub use multi_tables::{MultiRow, MultiTable};
 pub use products::times_factor;
 pub use quotients::divide;
 pub use tables::{MAX_RANK, Table, TableRow};

@@ -1,0 +1,306 @@
+-- Rows of a table while they are divided, for what the program keeps.
+use Rattle.std.proofs.Common.{◌≡◌, ℕ, zero, suc, ◌+◌, ◌-◌, ◌<◌, ◌≤◌, ℤ, true, false, ◌&&◌, List, [], ◌∷◌, ◌++◌, length, get_or, slice_index, take, drop, All, Contains, inl, inr, sym, ap, subst, ◌∙◌, arith, add-one, ap₂}
+use Rattle.std.specs.Prelude.{MatchOption}
+use Rattle.std.proofs.Common.{Option, Some, None}
+use Rattle.std.specs.Ordering.{int_eq}
+use Rattle.std.proofs.lemmas.Bool.{cases_lt, false≢true}
+use Rattle.std.proofs.lemmas.List.{take_more, take_all, take-append-drop}
+use Rattle.std.proofs.lemmas.List.Elements.{Contains-get_or}
+use Rattle.gradings.specs.Degrees.{IsSmallDegree}
+use Rattle.hat_division.specs.DegreeLists.{same_degrees}
+use Rattle.hat_division.specs.Factors.{copies}
+use Rattle.hat_division.specs.MultiTable.{degrees_of, rank_at, AreOrdered, step_up, step_down, steps_below, steps_up, HasRank, HasLength, IsMultiTable, IsSmall, IsQuotientBy, ArePositive}
+use Rattle.hat_division.specs.Inner.Rows.{HasPlace}
+use Rattle.hat_division.specs.declared.multi_tables.MultiRow.{MultiRow}
+use Rattle.hat_division.proofs.Multi.DegreeListLemmas.{same_multidegree-is}
+use Rattle.hat_division.proofs.Factors.TableShapes as shapes
+use Rattle.hat_division.proofs.Factors.TableShapes.{ranks_of, ranks_of-none, ranks_of-member, row_found}
+use Rattle.hat_division.proofs.Factors.FactorQuotients.{IsQuotientOf, quotient-le, quotient_none, quotients_next, none_next}
+use Rattle.hat_division.proofs.Factors.QuotientSteps.{IsCandidateFor, ranks_of-row, candidate_none, candidate_fails, candidate_kept, candidate_pushed, candidate_is, candidate_is_not}
+use Rattle.std.proofs.Math.Seq.{drop-cons}
+use Rattle.hat_division.proofs.Multi.MultiTableLemmas.{multi_shape, rank_at-ranks_of, step_up_IsStepUp, step_up-before, copies_AreStepsUp, steps_below_AreStepsUp, quotient_by-is}
+
+-- ---- rows in order
+pub general : (rows : List MultiRow) → ArePositive rows → shapes.ArePositive multi_shape rows
+general rows h = record { ordered = h.ordered; positive = h.positive }
+
+pub rank_at-row : (rows : List MultiRow) (row : MultiRow) (k : ℤ × List ℤ) → AreOrdered rows → Contains rows row
+    → degrees_of row ≡ k → rank_at rows k ≡ row.rank
+rank_at-row rows row k ordered inside e =
+    rank_at-ranks_of rows k ∙ ap (ranks_of multi_shape rows) (sym e) ∙ ranks_of-row multi_shape rows row ordered inside
+
+pub rank_at-stands : (rows : List MultiRow) (row : MultiRow) (m : ℤ) (ds : List ℤ) → AreOrdered rows
+    → Contains rows row → (int_eq row.m m && same_degrees row.d ds) ≡ true → row.rank ≡ rank_at rows (m, ds)
+rank_at-stands rows row m ds ordered inside h =
+    sym (rank_at-row rows row (m, ds) ordered inside ((same_multidegree-is (row.m, row.d) (m, ds)).0 h))
+
+pub rank_at-nowhere : (rows : List MultiRow) (m : ℤ) (ds : List ℤ)
+    → ((k : ℕ) (d : MultiRow) → k < length rows
+    → (int_eq (get_or rows k d).m m && same_degrees (get_or rows k d).d ds) ≡ false)
+    → 0 ≡ rank_at rows (m, ds)
+rank_at-nowhere rows m ds none =
+    sym (rank_at-ranks_of rows (m, ds) ∙ ranks_of-none multi_shape rows (m, ds) (λ row inside e.
+    let (k, l, is) = inside in
+    false≢true (sym (none k row l)
+    ∙ (same_multidegree-is ((get_or rows k row).m, (get_or rows k row).d) (m, ds)).1
+    (ap degrees_of is ∙ e))))
+
+pub rank-moved : (rows : List MultiRow) (m n : ℤ) (ds es : List ℤ) (r : ℕ) → r ≡ rank_at rows (n, es) → n ≡ m
+    → es ≡ ds → r ≡ rank_at rows (m, ds)
+rank-moved rows m n ds es r is at_m at_ds = is ∙ (λ j. rank_at rows (at_m j, at_ds j))
+
+-- ---- rows at the keys of others
+-- each row of ys has a row of xs in its degrees, where xs has a rank wherever ys has
+keys_among : (xs ys : List MultiRow) → shapes.ArePositive multi_shape ys
+    → ((k : ℤ × List ℤ) → ranks_of multi_shape xs k ≡ 0 → ranks_of multi_shape ys k ≡ 0) → (r : MultiRow)
+    → Contains ys r → (t : MultiRow) × Contains xs t × (degrees_of t ≡ degrees_of r)
+keys_among xs ys positive under r inside =
+    let some = ranks_of-member multi_shape ys r positive inside in
+    elim (cases_lt 0 (ranks_of multi_shape xs (degrees_of r))) [
+      | inl there ↦ row_found multi_shape xs (degrees_of r) there
+      | inr none ↦ let gone = under (degrees_of r) (omega arith) in absurd (omega arith)
+    ]
+
+small_same : (t r : MultiRow) → degrees_of t ≡ degrees_of r → IsSmall t → IsSmall r
+small_same t r e h = record {
+  maslov = subst IsSmallDegree (ap (λ (p : ℤ × List ℤ). p.0) e) h.maslov;
+  degrees = subst (All IsSmallDegree) (ap (λ (p : ℤ × List ℤ). p.1) e) h.degrees;
+}
+
+length_same : (t r : MultiRow) → degrees_of t ≡ degrees_of r → length t.d ≡ length r.d
+length_same t r e = ap (λ (p : ℤ × List ℤ). length p.1) e
+
+module _ (xs ys : List MultiRow) (positive : shapes.ArePositive multi_shape ys)
+    (under : (k : ℤ × List ℤ) → ranks_of multi_shape xs k ≡ 0 → ranks_of multi_shape ys k ≡ 0) where
+  small_among : All IsSmall xs → All IsSmall ys
+  small_among small k d l =
+      let t = keys_among xs ys positive under (get_or ys k d) (Contains-get_or ys k d l) in
+      let (j, lj, is) = t.1 in
+      small_same t.0 (get_or ys k d) t.2 (subst IsSmall is (small j t.0 lj))
+
+  place_among : (i : ℕ) → All (HasPlace i) xs → All (HasPlace i) ys
+  place_among i place k d l =
+      let t = keys_among xs ys positive under (get_or ys k d) (Contains-get_or ys k d l) in
+      let (j, lj, is) = t.1 in
+      let at : HasPlace i t.0 = subst (HasPlace i) is (place j t.0 lj) in
+      let same = length_same t.0 (get_or ys k d) t.2 in
+      omega arith
+
+  length_among : (n : ℕ) → All (HasLength n) xs → All (HasLength n) ys
+  length_among n lengths k d l =
+      let t = keys_among xs ys positive under (get_or ys k d) (Contains-get_or ys k d l) in
+      let (j, lj, is) = t.1 in
+      sym (length_same t.0 (get_or ys k d) t.2) ∙ subst (HasLength n) is (lengths j t.0 lj)
+
+-- ---- one row
+module _ (i : ℕ) (rows : List MultiRow) (positive : ArePositive rows) where
+  abbrev Candidate : List MultiRow → List MultiRow → Type 0
+  Candidate done c = IsCandidateFor multi_shape (step_up i) rows done c
+
+  pub row_none : IsCandidateFor multi_shape (step_up i) rows (take 0 rows) []
+  row_none = candidate_none multi_shape (step_up i) (step_up_IsStepUp i) (step_up-before i) rows (general rows positive)
+
+  module _ (n : ℕ) (row : MultiRow) (inside : n < length rows) (is : row ≡ get_or rows n row) (c : List MultiRow)
+      (so_far : IsCandidateFor multi_shape (step_up i) rows (take n rows) c) (above : ℕ)
+      (above_is : above ≡ rank_at c (step_up i (degrees_of row))) where
+    whole : rows ≡ take n rows ++ row ∷ drop (n + 1) rows
+    whole = sym (take-append-drop n rows)
+        ∙ ap (λ l. take n rows ++ l) (drop-cons rows n row inside ∙ ap₂ (λ r k. r ∷ drop k rows) (sym is) (sym (add-one n)))
+
+    taken : take (n + 1) rows ≡ take n rows ++ row ∷ []
+    taken = take_more rows n row inside ∙ ap (λ r. take n rows ++ r ∷ []) (sym is)
+
+    from_above : above ≡ ranks_of multi_shape c (step_up i (degrees_of row))
+    from_above = above_is ∙ rank_at-ranks_of c (step_up i (degrees_of row))
+
+    pub row_fails : row.rank < above → (q : List MultiRow) → IsQuotientBy (step_up i ∷ []) rows q → ⊥
+    row_fails less q h =
+        let at = from_above in
+        candidate_fails multi_shape (step_up i) (step_up_IsStepUp i) (step_up-before i) rows (general rows positive)
+        (take n rows) row (drop (n + 1) rows) whole c so_far (omega arith) q ((quotient_by-is (step_up i ∷ []) rows q).0 h)
+
+    pub row_kept : row.rank ≤ above → above ≤ row.rank
+        → IsCandidateFor multi_shape (step_up i) rows (take (n + 1) rows) c
+    row_kept more enough =
+        let at = from_above in
+        subst (λ done. IsCandidateFor multi_shape (step_up i) rows done c) (sym taken)
+        (candidate_kept multi_shape (step_up i) (step_up_IsStepUp i) (step_up-before i) rows (general rows positive)
+        (take n rows) row (drop (n + 1) rows) whole c so_far (omega arith))
+
+    pub row_pushed : (new : MultiRow) → degrees_of new ≡ degrees_of row → new.rank ≡ row.rank - above
+        → above < row.rank → IsCandidateFor multi_shape (step_up i) rows (take (n + 1) rows) (c ++ new ∷ [])
+    row_pushed new at_key left less =
+        let at = from_above in
+        subst (λ done. IsCandidateFor multi_shape (step_up i) rows done (c ++ new ∷ [])) (sym taken)
+        (candidate_pushed multi_shape (step_up i) (step_up_IsStepUp i) (step_up-before i) rows (general rows positive)
+        (take n rows) row (drop (n + 1) rows) whole c so_far new at_key (left ∙ ap (λ a. row.rank - a) at)
+        (omega arith))
+
+  -- ---- at the end
+  module _ (n : ℕ) (c : List MultiRow) (so_far : IsCandidateFor multi_shape (step_up i) rows (take n rows) c) where
+    positive_c : shapes.ArePositive multi_shape c
+    positive_c = so_far.positive_so_far
+
+    under_c : (k : ℤ × List ℤ) → ranks_of multi_shape (take n rows) k ≡ 0 → ranks_of multi_shape c k ≡ 0
+    under_c = so_far.under
+
+    module _ (all : length rows ≤ n) where
+      at_end : IsCandidateFor multi_shape (step_up i) rows rows c
+      at_end = subst (λ done. IsCandidateFor multi_shape (step_up i) rows done c) (take_all n rows all) so_far
+
+      pub end_small : All IsSmall rows → All IsSmall c
+      end_small = small_among rows c positive_c at_end.under
+
+      pub end_place : All (HasPlace i) rows → All (HasPlace i) c
+      end_place = place_among rows c positive_c at_end.under i
+
+      pub end_found : All (λ row. 1 ≤ rank_at rows (step_down i (degrees_of row))) c
+          → IsQuotientBy (step_up i ∷ []) rows c
+      end_found lower =
+          (quotient_by-is (step_up i ∷ []) rows c).1
+          (candidate_is multi_shape (step_up i) (step_up_IsStepUp i) (step_up-before i) rows (general rows positive) c
+          at_end (λ r inside.
+          let (k, l, is) = inside in
+          let low : 1 ≤ rank_at rows (step_down i (degrees_of r)) =
+          subst (λ s. 1 ≤ rank_at rows (step_down i (degrees_of s))) is (lower k r l) in
+          let same = rank_at-ranks_of rows (step_down i (degrees_of r)) in
+          omega arith))
+
+      pub end_none : (All (λ row. 1 ≤ rank_at rows (step_down i (degrees_of row))) c → ⊥) → (q : List MultiRow)
+          → IsQuotientBy (step_up i ∷ []) rows q → ⊥
+      end_none not_lower q h = not_lower (λ k d l.
+          let r = get_or c k d in
+          elim (cases_lt 0 (rank_at rows (step_down i (degrees_of r)))) [
+            | inl some ↦ some
+            | inr none ↦
+                let same = rank_at-ranks_of rows (step_down i (degrees_of r)) in
+                absurd (candidate_is_not multi_shape (step_up i) (step_up_IsStepUp i) (step_up-before i) rows
+                (general rows positive) c at_end r (Contains-get_or c k d l) (omega arith) q
+                ((quotient_by-is (step_up i ∷ []) rows q).0 h))
+          ])
+
+-- ---- quotients
+pub quotient_positive : (ups : List (ℤ × List ℤ → ℤ × List ℤ)) (rows q : List MultiRow) → IsQuotientBy ups rows q
+    → ArePositive q
+quotient_positive ups rows q h = record { ordered = h.ordered; positive = h.positive }
+
+module _ (ups : List (ℤ × List ℤ → ℤ × List ℤ)) (rows q : List MultiRow) (h : IsQuotientBy ups rows q) where
+  under_q : (k : ℤ × List ℤ) → ranks_of multi_shape rows k ≡ 0 → ranks_of multi_shape q k ≡ 0
+  under_q k none = let less = quotient-le multi_shape ups rows q ((quotient_by-is ups rows q).0 h) k in omega arith
+
+  pub quotient_small : All IsSmall rows → All IsSmall q
+  quotient_small = small_among rows q (general q (quotient_positive ups rows q h)) under_q
+
+  pub quotient_place : (i : ℕ) → All (HasPlace i) rows → All (HasPlace i) q
+  quotient_place i = place_among rows q (general q (quotient_positive ups rows q h)) under_q i
+
+  pub quotient_length : (n : ℕ) → All (HasLength n) rows → All (HasLength n) q
+  quotient_length n = length_among rows q (general q (quotient_positive ups rows q h)) under_q n
+
+  -- a quotient of a table is a table
+  pub quotient_table : IsMultiTable rows → IsMultiTable q
+  quotient_table table = record {
+    ordered = h.ordered;
+    one_length = (table.one_length.0, quotient_length table.one_length.0 table.one_length.1);
+    ranks = λ k d l.
+        let r = get_or q k d in
+        let inside = Contains-get_or q k d l in
+        let t = keys_among rows q (general q (quotient_positive ups rows q h)) under_q r inside in
+        let (j, lj, is) = t.1 in
+        let held : HasRank t.0 = subst HasRank is (table.ranks j t.0 lj) in
+        let bound = held.bounded in
+        let less = quotient-le multi_shape ups rows q ((quotient_by-is ups rows q).0 h) (degrees_of r) in
+        let own = ranks_of-row multi_shape q r h.ordered inside in
+        let there = ranks_of-row multi_shape rows t.0 table.ordered t.1 in
+        let same = ap (ranks_of multi_shape rows) t.2 in
+        record { positive = h.positive k d l; bounded = omega arith };
+  }
+
+-- ---- one factor after another
+pub quotient_start : (rows : List MultiRow) → ArePositive rows → IsQuotientBy [] rows rows
+quotient_start rows h = (quotient_by-is [] rows rows).1 (quotient_none multi_shape rows (general rows h))
+
+module _ (i : ℕ) (rows : List MultiRow) (positive : ArePositive rows) where
+  pub power_next : (j : ℕ) (p q : List MultiRow) → IsQuotientBy (copies j (step_up i)) rows p
+      → IsQuotientBy (step_up i ∷ []) p q → IsQuotientBy (copies (j + 1) (step_up i)) rows q
+  power_next j p q hp hq =
+      let e : suc j ≡ j + 1 = omega arith in
+      subst (λ n. IsQuotientBy (copies n (step_up i)) rows q) e
+      ((quotient_by-is (copies (suc j) (step_up i)) rows q).1
+      ((quotients_next multi_shape (copies j (step_up i)) (copies_AreStepsUp i j) rows (general rows positive)
+      (step_up i ∷ []) p q ((quotient_by-is (copies j (step_up i)) rows p).0 hp)).0
+      ((quotient_by-is (step_up i ∷ []) p q).0 hq)))
+
+  copies-add : (a b : ℕ) → copies (a + b) (step_up i) ≡ copies a (step_up i) ++ copies b (step_up i)
+  copies-add zero b = ap (λ n. copies n (step_up i)) (let e : 0 + b ≡ b = omega arith in e)
+  copies-add (suc a) b =
+      ap (λ n. copies n (step_up i)) (let e : suc a + b ≡ suc (a + b) = omega arith in e)
+      ∙ ap (λ l. step_up i ∷ l) (copies-add a b)
+
+  pub power_none : (e j : ℕ) (p : List MultiRow) → j < e → IsQuotientBy (copies j (step_up i)) rows p
+      → ((q : List MultiRow) → IsQuotientBy (step_up i ∷ []) p q → ⊥) → (q : List MultiRow)
+      → IsQuotientBy (copies e (step_up i)) rows q → ⊥
+  power_none e j p l hp none q h =
+      let all : e ≡ (e - suc j) + suc j = omega arith in
+      let parts : copies e (step_up i) ≡ copies (e - suc j) (step_up i) ++ copies (suc j) (step_up i) =
+      ap (λ n. copies n (step_up i)) all ∙ copies-add (e - suc j) (suc j) in
+      none_next multi_shape (copies (suc j) (step_up i)) (copies_AreStepsUp i (suc j)) rows (general rows positive)
+      (copies (e - suc j) (step_up i))
+      (λ r hr. none r ((quotient_by-is (step_up i ∷ []) p r).1
+      ((quotients_next multi_shape (copies j (step_up i)) (copies_AreStepsUp i j) rows (general rows positive)
+      (step_up i ∷ []) p r ((quotient_by-is (copies j (step_up i)) rows p).0 hp)).1 hr)))
+      q (subst (λ ups. IsQuotientOf multi_shape ups rows q) parts
+      ((quotient_by-is (copies e (step_up i)) rows q).0 h))
+
+-- ---- one component after another
+module _ (es : List ℕ) (rows : List MultiRow) (positive : ArePositive rows) where
+  pub component_next : (i e : ℕ) (p q : List MultiRow) → e ≡ slice_index es i → IsQuotientBy (steps_below es i) rows p
+      → IsQuotientBy (copies e (step_up i)) p q → IsQuotientBy (steps_below es (i + 1)) rows q
+  component_next i e p q is hp hq =
+      let one : suc i ≡ i + 1 = omega arith in
+      let same : copies e (step_up i) ≡ copies (slice_index es i) (step_up i) = ap (λ n. copies n (step_up i)) is in
+      subst (λ n. IsQuotientBy (steps_below es n) rows q) one
+      ((quotient_by-is (steps_below es (suc i)) rows q).1
+      ((quotients_next multi_shape (steps_below es i) (steps_below_AreStepsUp es i) rows (general rows positive)
+      (copies (slice_index es i) (step_up i)) p q ((quotient_by-is (steps_below es i) rows p).0 hp)).0
+      (subst (λ ups. IsQuotientOf multi_shape ups p q) same ((quotient_by-is (copies e (step_up i)) p q).0 hq))))
+
+  none_below : (i k : ℕ) → ((q : List MultiRow) → IsQuotientOf multi_shape (steps_below es i) rows q → ⊥)
+      → (q : List MultiRow) → IsQuotientOf multi_shape (steps_below es (k + i)) rows q → ⊥
+  none_below i zero none q h =
+      none q (subst (λ n. IsQuotientOf multi_shape (steps_below es n) rows q) (let e : 0 + i ≡ i = omega arith in e) h)
+  none_below i (suc k) none q h =
+      none_next multi_shape (steps_below es (k + i)) (steps_below_AreStepsUp es (k + i)) rows (general rows positive)
+      (copies (slice_index es (k + i)) (step_up (k + i))) (none_below i k none) q
+      (subst (λ n. IsQuotientOf multi_shape (steps_below es n) rows q)
+      (let e : suc k + i ≡ suc (k + i) = omega arith in e) h)
+
+  pub component_none : (i e : ℕ) (p : List MultiRow) → i < length es → e ≡ slice_index es i
+      → IsQuotientBy (steps_below es i) rows p
+      → ((q : List MultiRow) → IsQuotientBy (copies e (step_up i)) p q → ⊥) → (q : List MultiRow)
+      → IsQuotientBy (steps_up es) rows q → ⊥
+  component_none i e p l is hp none q h =
+      let same : copies e (step_up i) ≡ copies (slice_index es i) (step_up i) = ap (λ n. copies n (step_up i)) is in
+      let all : length es ≡ (length es - suc i) + suc i = omega arith in
+      none_below (suc i) (length es - suc i)
+      (λ r hr. none r ((quotient_by-is (copies e (step_up i)) p r).1
+      (subst (λ ups. IsQuotientOf multi_shape ups p r) (sym same)
+      ((quotients_next multi_shape (steps_below es i) (steps_below_AreStepsUp es i) rows (general rows positive)
+      (copies (slice_index es i) (step_up i)) p r ((quotient_by-is (steps_below es i) rows p).0 hp)).1 hr))))
+      q (subst (λ n. IsQuotientOf multi_shape (steps_below es n) rows q) all
+      ((quotient_by-is (steps_up es) rows q).0 h))
+
+-- a table's rows are in order, with ranks above 0
+pub table_positive : (rows : List MultiRow) → IsMultiTable rows → ArePositive rows
+table_positive rows h = record { ordered = h.ordered; positive = λ k d l. (h.ranks k d l).positive }
+
+pub length_place : (n i : ℕ) (rows : List MultiRow) → i < n → All (HasLength n) rows → All (HasPlace i) rows
+length_place n i rows l h k d lk = let long : length (get_or rows k d).d ≡ n = h k d lk in omega arith
+
+-- ---- an answer that may be none
+pub answer_none : {X : Type 0} (N : Type 0) (P : X → Type 0) (o : Option X) → o ≡ None → MatchOption o N P → N
+answer_none {X = X} N P o e h = let Q = λ (p : Option X). MatchOption p N P in subst Q e h
+
+pub answer_some : {X : Type 0} (N : Type 0) (P : X → Type 0) (o : Option X) (x : X) → o ≡ Some x → MatchOption o N P
+    → P x
+answer_some {X = X} N P o x e h = let Q = λ (p : Option X). MatchOption p N P in subst Q e h
