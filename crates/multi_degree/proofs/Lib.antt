@@ -1,0 +1,10 @@
+pub mod PartSums
+pub mod BalanceLemmas
+pub mod PartExchange
+pub mod PartEvenness
+pub mod CycleTests
+pub mod FirstColumns
+pub mod WalkLemmas
+pub mod DegreeLaws
+pub mod ColumnLemmas
+pub mod ListedDegrees

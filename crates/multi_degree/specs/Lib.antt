@@ -1,0 +1,2 @@
+pub mod ComponentDegrees
+pub mod Inner
