@@ -1,4 +1,6 @@
 pub mod Tables
+pub mod ComponentHomology
+pub mod ComponentRows
 pub mod CertificateLimits
 pub mod Certificates
 pub mod CertificateCodes

@@ -6,6 +6,9 @@
 //! Stands on `sparse_complex` and `cancel`: a slice at each Alexander degree is built and its arrows
 //! are cancelled, and the cells that are left are counted, in a map from bidegrees to ranks.
 //!
+//! `rank_table_multi` is the same by the degrees at the components of the link: its cells are those of the slices, and
+//! only the counting is finer.
+//!
 //! `check_cert` checks a certificate of a table by borders, pairings and counts alone; its contract says
 //! that one that passes tells the table of its grid. `make_cert` makes one that passes, `print_cert` gives its
 //! text, and `read_cert` the certificate with a text, or the first bad line.
@@ -16,7 +19,9 @@
 
 mod certificates;
 mod checks;
+mod component_tables;
 mod degrees;
+mod left_cells;
 mod making;
 mod places;
 mod printing;
@@ -28,6 +33,7 @@ mod words;
 
 pub use certificates::Cert;
 pub use checks::check_cert;
+pub use component_tables::rank_table_multi;
 pub use making::{MAX_CERTIFIED_SIZE, make_cert};
 pub use printing::print_cert;
 pub use reading::{CertEnd, MAX_CERTIFICATE, read_cert};

@@ -1,44 +1,18 @@
 //! Ranks by bidegree.
 ghost use Rattle.std.specs.Prelude.{◌≡◌, ◌^◌, ◌<◌, ℤ, length, map, None, IfOk, OnOk, IfSome};
 ghost use Rattle.std.specs.BTreeMap as tree;
-ghost use Rattle.f2_algebra.specs.Bigraded.{at_alexander};
-ghost use Rattle.f2_algebra.specs.Slice.{slice_complex};
-ghost use Rattle.torus_geom.specs.Inner.GridComplex.{grid_complex};
 ghost use Rattle.gradings.specs.Degrees.{bidegree_cmp};
-ghost use Rattle.homology_cert.specs.Inner.Ranks.{key_of, row_of, HasRanks, AreCounted};
+ghost use Rattle.homology_cert.specs.Inner.Ranks.{key_of, row_of, AreCounted};
 
-use bumpalo::Bump;
-use cancel::reduce;
 use gradings::Bidegree;
 use grid_ports::NoMemory;
 use hat_division::TableRow;
-use sparse_complex::{AlexSlice, Cell};
+use sparse_complex::Cell;
 use std::alloc::Global;
 use std::collections::BTreeMap;
-use torus_geom::Grid;
 
 // Ranks by bidegree. A bidegree of rank 0 is left out.
 pub(crate) type Ranks = BTreeMap<Bidegree, u64>;
-
-// The cells that are left of the slice at one Alexander degree: the number of those of each Maslov degree
-// is the rank in that degree. Slice, log and arena are given back.
-pub(crate) fn cells_left(alloc: Global, g: &Grid, a: i32) -> Result<Vec<Cell>, NoMemory>
-    ensures { IfOk result (λ cells. HasRanks g.now a cells.items) }
-{
-    cells_after(alloc, g, a, AlexSlice::build(alloc, g, a)?)
-}
-
-// The cells that are left of a slice after all its arrows were cancelled.
-fn cells_after(alloc: Global, g: &Grid, a: i32, mut slice: AlexSlice) -> Result<Vec<Cell>, NoMemory>
-    requires built { slice_complex slice.slice ≡ at_alexander a (grid_complex g.now) }
-    ensures { IfOk result (λ cells. HasRanks g.now a cells.items) }
-{
-    let _size = g.size();
-    let bump = Bump::new(alloc);
-    let log = reduce(alloc, &mut slice, &bump)?;
-    drop(log);
-    slice.live_cells(alloc)
-}
 
 // Counts the cells of an Alexander degree, by their Maslov degrees.
 pub(crate) fn count_cells(a: i32, cells: &[Cell], ranks: &mut Ranks) -> Result<(), NoMemory>

@@ -6,7 +6,8 @@ ghost use Rattle.hat_division.specs.Table.{homology_row};
 ghost use Rattle.homology_cert.specs.Tables.{HasSmallDegrees, HasSmallRank};
 
 use crate::degrees::alexander_degrees;
-use crate::ranks::{Ranks, cells_left, count_cells, rows_of};
+use crate::left_cells::cells_left;
+use crate::ranks::{Ranks, count_cells, rows_of};
 use grid_ports::NoMemory;
 use hat_division::Table;
 use std::alloc::Global;

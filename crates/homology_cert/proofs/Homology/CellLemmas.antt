@@ -66,7 +66,7 @@ module _ (C : Complex ℤ) (cells : List Cell) (listed : ListsCells C cells) whe
       ∙ length-map (cells_at m cells) (λ (c : Cell). c.code)
 
   -- cells with codes below n are at most n
-  few_cells : (n : ℕ) → ((s : ℕ) → is_some (C.degree s) ≡ true → s < n) → length cells ≤ n
+  pub few_cells : (n : ℕ) → ((s : ℕ) → is_some (C.degree s) ≡ true → s < n) → length cells ≤ n
   few_cells n below = pigeonhole (length cells) n (λ i. (get_or cells i no_cell).code) into one
     where
       into : (i : ℕ) → i < length cells → (get_or cells i no_cell).code < n

@@ -17,7 +17,8 @@ use Rattle.torus_geom.specs.Inner.CodeHomology.{IsHomologyRank, IsHomologyTable}
 use Rattle.f2_algebra.specs.Bigraded.{StandsBefore}
 use Rattle.f2_algebra.proofs.Ranks.OrderLemmas.{StandsBefore-asymmetric}
 use Rattle.torus_geom.specs.Homology.{Row}
-use Rattle.rectangles.proofs.Homology.GridCells.{same_bidegree, same_bidegree-is, has_all_cells}
+use Rattle.f2_algebra.proofs.Ranks.OrderLemmas.{same_bidegree, same_bidegree-is}
+use Rattle.rectangles.proofs.Homology.GridCells.{has_all_cells}
 use Rattle.rectangles.proofs.Law.GridComplexLemmas.{grid_complex_rules}
 
 -- ---- each bidegree has a rank
@@ -47,20 +48,20 @@ module _ {A : Type 0} (R : A → A → Type 0) (one_way : (x y : A) → R x y �
     | inr later ↦ later
   ]
 
-  same_list : (xs ys : List A) → AllPairs R xs → AllPairs R ys → ((z : A) → Contains xs z ↔ Contains ys z) → xs ≡ ys
-  same_list [] [] p q same = refl
-  same_list [] (y ∷ ys) p q same = absurd (no_member y ((same y).1 (member_head y ys)))
-  same_list (x ∷ xs) [] p q same = absurd (no_member x ((same x).0 (member_head x xs)))
-  same_list (x ∷ xs) (y ∷ ys) p q same =
+  pub ordered_lists-same : (xs ys : List A) → AllPairs R xs → AllPairs R ys → ((z : A) → Contains xs z ↔ Contains ys z) → xs ≡ ys
+  ordered_lists-same [] [] p q same = refl
+  ordered_lists-same [] (y ∷ ys) p q same = absurd (no_member y ((same y).1 (member_head y ys)))
+  ordered_lists-same (x ∷ xs) [] p q same = absurd (no_member x ((same x).0 (member_head x xs)))
+  ordered_lists-same (x ∷ xs) (y ∷ ys) p q same =
       let first = same_head x y xs ys p q same in
-      let tails = same_list xs ys (pairs_tail R x xs p) (pairs_tail R y ys q)
+      let tails = ordered_lists-same xs ys (pairs_tail R x xs p) (pairs_tail R y ys q)
       (λ z. (in_tail x y z xs ys p first (same z).0, in_tail y x z ys xs q (sym first) (same z).1)) in
       λ i. first i ∷ tails i
 
 -- ---- a grid has one table
 pub one_homology_table : (g : Marks) (s t : List Row) → IsHomologyTable g s → IsHomologyTable g t → s ≡ t
 one_homology_table g s t p q =
-    same_list (λ (p q : Row). StandsBefore (p.0, p.1) (q.0, q.1))
+    ordered_lists-same (λ (p q : Row). StandsBefore (p.0, p.1) (q.0, q.1))
     (λ p q. StandsBefore-asymmetric (p.0, p.1) (q.0, q.1)) s t p.ordered q.ordered (λ z. (
       λ inside. (q.complete z.0 z.1 z.2).1 ((p.complete z.0 z.1 z.2).0 inside),
       λ inside. (p.complete z.0 z.1 z.2).1 ((q.complete z.0 z.1 z.2).0 inside),

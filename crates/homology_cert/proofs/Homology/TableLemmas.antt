@@ -38,7 +38,7 @@ use Rattle.sparse_complex.specs.declared.slices.Cell.{Cell}
 use Rattle.hat_division.specs.Table.{bidegree_of, homology_row, IsTable}
 use Rattle.hat_division.specs.declared.tables.TableRow.{TableRow}
 use Rattle.gradings.specs.Degrees.{IsSmallDegree}
-use Rattle.rectangles.proofs.Homology.HomologyLemmas.{degree_if}
+use Rattle.rectangles.proofs.Homology.GradedStates.{value_if}
 use Rattle.homology_cert.specs.Tables.{HasSmallDegrees}
 use Rattle.gradings.specs.Degrees.{bidegree_cmp}
 use Rattle.homology_cert.specs.Inner.Ranks.{key_of, Ranks, rank_in, AreSmall, HasHomology, HasDegrees, HasRanks, AreCounted, IsTold, IsDone, AreRows}
@@ -83,7 +83,7 @@ pub no_homology : (g : Marks) (row : TableRow)
     → ((s : ℕ) → s < factorial (size g) → bidegree g (unrank (size g) s) ≡ (row.m, row.a) → ⊥) → HasHomology g row → ⊥
 no_homology g row none held =
     let empty : IsHomologyRank g row.m row.a 0 = rank-no_cell (grid_complex g) (row.m, row.a) (λ s e.
-    let told = degree_if g s _ (row.m, row.a) e in
+    let told = value_if _ (bidegree g (unrank (size g) s)) (row.m, row.a) e in
     none s (ltb-true s (factorial (size g)) told.0) told.1) in
     let zero_rank = one_homology_rank g row.m row.a row.rank 0 held.rank empty in
     let positive = held.positive in
@@ -134,7 +134,7 @@ pub done-none : (g : Marks) (degrees : BTreeSet ℤ) (ranks : Ranks) → tree.Is
 done-none g degrees ranks empty has = record {
   done = λ a unseen. record {
     told = λ m. subst (IsHomologyRank g m a) (sym (nothing_at a m)) (rank-no_cell (grid_complex g) (m, a) (λ s e.
-        let told = degree_if g s _ (m, a) e in
+        let told = value_if _ (bidegree g (unrank (size g) s)) (m, a) e in
         unseen (seen a s (ltb-true s (factorial (size g)) told.0) (ap (λ (d : ℤ × ℤ). d.1) told.1))));
     small = λ m. subst (λ k. k < 2 ^ 32) (sym (nothing_at a m)) (omega arith);
   };

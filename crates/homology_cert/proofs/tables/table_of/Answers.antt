@@ -27,7 +27,7 @@ loop-a-init c =
 
 pub count_cells-requires-clause-few : goal.count_cells-requires-clause-few
 count_cells-requires-clause-few c =
-    subst (λ cells. length cells < 2 ^ 32) (sym c.deref.ensures.value) c.in_ok-cells.ensures.few
+    subst (λ cells. length cells < 2 ^ 32) (sym c.deref.ensures.value) c.in_ok-cells.ensures.ranks.few
 
 pub count_cells-requires-clause-fresh : goal.count_cells-requires-clause-fresh
 count_cells-requires-clause-fresh c =
@@ -48,7 +48,7 @@ loop-a-preserved c =
     let same = to_z-of_z w32 c.in-Some.a.now fits in
     let cells = c.in_ok-cells.cells.items in
     done-next c.args.g.now c.in-Some.a.now c.next.new.self cells c.loop-a.ranks c.count_cells.new.ranks
-    (subst (λ (b : ℤ). HasRanks c.args.g.now b cells) same c.in_ok-cells.ensures)
+    (subst (λ (b : ℤ). HasRanks c.args.g.now b cells) same c.in_ok-cells.ensures.ranks)
     (subst (λ (b : ℤ). AreCounted b cells c.loop-a.ranks c.count_cells.new.ranks) same
     (subst (λ (xs : List Cell). AreCounted
     (to_z w32 (of_z w32 c.in-Some.a.now)) xs c.loop-a.ranks c.count_cells.new.ranks) c.deref.ensures.value

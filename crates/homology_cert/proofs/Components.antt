@@ -1,0 +1,9 @@
+pub mod RefinedLemmas
+pub mod AlikeLemmas
+pub mod ComponentRanks
+pub mod ComponentTables
+pub mod LeftCells
+pub mod CountedCells
+pub mod DoneRows
+pub mod AddedRanks
+pub mod StateTables
