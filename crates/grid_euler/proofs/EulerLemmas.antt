@@ -10,7 +10,7 @@ use Rattle.f2_algebra.specs.Chain.{nothing}
 use Rattle.f2_algebra.specs.Complex.{Complex, IsComplex}
 use Rattle.f2_algebra.specs.Cancel.{Entry, IsLog, after}
 use Rattle.f2_algebra.proofs.Ranks.Existence.{reduce, exists_rank, codes_below, any-codes_below, has_degree, has_degree-is}
-use Rattle.rectangles.proofs.Homology.GridCells.{same_bidegree, same_bidegree-is}
+use Rattle.f2_algebra.proofs.Ranks.OrderLemmas.{same_bidegree, same_bidegree-is}
 use Rattle.state_rank.specs.States.{factorial, unrank}
 use Rattle.torus_geom.specs.Degrees.{bidegree}
 use Rattle.torus_geom.specs.Inner.GridComplex.{grid_complex}
@@ -24,7 +24,7 @@ use Rattle.grid_euler.specs.Euler.{IsTableOf, euler_number, alternating_sum}
 use Rattle.grid_euler.specs.declared.tables.EulerRow.{EulerRow}
 use Rattle.grid_euler.proofs.StateSums.{euler_number-codes}
 use Rattle.grid_euler.proofs.SignedCounts.{IsBelow, value_in, signed_count, signed_count-after, count-left}
-use Rattle.grid_euler.proofs.TableSums.{value_at, value_at-up, in_rows, found, sum-rows, count-positive}
+use Rattle.grid_euler.proofs.TableSums.{value_at, value_at-up, in_rows, in_rows-member, sum-rows, count-positive}
 
 -- the cells of the grid complex are the codes below n!
 cells_below : (g : Marks) → IsBelow (grid_complex g) (factorial (size g))
@@ -80,7 +80,7 @@ module _ (g : Marks) (grid : IsGrid g) (rows : List Row) (table : IsCodeTable g 
           ((has_degree-is same_bidegree same_bidegree-is d ((after C log).degree s)).1 e) in
           let positive : 0 < k = omega (arith, ints, counted, some) in
           ap (λ b. if b then value_at a d else pos 0)
-          (found rows d.0 d.1 k ((table.complete d.0 d.1 k).1 (positive, rank)))
+          (in_rows-member rows d.0 d.1 k ((table.complete d.0 d.1 k).1 (positive, rank)))
 
   -- the alternating sum of the rows of the table at a is the Euler number at a
   euler_of_code_rows : alternating_sum rows a ≡ euler_number g a

@@ -23,7 +23,7 @@ use Rattle.hat_division.specs.Table.{homology_row}
 use Rattle.grid_euler.specs.Euler.{is_even, signed, alternating_sum, row_part, euler_part, euler_number}
 use Rattle.grid_euler.specs.Inner.Sums.{places, AreSums, Vanishes}
 use Rattle.grid_euler.proofs.StateSums.{sum_of-append, euler_number-codes}
-use Rattle.grid_euler.proofs.PlaceLemmas.{AreSums-same, lt-from_test, place_at}
+use Rattle.grid_euler.proofs.PlaceLemmas.{AreSums-same, order_told, place_at}
 
 -- ---- the sign of a rank
 pub signed-low : (m : ℤ) (d b : ℕ) → d ≤ b → neg_ℤ (pos b) ≤ℤ signed m d
@@ -51,21 +51,21 @@ alternating_sum-more rows k d l a =
     ∙ sum_of-append (row_part a) (map homology_row (take k rows)) (homology_row (get_or rows k d)))
 
 -- both degrees of a small row
-pub maslov_small : (row : TableRow) → IsSmall row → IsSmallDegree row.m
-maslov_small row s = record { low = s.maslov_low; high = s.maslov_high }
+pub maslov_of_row-small : (row : TableRow) → IsSmall row → IsSmallDegree row.m
+maslov_of_row-small row s = record { low = s.maslov_low; high = s.maslov_high }
 
-pub alexander_small : (row : TableRow) → IsSmall row → IsSmallDegree row.a
-alexander_small row s = record { low = s.alexander_low; high = s.alexander_high }
+pub alexander_of_row-small : (row : TableRow) → IsSmall row → IsSmallDegree row.a
+alexander_of_row-small row s = record { low = s.alexander_low; high = s.alexander_high }
 
 -- rows in order have rising numbers, below 2001 times 2001
 number : (row : TableRow) → IsSmall row → ℕ
-number row s = (place_at row.m (maslov_small row s)).0 + (place_at row.a (alexander_small row s)).0 * 2001
+number row s = (place_at row.m (maslov_of_row-small row s)).0 + (place_at row.a (alexander_of_row-small row s)).0 * 2001
 
 number-below : (row : TableRow) (s : IsSmall row) → number row s < 4004001
 unfolding number
 number-below row s =
-    let m_low = (place_at row.m (maslov_small row s)).1 in
-    let a_low = (place_at row.a (alexander_small row s)).1 in
+    let m_low = (place_at row.m (maslov_of_row-small row s)).1 in
+    let a_low = (place_at row.a (alexander_of_row-small row s)).1 in
     omega arith
 
 number-rises : (p q : TableRow) (s : IsSmall p) (t : IsSmall q) → stands_before (bidegree_of p) (bidegree_of q) ≡ true → number p s < number q t
@@ -73,32 +73,32 @@ unfolding number
 number-rises p q s t before = by (int_lt q.a p.a) refl
   where
     higher : int_lt q.a p.a ≡ true
-        → (place_at p.a (alexander_small p s)).0 < (place_at q.a (alexander_small q t)).0
+        → (place_at p.a (alexander_of_row-small p s)).0 < (place_at q.a (alexander_of_row-small q t)).0
     higher e =
-        let less = lt-from_test q.a p.a e in
-        let at_p = (place_at p.a (alexander_small p s)).2 in
-        let at_q = (place_at q.a (alexander_small q t)).2 in
+        let less = (order_told q.a p.a).0 e in
+        let at_p = (place_at p.a (alexander_of_row-small p s)).2 in
+        let at_q = (place_at q.a (alexander_of_row-small q t)).2 in
         omega (arith, ints)
 
     by : (b : Bool) → int_lt q.a p.a ≡ b
-        → (place_at p.m (maslov_small p s)).0 + (place_at p.a (alexander_small p s)).0 * 2001
-        < (place_at q.m (maslov_small q t)).0 + (place_at q.a (alexander_small q t)).0 * 2001
+        → (place_at p.m (maslov_of_row-small p s)).0 + (place_at p.a (alexander_of_row-small p s)).0 * 2001
+        < (place_at q.m (maslov_of_row-small q t)).0 + (place_at q.a (alexander_of_row-small q t)).0 * 2001
     by true e =
         let above = higher e in
-        let m_low = (place_at p.m (maslov_small p s)).1 in
+        let m_low = (place_at p.m (maslov_of_row-small p s)).1 in
         omega arith
     by false e =
         let parts = and_parts (int_eq q.a p.a) (int_lt q.m p.m)
         (sym (ap (λ b. b || (int_eq q.a p.a && int_lt q.m p.m)) e) ∙ before) in
         let same = (Decides-int_eq q.a p.a).0 parts.0 in
-        let less = lt-from_test q.m p.m parts.1 in
-        let at_p = (place_at p.a (alexander_small p s)).2 in
-        let at_q = (place_at q.a (alexander_small q t)).2 in
-        let m_p = (place_at p.m (maslov_small p s)).2 in
-        let m_q = (place_at q.m (maslov_small q t)).2 in
-        let level : (place_at p.a (alexander_small p s)).0 ≡ (place_at q.a (alexander_small q t)).0 =
+        let less = (order_told q.m p.m).0 parts.1 in
+        let at_p = (place_at p.a (alexander_of_row-small p s)).2 in
+        let at_q = (place_at q.a (alexander_of_row-small q t)).2 in
+        let m_p = (place_at p.m (maslov_of_row-small p s)).2 in
+        let m_q = (place_at q.m (maslov_of_row-small q t)).2 in
+        let level : (place_at p.a (alexander_of_row-small p s)).0 ≡ (place_at q.a (alexander_of_row-small q t)).0 =
         omega (arith, ints) in
-        let lower : (place_at p.m (maslov_small p s)).0 < (place_at q.m (maslov_small q t)).0 = omega (arith, ints) in
+        let lower : (place_at p.m (maslov_of_row-small p s)).0 < (place_at q.m (maslov_of_row-small q t)).0 = omega (arith, ints) in
         omega arith
 
 -- so there are few
@@ -126,7 +126,7 @@ alternating_sum-vanishes [] small a far = refl
 alternating_sum-vanishes (row ∷ rows) small a far =
     let first = All-head IsSmall row rows small in
     let apart : int_eq row.a a ≡ false =
-    false_from_ne_true _ (λ t. off row.a a (alexander_small row first) ((Decides-int_eq row.a a).0 t) far) in
+    false_from_ne_true _ (λ t. off row.a a (alexander_of_row-small row first) ((Decides-int_eq row.a a).0 t) far) in
     ap₂ (λ b z. (if b then signed row.m row.rank else pos 0) +ℤ z) apart
     (alternating_sum-vanishes rows (All-tail IsSmall row rows small) a far)
   where

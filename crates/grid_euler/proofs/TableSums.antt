@@ -7,7 +7,7 @@ use Rattle.std.proofs.lemmas.Bool.{cases_eq, false≢true, false_from_ne_true}
 use Rattle.std.proofs.lemmas.Int.{ints}
 use Rattle.std.specs.Ordering.{int_eq}
 use Rattle.f2_algebra.specs.Bigraded as bigraded
-use Rattle.rectangles.proofs.Homology.GridCells.{same_bidegree, same_bidegree-is}
+use Rattle.f2_algebra.proofs.Ranks.OrderLemmas.{same_bidegree, same_bidegree-is}
 use Rattle.f2_algebra.proofs.Ranks.OrderLemmas.{StandsBefore-asymmetric}
 use Rattle.f2_algebra.proofs.Ranks.Existence.{has_degree, has_degree-is}
 use Rattle.state_rank.proofs.MemberLemmas.{member_cases, member_head, member_tail, no_member, pairs_head, pairs_tail}
@@ -136,10 +136,10 @@ fresh row (q ∷ rows) before =
     (fresh row rows (λ r inside. before r (member_tail q rows r inside)))
 
 -- a row of the table has its degree
-pub found : (rows : List Row) (m a : ℤ) (d : ℕ) → Contains rows (m, a, d) → in_rows rows (Some (m, a)) ≡ true
-found [] m a d inside = absurd (no_member (m, a, d) inside)
-found (row ∷ rows) m a d inside =
-    let later = found rows m a d in
+pub in_rows-member : (rows : List Row) (m a : ℤ) (d : ℕ) → Contains rows (m, a, d) → in_rows rows (Some (m, a)) ≡ true
+in_rows-member [] m a d inside = absurd (no_member (m, a, d) inside)
+in_rows-member (row ∷ rows) m a d inside =
+    let later = in_rows-member rows m a d in
     elim (member_cases row rows (m, a, d) inside) [
       | inl same ↦
           ap (λ b. b || in_rows rows (Some (m, a)))
