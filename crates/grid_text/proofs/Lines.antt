@@ -3,6 +3,7 @@ pub mod KindLemmas
 pub mod FaultLemmas
 pub mod SeenLemmas
 pub mod PartLemmas
+pub mod CutLemmas
 pub mod ScriptLemmas
 pub mod BlockLemmas
 pub mod KeywordLemmas

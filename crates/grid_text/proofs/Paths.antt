@@ -6,3 +6,4 @@ pub mod PlaceLemmas
 pub mod FirstFaultLemmas
 pub mod JudgementLemmas
 pub mod OutcomeLemmas
+pub mod PairLemmas

@@ -3,3 +3,4 @@ pub mod Pictures
 pub mod Reading
 pub mod Next
 pub mod Kinds
+pub mod Cuts

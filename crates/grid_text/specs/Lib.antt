@@ -8,5 +8,6 @@ pub mod Picture
 pub mod Document
 pub mod Faults
 pub mod End
+pub mod Pairs
 pub mod PlainForm
 pub mod Inner

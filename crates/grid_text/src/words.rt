@@ -3,6 +3,7 @@ ghost use Rattle.std.specs.Prelude.{◌≡◌, ◌≢◌, ◌↔◌, ℕ, ◌^�
 ghost use Rattle.std.specs.Fmt.{decimal};
 ghost use Rattle.grid_text.specs.Words.{is_word as is_word_of, numeral as numeral_of, parts, lines_of, without_return as without_return_of, words_of as words_of_line, is_comment as is_comment_word, is_blank as are_blank};
 ghost use Rattle.text_lines.specs.Parts.{is_one_of};
+ghost use Rattle.grid_text.specs.Inner.Cuts.{IsTakenPart, HasFirstLine};
 
 use grid_ports::NoMemory;
 use std::alloc::Global;
@@ -56,6 +57,7 @@ pub(crate) fn first_line(text: &[u8]) -> Option<(&[u8], &[u8])>
     ensures none { IfNone result (text.now ≡ []) }
     ensures some { IfSome result (λ p. lines_of text.now ≡ p.0.now ∷ lines_of p.1.now) }
     ensures shorter { IfSome result (λ p. length p.1.now < length text.now) }
+    ensures cut { IfSome result (λ p. HasFirstLine text.now p.0.now p.1.now) }
 {
     let Some((line, after)) = next_part(text, b"\n") else {
         return None;
@@ -82,6 +84,7 @@ fn next_part<'a>(bytes: &'a [u8], ends: &[u8]) -> Option<(&'a [u8], &'a [u8])>
     ensures some { IfSome result (λ p. parts (is_one_of ends.now) bytes.now
         ≡ p.0.now ∷ parts (is_one_of ends.now) p.1.now) }
     ensures shorter { IfSome result (λ p. length p.1.now < length bytes.now) }
+    ensures taken { IfSome result (λ p. IsTakenPart ends.now bytes.now p.0.now p.1.now) }
 {
     if bytes.is_empty() {
         return None;

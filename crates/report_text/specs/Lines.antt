@@ -11,12 +11,15 @@
 --     hat_lines exponent hat     the exponent, the number of rows and a line for each row of a hat, or that there is
 --                                none
 --     refused_line word number   the word of a fault, and the number of its line
+--     euler_line row             the line of an Euler number: its Alexander degree, and the number
+--     euler_lines rows           how many Euler numbers are not 0, and a line for each of them
 use Rattle.std.specs.Prelude.{ℕ, ℤ, Bool, List, ◌∷◌, ◌++◌, length, codes, Option, None, Some, if◌then◌else◌}
 use Rattle.std.specs.List.{flat_map}
 use Rattle.std.specs.Fmt.{decimal, signed_decimal}
 use Rattle.state_rank.specs.States.{state_word}
 use Rattle.text_lines.specs.Lines.{line}
 use Rattle.hat_division.specs.declared.tables.TableRow.{TableRow}
+use Rattle.grid_euler.specs.declared.tables.EulerRow.{EulerRow}
 use Rattle.grid_text.specs.Commands.{sign_word}
 use Rattle.grid_text.specs.declared.commands.Sign.{Sign}
 
@@ -44,3 +47,9 @@ hat_lines exponent (Some rows) = line
 
 abbrev pub refused_line : List ℕ → ℕ → List ℕ
 refused_line word number = line (codes "refused " ++ word ++ codes " line " ++ decimal number)
+
+abbrev pub euler_line : EulerRow → List ℕ
+euler_line row = line (codes "at " ++ signed_decimal row.a ++ 32 ∷ signed_decimal row.value)
+
+abbrev pub euler_lines : List EulerRow → List ℕ
+euler_lines rows = line (codes "euler " ++ decimal (length rows)) ++ flat_map euler_line rows

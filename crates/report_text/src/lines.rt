@@ -4,13 +4,14 @@ ghost use Rattle.std.specs.List.{flat_map};
 ghost use Rattle.std.specs.Option.{option_copied};
 ghost use Rattle.state_rank.specs.Bijection.{IsSize};
 ghost use Rattle.grid_text.specs.Commands.{sign_word};
-ghost use Rattle.report_text.specs.Lines.{front_line as front_line_of, class_line as class_line_of, verdict_word as verdict_word_of, row_line, table_lines as table_lines_of, hat_lines as hat_lines_of, refused_line as refused_line_of};
+ghost use Rattle.report_text.specs.Lines.{front_line as front_line_of, class_line as class_line_of, verdict_word as verdict_word_of, row_line, table_lines as table_lines_of, hat_lines as hat_lines_of, refused_line as refused_line_of, euler_line, euler_lines as euler_lines_of};
 ghost use Rattle.text_lines.specs.Lines.{line, chain_line};
 ghost use Rattle.torus_geom.specs.Codes.{HasRanks, states_of};
 
 use f2_chain::Chain;
 use front_data::FrontNumbers;
 use gradings::Bidegree;
+use grid_euler::{EulerRow, EulerTable};
 use grid_ports::NoMemory;
 use grid_text::Sign;
 use hat_division::{Table, TableRow};
@@ -137,6 +138,23 @@ pub fn refused_line(alloc: Global, word: &str, line: u32) -> Result<Vec<u8>, NoM
     Ok(text)
 }
 
+/// The lines of the Euler numbers: `euler K` with the number of rows, then a line `at A E` for each row, in the
+/// order of the table, with the Alexander degree A and the number E.
+///
+/// # Errors
+///
+/// `NoMemory` if the allocator refuses.
+pub fn euler_lines(alloc: Global, t: &EulerTable) -> Result<Vec<u8>, NoMemory>
+    ensures { IfOk result (λ lines. lines.items ≡ euler_lines_of t.now) }
+{
+    let numbers = t.rows();
+    let mut lines = Vec::from_slice(alloc, b"euler ")?;
+    push_number(&mut lines, numbers.len())?;
+    lines.push(b'\n')?;
+    push_euler_rows(&mut lines, numbers)?;
+    Ok(lines)
+}
+
 // The lines of a hat that there is.
 fn quotient_lines(alloc: Global, exponent: u8, quotient: &Table) -> Result<Vec<u8>, NoMemory>
     ensures { IfOk result (λ lines. lines.items ≡ hat_lines_of exponent (Some quotient.now)) }
@@ -181,6 +199,28 @@ fn push_row(lines: &mut Vec<u8>, row: &TableRow) -> Result<(), NoMemory>
     push_number(lines, row.a)?;
     lines.push(b' ')?;
     push_number(lines, row.rank)?;
+    lines.push(b'\n')?;
+    Ok(())
+}
+
+// Appends the lines of Euler numbers.
+fn push_euler_rows(lines: &mut Vec<u8>, rows: &[EulerRow]) -> Result<(), NoMemory>
+    ensures { OnOk result (lines.new.items ≡ lines.old.items ++ flat_map euler_line rows.now) }
+{
+    for row in rows {
+        push_euler_row(lines, row)?;
+    }
+    Ok(())
+}
+
+// Appends the line of an Euler number.
+fn push_euler_row(lines: &mut Vec<u8>, row: &EulerRow) -> Result<(), NoMemory>
+    ensures { OnOk result (lines.new.items ≡ lines.old.items ++ euler_line row.now) }
+{
+    lines.extend_from_slice(b"at ")?;
+    push_number(lines, row.a)?;
+    lines.push(b' ')?;
+    push_number(lines, row.value)?;
     lines.push(b'\n')?;
     Ok(())
 }

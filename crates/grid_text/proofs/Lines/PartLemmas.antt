@@ -19,7 +19,7 @@ module _ (is_end : ℕ → Bool) where
       ap (λ t. cond t ([] ∷ parts is_end bytes) (before_parts b (parts is_end bytes))) inside
 
   -- the first part ends at the first byte that ends one
-  parts-at : (part after : List ℕ) (end : ℕ) → All (λ b. is_end b ≡ false) part → is_end end ≡ true
+  pub parts-at : (part after : List ℕ) (end : ℕ) → All (λ b. is_end b ≡ false) part → is_end end ≡ true
       → parts is_end (part ++ end ∷ after) ≡ part ∷ parts is_end after
   parts-at [] after end none here = ap (λ t. cond t ([] ∷ parts is_end after) (before_parts end (parts is_end after))) here
   parts-at (b ∷ part) after end none here =

@@ -10,7 +10,7 @@ use Rattle.grid_text.specs.Picture.{grid_of_rows}
 use Rattle.grid_text.specs.Words.{Word, is_blank, lines_of, words_of, words_of_lines}
 use Rattle.grid_text.specs.Script.{GridScript}
 use Rattle.grid_text.specs.Document.{Place, head, o_line, x_line, picture, body, ended, body_of, below_row, LeadsOn, Leads, Path, IsDocument, IsHeadLine}
-use Rattle.grid_text.specs.Faults.{line_fault, is_after_end, IsFirstFault}
+use Rattle.grid_text.specs.Faults.{line_fault, is_after_end, HaveFirstFault, IsFirstFault}
 use Rattle.grid_text.specs.Inner.Reading.{IsPlace}
 use Rattle.grid_text.specs.Inner.Next.{place_of, is_head, IsNextOn, IsNext}
 use Rattle.grid_text.specs.declared.places.Place.{Place as StoredPlace}
@@ -248,11 +248,15 @@ no_document_of_ways lines f line s (inr (open_end, e)) d =
     let same = one_end head open_end.place (ended s) lines tt open_end.path d in
     true≢false (sym (ap is_after_end same) ∙ open_end.not_ended)
 
+pub no_document_of_lines : (lines : List (List Word)) (f : TextFault) (line : ℕ) (s : GridScript)
+    → HaveFirstFault lines f line → Path head lines (ended s) → ⊥
+no_document_of_lines lines f line s first d =
+    no_document_of_ways lines f line s (HaveFirstFault-cases lines f line first) d
+
 -- a text with a first fault is no document
 pub no_document : (text : List ℕ) (f : TextFault) (line : ℕ) (s : GridScript) → IsFirstFault text f line
     → IsDocument text s → ⊥
-no_document text f line s first d =
-    no_document_of_ways (words_of_lines text) f line s (HaveFirstFault-cases (words_of_lines text) f line first) d
+no_document text f line s first d = no_document_of_lines (words_of_lines text) f line s first d
 
 -- a line is allowed at a place that lines lead to exactly where it has no fault
 pub allowed : (lines : List (List Word)) (p : Place) (words : List Word) → Path head lines p
