@@ -2,6 +2,8 @@ pub mod FactorLemmas
 pub mod TableShapes
 pub mod FactorQuotients
 pub mod QuotientSteps
+pub mod RowSteps
 pub mod CountedRows
 pub mod TableExistence
 pub mod BigradedTables
+pub mod BigradedRows

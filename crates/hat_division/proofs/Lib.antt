@@ -2,7 +2,6 @@ pub mod OrderLemmas
 pub mod SumLemmas
 pub mod RankLemmas
 pub mod ProductLemmas
-pub mod QuotientLemmas
 pub mod WordLemmas
 pub mod Factors
 pub mod Multi

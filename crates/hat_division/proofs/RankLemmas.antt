@@ -52,24 +52,6 @@ stands_itself row = grind (arith, ints)
 pub AreOrdered-tail : (row : TableRow) (rows : List TableRow) → AreOrdered (row ∷ rows) → AreOrdered rows
 AreOrdered-tail row rows h i j d l m = h (suc i) (suc j) d (omega arith) (omega arith)
 
--- rows in one bidegree
-pub together_back : (p q : TableRow) → stands_at q p.m p.a ≡ true → stands_at p q.m q.a ≡ true
-together_back p q s = grind (arith, ints)
-
--- a row stands in no bidegree of a higher Alexander degree, nor does a later one
-pub not_higher : (p : TableRow) (m a : ℤ) → p.a <ℤ a → stands_at p m a ≡ false
-not_higher p m a l = grind (arith, ints)
-
-pub later_not_higher : (p q : TableRow) (m a : ℤ) → stands_before (bidegree_of p) (bidegree_of q) ≡ true → p.a <ℤ a
-    → stands_at q m a ≡ false
-later_not_higher p q m a h l = grind (arith, ints)
-
--- what comes before a row comes before each row in its bidegree, and so does a row in the bidegree of the first
-pub stands_before-degrees : (p q r s : TableRow) → stands_before (bidegree_of p) (bidegree_of q) ≡ true
-    → stands_at r p.m p.a ≡ true
-    → stands_at s q.m q.a ≡ true → stands_before (bidegree_of r) (bidegree_of s) ≡ true
-stands_before-degrees p q r s h e f = grind (arith, ints)
-
 -- ---- ranks
 pub rank_at-cons : (row : TableRow) (rows : List TableRow) (m a : ℤ)
     → rank_at (row ∷ rows) m a ≡ part_at row m a + rank_at rows m a
@@ -80,25 +62,10 @@ pub rank_at-nil : (m a : ℤ) → rank_at [] m a ≡ 0
 unfolding rank_at
 rank_at-nil m a = refl
 
-pub rank_at-push : (rows : List TableRow) (row : TableRow) (m a : ℤ)
-    → rank_at (rows ++ row ∷ []) m a ≡ rank_at rows m a + part_at row m a
-unfolding rank_at
-rank_at-push rows row m a = sum_by_push (λ r. part_at r m a) rows row
-
 pub rank_at-insert : (rows : List TableRow) (i : ℕ) (row : TableRow) (m a : ℤ)
     → rank_at (insert rows i row) m a ≡ rank_at rows m a + part_at row m a
 unfolding rank_at
 rank_at-insert rows i row m a = sum_by-insert (λ r. part_at r m a) rows i row
-
-pub rank_at-more : (rows : List TableRow) (i : ℕ) (d : TableRow) (m a : ℤ) → i < length rows
-    → rank_at (take (i + 1) rows) m a ≡ rank_at (take i rows) m a + part_at (get_or rows i d) m a
-unfolding rank_at
-rank_at-more rows i d m a l = sum_by_more (λ r. part_at r m a) rows i d l
-
-pub rank_at-take-drop : (rows : List TableRow) (i : ℕ) (m a : ℤ)
-    → rank_at (take i rows) m a + rank_at (drop i rows) m a ≡ rank_at rows m a
-unfolding rank_at
-rank_at-take-drop rows i m a = sum_by-take-drop (λ r. part_at r m a) rows i
 
 pub part_at-here : (row : TableRow) (m a : ℤ) → stands_at row m a ≡ true → part_at row m a ≡ row.rank
 part_at-here row m a s = cond-true (stands_at row m a) row.rank 0 s

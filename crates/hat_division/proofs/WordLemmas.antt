@@ -101,11 +101,3 @@ member-positive k rows row i x y r positive member l is em ea =
     λ t. product_rank k rows ((em ∙ ap (λ r. r.m -ℤ pos i) (sym member.2)) t)
     ((ea ∙ ap (λ r. r.a -ℤ pos i) (sym member.2)) t) in
     omega (arith, at)
-
--- rows of small ranks are a table
-pub small-table : (rows : List TableRow) → ArePositive rows → All IsSmall rows → IsTable rows
-small-table rows positive small = record {
-  ordered = positive.ordered;
-  ranks = λ i d l. let bound = (small i d l).bounded in
-      record { positive = positive.positive i d l; bounded = omega arith };
-}

@@ -84,7 +84,7 @@ fn place_of(rows: &[TableRow], row: &TableRow) -> usize
 }
 
 // The rank in a bidegree of the product of rows in order and the `k`-th power.
-pub(crate) fn product_rank(rows: &[TableRow], k: u8, m: i32, a: i32) -> u64
+fn product_rank(rows: &[TableRow], k: u8, m: i32, a: i32) -> u64
     requires exponent { k ≤ 16 }
     requires ordered { AreOrdered rows.now }
     requires small { All (λ row. row.rank ≤ 2 ^ 32) rows.now }
@@ -103,7 +103,7 @@ pub(crate) fn product_rank(rows: &[TableRow], k: u8, m: i32, a: i32) -> u64
 }
 
 // The rank in a bidegree of rows in order.
-fn rank_at(rows: &[TableRow], m: i32, a: i32) -> u64
+pub(crate) fn rank_at(rows: &[TableRow], m: i32, a: i32) -> u64
     requires { AreOrdered rows.now }
     ensures { result ≡ rank_at_of rows.now m a }
 {

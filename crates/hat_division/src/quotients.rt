@@ -1,18 +1,18 @@
-//! Quotients of tables by powers of 1 + q^-1 t^-1.
-ghost use Rattle.std.specs.Prelude.{◌≡◌, ◌↔◌, ◌≤◌, List, length, IsTrue, IfOk, MatchOption};
+//! Quotients of tables by powers of 1 + q^-1 t^-1, one factor at a time.
+ghost use Rattle.std.specs.Prelude.{◌≡◌, ◌↔◌, ◌≤◌, pos, ◌+ℤ◌, ◌-ℤ◌, List, IsTrue, IfOk, MatchOption};
 ghost use Rattle.std.specs.List.{All};
-ghost use Rattle.hat_division.specs.Product.{IsSmall, IsQuotient};
+ghost use Rattle.hat_division.specs.Table.{AreOrdered};
+ghost use Rattle.hat_division.specs.Product.{rank_at as rank_at_of, IsSmall, IsQuotient};
 ghost use Rattle.hat_division.specs.Inner.Products.{ArePositive};
-ghost use Rattle.hat_division.specs.Inner.Quotients.{IsCandidate};
 ghost use Rattle.hat_division.specs.declared.tables.TableRow.{TableRow};
 
-use crate::products::{product_rank, times_factor};
+use crate::products::rank_at;
 use crate::{Table, TableRow};
 use grid_ports::NoMemory;
 use std::alloc::Global;
 
 /// The quotient of the table by the `k`-th power of 1 + q^-1 t^-1: the one table whose product with this
-/// power is the table, or `None` where no table has this product.
+/// power is the table, or `None` if no table has this product.
 ///
 /// # Errors
 ///
@@ -32,35 +32,46 @@ pub fn divide(alloc: Global, t: &Table, k: u8) -> Result<Option<Table>, NoMemory
     quotient_of(alloc, t, k)
 }
 
-// The quotient, if there is one.
+// The quotient, if there is one: factor by factor.
 fn quotient_of(alloc: Global, t: &Table, k: u8) -> Result<Option<Table>, NoMemory>
-    requires exponent { k ≤ 16 }
     requires small { All IsSmall t.now }
     ensures { IfOk result (λ found. MatchOption found
         ((q : List TableRow) → ¬ IsQuotient k t.now q)
         (λ q. IsQuotient k t.now q)) }
 {
-    let rows = t.rows();
-    let candidate = Table::of(candidate_rows(alloc, rows, k)?).unwrap();
-    let product = times_factor(alloc, &candidate, k)?;
-    if are_same(product.rows(), rows) {
-        Ok(Some(candidate))
-    } else {
-        Ok(None)
+    let mut left = copied(alloc, t.rows())?;
+    for _ in 0..k {
+        let Some(quotient) = divide_one(alloc, left.as_slice())? else {
+            return Ok(None);
+        };
+        left = quotient;
     }
+    Ok(Some(Table::of(left).unwrap()))
 }
 
-// The rows that the quotient has, if there is one: from the top row down, what is left of each rank when the
-// rows above have had their parts.
-fn candidate_rows(alloc: Global, rows: &[TableRow], k: u8) -> Result<Vec<TableRow>, NoMemory>
-    requires exponent { k ≤ 16 }
+fn copied(alloc: Global, rows: &[TableRow]) -> Result<Vec<TableRow>, NoMemory>
+    ensures { IfOk result (λ v. v.items ≡ rows.now) }
+{
+    let mut copy = Vec::new(alloc);
+    copy.extend_from_slice(rows)?;
+    Ok(copy)
+}
+
+// The quotient by one factor, if there is one: from the top row down, what is left of each rank when the row one step
+// up has had its part.
+fn divide_one(alloc: Global, rows: &[TableRow]) -> Result<Option<Vec<TableRow>>, NoMemory>
     requires positive { ArePositive rows.now }
     requires small { All IsSmall rows.now }
-    ensures { IfOk result (λ quotient. IsCandidate k rows.now (length rows.now) quotient.items) }
+    ensures { IfOk result (λ found. MatchOption found
+        ((q : List TableRow) → ¬ IsQuotient 1 rows.now q)
+        (λ q. IsQuotient 1 rows.now q.items)) }
 {
     let mut quotient = Vec::new(alloc);
     for row in rows {
-        let above = product_rank(quotient.as_slice(), k, row.m, row.a);
+        let above = rank_up(quotient.as_slice(), row);
+        if row.rank < above {
+            return Ok(None);
+        }
         if above < row.rank {
             quotient.push(TableRow {
                 m: row.m,
@@ -69,11 +80,42 @@ fn candidate_rows(alloc: Global, rows: &[TableRow], k: u8) -> Result<Vec<TableRo
             })?;
         }
     }
-    Ok(quotient)
+    if have_lower(rows, quotient.as_slice()) {
+        Ok(Some(quotient))
+    } else {
+        Ok(None)
+    }
 }
 
-fn are_same(left: &[TableRow], right: &[TableRow]) -> bool
-    ensures { IsTrue result ↔ (left.now ≡ right.now) }
+// Whether the table has a row one step down from each row of the quotient.
+fn have_lower(rows: &[TableRow], quotient: &[TableRow]) -> bool
+    requires ordered { AreOrdered rows.now }
+    requires small { All IsSmall quotient.now }
+    ensures { IsTrue result
+        ↔ All (λ row. 1 ≤ rank_at_of rows.now (row.m -ℤ pos 1) (row.a -ℤ pos 1)) quotient.now }
 {
-    left == right
+    for row in quotient {
+        if rank_down(rows, row) == 0 {
+            return false;
+        }
+    }
+    true
+}
+
+// The rank one step up from a row.
+fn rank_up(rows: &[TableRow], row: &TableRow) -> u64
+    requires ordered { AreOrdered rows.now }
+    requires small { IsSmall row.now }
+    ensures { result ≡ rank_at_of rows.now (row.now.m +ℤ pos 1) (row.now.a +ℤ pos 1) }
+{
+    rank_at(rows, row.m + 1, row.a + 1)
+}
+
+// The rank one step down.
+fn rank_down(rows: &[TableRow], row: &TableRow) -> u64
+    requires ordered { AreOrdered rows.now }
+    requires small { IsSmall row.now }
+    ensures { result ≡ rank_at_of rows.now (row.now.m -ℤ pos 1) (row.now.a -ℤ pos 1) }
+{
+    rank_at(rows, row.m - 1, row.a - 1)
 }

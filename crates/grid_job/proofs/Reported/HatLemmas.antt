@@ -12,7 +12,7 @@ use Rattle.hat_division.specs.Table.{bidegree_of, homology_row, AreOrdered}
 use Rattle.hat_division.specs.Product.{IsQuotient}
 use Rattle.hat_division.specs.Inner.Products.{ArePositive}
 use Rattle.hat_division.specs.declared.tables.TableRow.{TableRow}
-use Rattle.hat_division.proofs.QuotientLemmas.{has_quotient}
+use Rattle.hat_division.proofs.Factors.BigradedTables.{has_quotient}
 use Rattle.homology_cert.proofs.Homology.StateTables.{exists_homology_table, one_homology_table}
 use Rattle.report_text.specs.Lines.{table_lines, hat_lines}
 use Rattle.torus_geom.specs.Components.{is_first, components}

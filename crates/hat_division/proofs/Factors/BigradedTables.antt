@@ -9,12 +9,13 @@ use Rattle.std.proofs.lemmas.Int.{ints}
 use Rattle.f2_algebra.specs.Bigraded.{stands_before}
 use Rattle.f2_algebra.proofs.Ranks.OrderLemmas.{same_bidegree, same_bidegree-is, stands_before-transitive}
 use Rattle.hat_division.specs.Product.{rank_at, binomial, sum_first, product_rank, IsQuotient}
+use Rattle.hat_division.specs.Inner.Products.{ArePositive}
 use Rattle.hat_division.specs.declared.tables.TableRow.{TableRow}
 use Rattle.hat_division.proofs.SumLemmas.{sum_first-suc, sum_first-zero, binomial-none}
 use Rattle.hat_division.specs.Factors.{times_one, times_all, copies}
-use Rattle.hat_division.proofs.Factors.FactorLemmas.{IsStepUp, AreStepsUp}
+use Rattle.hat_division.proofs.Factors.FactorLemmas.{IsStepUp, AreStepsUp, one_up_down, one_down_up}
 use Rattle.hat_division.proofs.Factors.TableShapes.{TableShape, ranks_of, ranks_of-sum}
-use Rattle.hat_division.proofs.Factors.FactorQuotients.{IsQuotientOf, one_quotient}
+use Rattle.hat_division.proofs.Factors.FactorQuotients.{IsQuotientOf, one_quotient, decide_quotient}
 
 -- ---- the shape
 pub before-itself : (p : ℤ × ℤ) → stands_before p p ≡ false
@@ -58,18 +59,12 @@ bigraded_shape = record {
 abbrev pub bidegree_up : ℤ × ℤ → ℤ × ℤ
 bidegree_up k = (k.0 +ℤ pos 1, k.1 +ℤ pos 1)
 
-up_down : (m : ℤ) → (m +ℤ pos 1) -ℤ pos 1 ≡ m
-up_down m = omega (arith, ints)
-
-down_up : (m : ℤ) → (m -ℤ pos 1) +ℤ pos 1 ≡ m
-down_up m = omega (arith, ints)
-
-bidegree_up_IsStepUp : IsStepUp (λ (k : ℤ × ℤ). k.0) bidegree_up
+abbrev pub bidegree_up_IsStepUp : IsStepUp (λ (k : ℤ × ℤ). k.0) bidegree_up
 bidegree_up_IsStepUp = record {
   raises = λ k. refl;
   down = λ k. (k.0 -ℤ pos 1, k.1 -ℤ pos 1);
-  back = λ k. λ j. (up_down k.0 j, up_down k.1 j);
-  forth = λ k. λ j. (down_up k.0 j, down_up k.1 j);
+  back = λ k. λ j. (one_up_down k.0 j, one_up_down k.1 j);
+  forth = λ k. λ j. (one_down_up k.0 j, one_down_up k.1 j);
 }
 
 pub copies_AreStepsUp : (e : ℕ) → AreStepsUp (λ (k : ℤ × ℤ). k.0) (copies e bidegree_up)
@@ -167,7 +162,7 @@ times_all-power (suc k) r m a =
     omega arith
 
 -- ---- quotients
-rank_at-ranks_of : (rows : List TableRow) (m a : ℤ) → rank_at rows m a ≡ ranks_of bigraded_shape rows (m, a)
+pub rank_at-ranks_of : (rows : List TableRow) (m a : ℤ) → rank_at rows m a ≡ ranks_of bigraded_shape rows (m, a)
 unfolding rank_at
 rank_at-ranks_of rows m a = sym (ranks_of-sum bigraded_shape rows (m, a))
 
@@ -199,3 +194,13 @@ pub one_bigraded_quotient : (k : ℕ) (rows p q : List TableRow) → IsQuotient 
 one_bigraded_quotient k rows p q hp hq =
     one_quotient bigraded_shape (copies k bidegree_up) (copies_AreStepsUp k) rows p q ((quotient-is k rows p).0 hp)
     ((quotient-is k rows q).0 hq)
+
+-- it has one or has none
+pub has_quotient : (k : ℕ) (rows : List TableRow) → ArePositive rows
+    → ((q : List TableRow) × IsQuotient k rows q) ⊎ ((q : List TableRow) → IsQuotient k rows q → ⊥)
+has_quotient k rows positive =
+    elim (decide_quotient bigraded_shape (copies k bidegree_up) (copies_AreStepsUp k) rows
+    (record { ordered = positive.ordered; positive = positive.positive })) [
+      | inl (q, is) ↦ inl (q, (quotient-is k rows q).1 is)
+      | inr none ↦ inr (λ q h. none q ((quotient-is k rows q).0 h))
+    ]

@@ -20,6 +20,13 @@ AreStepsUp height (up ∷ ups) = IsStepUp height up × AreStepsUp height ups
 abbrev pub IsZeroAbove : {K : Type 0} → (K → ℤ) → ℤ → (K → ℕ) → Type 0
 IsZeroAbove {K} height top r = (k : K) → top <ℤ height k → r k ≡ 0
 
+-- one up and one down
+pub one_up_down : (m : ℤ) → (m +ℤ pos 1) -ℤ pos 1 ≡ m
+one_up_down m = omega (arith, ints)
+
+pub one_down_up : (m : ℤ) → (m -ℤ pos 1) +ℤ pos 1 ≡ m
+one_down_up m = omega (arith, ints)
+
 -- so many steps lead above a height
 pub far : (top z : ℤ) → (n : ℕ) × (top <ℤ (z +ℤ pos n))
 far top z = by (top -ℤ z) refl

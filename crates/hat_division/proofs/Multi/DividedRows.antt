@@ -16,8 +16,8 @@ use Rattle.hat_division.proofs.Multi.DegreeListLemmas.{same_multidegree-is}
 use Rattle.hat_division.proofs.Factors.TableShapes as shapes
 use Rattle.hat_division.proofs.Factors.TableShapes.{ranks_of, ranks_of-none, ranks_of-member, row_found}
 use Rattle.hat_division.proofs.Factors.FactorQuotients.{IsQuotientOf, quotient-le, quotient_none, quotients_next, none_next}
-use Rattle.hat_division.proofs.Factors.QuotientSteps.{IsCandidateFor, ranks_of-row, candidate_none, candidate_fails, candidate_kept, candidate_pushed, candidate_is, candidate_is_not}
-use Rattle.std.proofs.Math.Seq.{drop-cons}
+use Rattle.hat_division.proofs.Factors.QuotientSteps.{IsCandidateFor, ranks_of-row}
+use Rattle.hat_division.proofs.Factors.RowSteps.{row_among, all_among, quotient_found, no_quotient}
 use Rattle.hat_division.proofs.Multi.MultiTableLemmas.{multi_shape, rank_at-ranks_of, step_up_IsStepUp, step_up-before, copies_AreStepsUp, steps_below_AreStepsUp, quotient_by-is}
 
 -- ---- rows in order
@@ -49,18 +49,7 @@ pub rank-moved : (rows : List MultiRow) (m n : ℤ) (ds es : List ℤ) (r : ℕ)
     → es ≡ ds → r ≡ rank_at rows (m, ds)
 rank-moved rows m n ds es r is at_m at_ds = is ∙ (λ j. rank_at rows (at_m j, at_ds j))
 
--- ---- rows at the keys of others
--- each row of ys has a row of xs in its degrees, where xs has a rank wherever ys has
-keys_among : (xs ys : List MultiRow) → shapes.ArePositive multi_shape ys
-    → ((k : ℤ × List ℤ) → ranks_of multi_shape xs k ≡ 0 → ranks_of multi_shape ys k ≡ 0) → (r : MultiRow)
-    → Contains ys r → (t : MultiRow) × Contains xs t × (degrees_of t ≡ degrees_of r)
-keys_among xs ys positive under r inside =
-    let some = ranks_of-member multi_shape ys r positive inside in
-    elim (cases_lt 0 (ranks_of multi_shape xs (degrees_of r))) [
-      | inl there ↦ row_found multi_shape xs (degrees_of r) there
-      | inr none ↦ let gone = under (degrees_of r) (omega arith) in absurd (omega arith)
-    ]
-
+-- ---- what holds of rows by their degrees
 small_same : (t r : MultiRow) → degrees_of t ≡ degrees_of r → IsSmall t → IsSmall r
 small_same t r e h = record {
   maslov = subst IsSmallDegree (ap (λ (p : ℤ × List ℤ). p.0) e) h.maslov;
@@ -70,114 +59,34 @@ small_same t r e h = record {
 length_same : (t r : MultiRow) → degrees_of t ≡ degrees_of r → length t.d ≡ length r.d
 length_same t r e = ap (λ (p : ℤ × List ℤ). length p.1) e
 
-module _ (xs ys : List MultiRow) (positive : shapes.ArePositive multi_shape ys)
-    (under : (k : ℤ × List ℤ) → ranks_of multi_shape xs k ≡ 0 → ranks_of multi_shape ys k ≡ 0) where
-  small_among : All IsSmall xs → All IsSmall ys
-  small_among small k d l =
-      let t = keys_among xs ys positive under (get_or ys k d) (Contains-get_or ys k d l) in
-      let (j, lj, is) = t.1 in
-      small_same t.0 (get_or ys k d) t.2 (subst IsSmall is (small j t.0 lj))
+place_same : (i : ℕ) (t r : MultiRow) → degrees_of t ≡ degrees_of r → HasPlace i t → HasPlace i r
+place_same i t r e h = let same = length_same t r e in let at : i < length t.d = h in omega arith
 
-  place_among : (i : ℕ) → All (HasPlace i) xs → All (HasPlace i) ys
-  place_among i place k d l =
-      let t = keys_among xs ys positive under (get_or ys k d) (Contains-get_or ys k d l) in
-      let (j, lj, is) = t.1 in
-      let at : HasPlace i t.0 = subst (HasPlace i) is (place j t.0 lj) in
-      let same = length_same t.0 (get_or ys k d) t.2 in
-      omega arith
+has_length_same : (n : ℕ) (t r : MultiRow) → degrees_of t ≡ degrees_of r → HasLength n t → HasLength n r
+has_length_same n t r e h = sym (length_same t r e) ∙ h
 
-  length_among : (n : ℕ) → All (HasLength n) xs → All (HasLength n) ys
-  length_among n lengths k d l =
-      let t = keys_among xs ys positive under (get_or ys k d) (Contains-get_or ys k d l) in
-      let (j, lj, is) = t.1 in
-      sym (length_same t.0 (get_or ys k d) t.2) ∙ subst (HasLength n) is (lengths j t.0 lj)
+-- ---- at the end
+module _ (i : ℕ) (rows : List MultiRow) (positive : ArePositive rows) (c : List MultiRow)
+    (all : IsCandidateFor multi_shape (step_up i) rows rows c) where
+  pub end_small : All IsSmall rows → All IsSmall c
+  end_small = all_among multi_shape rows c all.positive_so_far all.under IsSmall small_same
 
--- ---- one row
-module _ (i : ℕ) (rows : List MultiRow) (positive : ArePositive rows) where
-  abbrev Candidate : List MultiRow → List MultiRow → Type 0
-  Candidate done c = IsCandidateFor multi_shape (step_up i) rows done c
+  pub end_place : All (HasPlace i) rows → All (HasPlace i) c
+  end_place = all_among multi_shape rows c all.positive_so_far all.under (HasPlace i) (place_same i)
 
-  pub row_none : IsCandidateFor multi_shape (step_up i) rows (take 0 rows) []
-  row_none = candidate_none multi_shape (step_up i) (step_up_IsStepUp i) (step_up-before i) rows (general rows positive)
+  pub end_found : All (λ row. 1 ≤ rank_at rows (step_down i (degrees_of row))) c → IsQuotientBy (step_up i ∷ []) rows c
+  end_found lower =
+      (quotient_by-is (step_up i ∷ []) rows c).1
+      (quotient_found multi_shape (step_up i) (step_up_IsStepUp i) rows (general rows positive) (step_up-before i) c all
+      (λ k d l. subst (λ n. 1 ≤ n) (rank_at-ranks_of rows (step_down i (degrees_of (get_or c k d)))) (lower k d l)))
 
-  module _ (n : ℕ) (row : MultiRow) (inside : n < length rows) (is : row ≡ get_or rows n row) (c : List MultiRow)
-      (so_far : IsCandidateFor multi_shape (step_up i) rows (take n rows) c) (above : ℕ)
-      (above_is : above ≡ rank_at c (step_up i (degrees_of row))) where
-    whole : rows ≡ take n rows ++ row ∷ drop (n + 1) rows
-    whole = sym (take-append-drop n rows)
-        ∙ ap (λ l. take n rows ++ l) (drop-cons rows n row inside ∙ ap₂ (λ r k. r ∷ drop k rows) (sym is) (sym (add-one n)))
-
-    taken : take (n + 1) rows ≡ take n rows ++ row ∷ []
-    taken = take_more rows n row inside ∙ ap (λ r. take n rows ++ r ∷ []) (sym is)
-
-    from_above : above ≡ ranks_of multi_shape c (step_up i (degrees_of row))
-    from_above = above_is ∙ rank_at-ranks_of c (step_up i (degrees_of row))
-
-    pub row_fails : row.rank < above → (q : List MultiRow) → IsQuotientBy (step_up i ∷ []) rows q → ⊥
-    row_fails less q h =
-        let at = from_above in
-        candidate_fails multi_shape (step_up i) (step_up_IsStepUp i) (step_up-before i) rows (general rows positive)
-        (take n rows) row (drop (n + 1) rows) whole c so_far (omega arith) q ((quotient_by-is (step_up i ∷ []) rows q).0 h)
-
-    pub row_kept : row.rank ≤ above → above ≤ row.rank
-        → IsCandidateFor multi_shape (step_up i) rows (take (n + 1) rows) c
-    row_kept more enough =
-        let at = from_above in
-        subst (λ done. IsCandidateFor multi_shape (step_up i) rows done c) (sym taken)
-        (candidate_kept multi_shape (step_up i) (step_up_IsStepUp i) (step_up-before i) rows (general rows positive)
-        (take n rows) row (drop (n + 1) rows) whole c so_far (omega arith))
-
-    pub row_pushed : (new : MultiRow) → degrees_of new ≡ degrees_of row → new.rank ≡ row.rank - above
-        → above < row.rank → IsCandidateFor multi_shape (step_up i) rows (take (n + 1) rows) (c ++ new ∷ [])
-    row_pushed new at_key left less =
-        let at = from_above in
-        subst (λ done. IsCandidateFor multi_shape (step_up i) rows done (c ++ new ∷ [])) (sym taken)
-        (candidate_pushed multi_shape (step_up i) (step_up_IsStepUp i) (step_up-before i) rows (general rows positive)
-        (take n rows) row (drop (n + 1) rows) whole c so_far new at_key (left ∙ ap (λ a. row.rank - a) at)
-        (omega arith))
-
-  -- ---- at the end
-  module _ (n : ℕ) (c : List MultiRow) (so_far : IsCandidateFor multi_shape (step_up i) rows (take n rows) c) where
-    positive_c : shapes.ArePositive multi_shape c
-    positive_c = so_far.positive_so_far
-
-    under_c : (k : ℤ × List ℤ) → ranks_of multi_shape (take n rows) k ≡ 0 → ranks_of multi_shape c k ≡ 0
-    under_c = so_far.under
-
-    module _ (all : length rows ≤ n) where
-      at_end : IsCandidateFor multi_shape (step_up i) rows rows c
-      at_end = subst (λ done. IsCandidateFor multi_shape (step_up i) rows done c) (take_all n rows all) so_far
-
-      pub end_small : All IsSmall rows → All IsSmall c
-      end_small = small_among rows c positive_c at_end.under
-
-      pub end_place : All (HasPlace i) rows → All (HasPlace i) c
-      end_place = place_among rows c positive_c at_end.under i
-
-      pub end_found : All (λ row. 1 ≤ rank_at rows (step_down i (degrees_of row))) c
-          → IsQuotientBy (step_up i ∷ []) rows c
-      end_found lower =
-          (quotient_by-is (step_up i ∷ []) rows c).1
-          (candidate_is multi_shape (step_up i) (step_up_IsStepUp i) (step_up-before i) rows (general rows positive) c
-          at_end (λ r inside.
-          let (k, l, is) = inside in
-          let low : 1 ≤ rank_at rows (step_down i (degrees_of r)) =
-          subst (λ s. 1 ≤ rank_at rows (step_down i (degrees_of s))) is (lower k r l) in
-          let same = rank_at-ranks_of rows (step_down i (degrees_of r)) in
-          omega arith))
-
-      pub end_none : (All (λ row. 1 ≤ rank_at rows (step_down i (degrees_of row))) c → ⊥) → (q : List MultiRow)
-          → IsQuotientBy (step_up i ∷ []) rows q → ⊥
-      end_none not_lower q h = not_lower (λ k d l.
-          let r = get_or c k d in
-          elim (cases_lt 0 (rank_at rows (step_down i (degrees_of r)))) [
-            | inl some ↦ some
-            | inr none ↦
-                let same = rank_at-ranks_of rows (step_down i (degrees_of r)) in
-                absurd (candidate_is_not multi_shape (step_up i) (step_up_IsStepUp i) (step_up-before i) rows
-                (general rows positive) c at_end r (Contains-get_or c k d l) (omega arith) q
-                ((quotient_by-is (step_up i ∷ []) rows q).0 h))
-          ])
+  pub end_none : (All (λ row. 1 ≤ rank_at rows (step_down i (degrees_of row))) c → ⊥) → (q : List MultiRow)
+      → IsQuotientBy (step_up i ∷ []) rows q → ⊥
+  end_none not_lower q h =
+      no_quotient multi_shape (step_up i) (step_up_IsStepUp i) rows (general rows positive) (step_up-before i) c all
+      (λ lower. not_lower (λ k d l.
+      subst (λ n. 1 ≤ n) (sym (rank_at-ranks_of rows (step_down i (degrees_of (get_or c k d))))) (lower k d l)))
+      q ((quotient_by-is (step_up i ∷ []) rows q).0 h)
 
 -- ---- quotients
 pub quotient_positive : (ups : List (ℤ × List ℤ → ℤ × List ℤ)) (rows q : List MultiRow) → IsQuotientBy ups rows q
@@ -189,13 +98,15 @@ module _ (ups : List (ℤ × List ℤ → ℤ × List ℤ)) (rows q : List Multi
   under_q k none = let less = quotient-le multi_shape ups rows q ((quotient_by-is ups rows q).0 h) k in omega arith
 
   pub quotient_small : All IsSmall rows → All IsSmall q
-  quotient_small = small_among rows q (general q (quotient_positive ups rows q h)) under_q
+  quotient_small = all_among multi_shape rows q (general q (quotient_positive ups rows q h)) under_q IsSmall small_same
 
   pub quotient_place : (i : ℕ) → All (HasPlace i) rows → All (HasPlace i) q
-  quotient_place i = place_among rows q (general q (quotient_positive ups rows q h)) under_q i
+  quotient_place i =
+      all_among multi_shape rows q (general q (quotient_positive ups rows q h)) under_q (HasPlace i) (place_same i)
 
   pub quotient_length : (n : ℕ) → All (HasLength n) rows → All (HasLength n) q
-  quotient_length n = length_among rows q (general q (quotient_positive ups rows q h)) under_q n
+  quotient_length n =
+      all_among multi_shape rows q (general q (quotient_positive ups rows q h)) under_q (HasLength n) (has_length_same n)
 
   -- a quotient of a table is a table
   pub quotient_table : IsMultiTable rows → IsMultiTable q
@@ -205,7 +116,7 @@ module _ (ups : List (ℤ × List ℤ → ℤ × List ℤ)) (rows q : List Multi
     ranks = λ k d l.
         let r = get_or q k d in
         let inside = Contains-get_or q k d l in
-        let t = keys_among rows q (general q (quotient_positive ups rows q h)) under_q r inside in
+        let t = row_among multi_shape rows q (general q (quotient_positive ups rows q h)) under_q r inside in
         let (j, lj, is) = t.1 in
         let held : HasRank t.0 = subst HasRank is (table.ranks j t.0 lj) in
         let bound = held.bounded in
@@ -219,38 +130,6 @@ module _ (ups : List (ℤ × List ℤ → ℤ × List ℤ)) (rows q : List Multi
 -- ---- one factor after another
 pub quotient_start : (rows : List MultiRow) → ArePositive rows → IsQuotientBy [] rows rows
 quotient_start rows h = (quotient_by-is [] rows rows).1 (quotient_none multi_shape rows (general rows h))
-
-module _ (i : ℕ) (rows : List MultiRow) (positive : ArePositive rows) where
-  pub power_next : (j : ℕ) (p q : List MultiRow) → IsQuotientBy (copies j (step_up i)) rows p
-      → IsQuotientBy (step_up i ∷ []) p q → IsQuotientBy (copies (j + 1) (step_up i)) rows q
-  power_next j p q hp hq =
-      let e : suc j ≡ j + 1 = omega arith in
-      subst (λ n. IsQuotientBy (copies n (step_up i)) rows q) e
-      ((quotient_by-is (copies (suc j) (step_up i)) rows q).1
-      ((quotients_next multi_shape (copies j (step_up i)) (copies_AreStepsUp i j) rows (general rows positive)
-      (step_up i ∷ []) p q ((quotient_by-is (copies j (step_up i)) rows p).0 hp)).0
-      ((quotient_by-is (step_up i ∷ []) p q).0 hq)))
-
-  copies-add : (a b : ℕ) → copies (a + b) (step_up i) ≡ copies a (step_up i) ++ copies b (step_up i)
-  copies-add zero b = ap (λ n. copies n (step_up i)) (let e : 0 + b ≡ b = omega arith in e)
-  copies-add (suc a) b =
-      ap (λ n. copies n (step_up i)) (let e : suc a + b ≡ suc (a + b) = omega arith in e)
-      ∙ ap (λ l. step_up i ∷ l) (copies-add a b)
-
-  pub power_none : (e j : ℕ) (p : List MultiRow) → j < e → IsQuotientBy (copies j (step_up i)) rows p
-      → ((q : List MultiRow) → IsQuotientBy (step_up i ∷ []) p q → ⊥) → (q : List MultiRow)
-      → IsQuotientBy (copies e (step_up i)) rows q → ⊥
-  power_none e j p l hp none q h =
-      let all : e ≡ (e - suc j) + suc j = omega arith in
-      let parts : copies e (step_up i) ≡ copies (e - suc j) (step_up i) ++ copies (suc j) (step_up i) =
-      ap (λ n. copies n (step_up i)) all ∙ copies-add (e - suc j) (suc j) in
-      none_next multi_shape (copies (suc j) (step_up i)) (copies_AreStepsUp i (suc j)) rows (general rows positive)
-      (copies (e - suc j) (step_up i))
-      (λ r hr. none r ((quotient_by-is (step_up i ∷ []) p r).1
-      ((quotients_next multi_shape (copies j (step_up i)) (copies_AreStepsUp i j) rows (general rows positive)
-      (step_up i ∷ []) p r ((quotient_by-is (copies j (step_up i)) rows p).0 hp)).1 hr)))
-      q (subst (λ ups. IsQuotientOf multi_shape ups rows q) parts
-      ((quotient_by-is (copies e (step_up i)) rows q).0 h))
 
 -- ---- one component after another
 module _ (es : List ℕ) (rows : List MultiRow) (positive : ArePositive rows) where

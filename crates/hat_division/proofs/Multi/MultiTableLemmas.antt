@@ -11,7 +11,7 @@ use Rattle.hat_division.specs.Factors.{times_all, copies}
 use Rattle.hat_division.specs.MultiTable.{degrees_of, rank_at, AreOrdered, step_up, steps_below, steps_up, IsQuotientBy, IsMultiQuotient}
 use Rattle.hat_division.specs.declared.multi_tables.MultiRow.{MultiRow}
 use Rattle.hat_division.proofs.Multi.DegreeListLemmas.{same_degrees-is, same_multidegree, same_multidegree-is, multidegree_before-itself, multidegree_before-transitive, multidegree_before-or}
-use Rattle.hat_division.proofs.Factors.FactorLemmas.{IsStepUp, AreStepsUp}
+use Rattle.hat_division.proofs.Factors.FactorLemmas.{IsStepUp, AreStepsUp, one_up_down, one_down_up}
 use Rattle.hat_division.proofs.Factors.TableShapes.{TableShape, ranks_of, ranks_of-sum}
 use Rattle.hat_division.proofs.Factors.FactorQuotients.{IsQuotientOf, one_quotient, decide_quotient}
 
@@ -47,12 +47,6 @@ pub raised-lowered : (i : ℕ) (ds : List ℤ) → raised i (lowered i ds) ≡ d
 raised-lowered i [] = refl
 raised-lowered zero (d ∷ ds) = ap (λ e. e ∷ ds) (let e : (d -ℤ pos 2) +ℤ pos 2 ≡ d = omega (arith, ints) in e)
 raised-lowered (suc i) (d ∷ ds) = ap (λ l. d ∷ l) (raised-lowered i ds)
-
-pub one_up_down : (m : ℤ) → (m +ℤ pos 1) -ℤ pos 1 ≡ m
-one_up_down m = omega (arith, ints)
-
-pub one_down_up : (m : ℤ) → (m -ℤ pos 1) +ℤ pos 1 ≡ m
-one_down_up m = omega (arith, ints)
 
 abbrev pub step_up_IsStepUp : (i : ℕ) → IsStepUp (λ (k : ℤ × List ℤ). k.0) (step_up i)
 step_up_IsStepUp i = record {

@@ -1,62 +1,76 @@
--- The candidate is the quotient where its product is the table.
-use Rattle.std.proofs.Common.{◌≡◌, length, All, sym, subst, ◌∙◌}
-use Rattle.std.proofs.lemmas.Bool.{false≢true}
+-- One factor after another.
+use Rattle.std.proofs.Common.{◌+◌, List, All, Vec, Global, sym, subst, ◌∙◌}
+use Rattle.hat_division.specs.Factors.{copies}
+use Rattle.hat_division.specs.Product.{IsSmall, IsQuotient}
+use Rattle.hat_division.specs.Inner.Products.{ArePositive}
 use Rattle.hat_division.specs.Table.{IsTable}
-use Rattle.hat_division.specs.Product.{IsProduct, IsQuotient, IsSmall}
-use Rattle.hat_division.specs.Inner.Quotients.{IsCandidate}
+use Rattle.hat_division.specs.declared.tables.TableRow.{TableRow}
+use Rattle.hat_division.proofs.Factors.BigradedRows.{general, quotient_positive, quotient_start, quotient_under, small_under, table_under}
+use Rattle.hat_division.proofs.Factors.BigradedTables.{bigraded_shape, bidegree_up, bidegree_up_IsStepUp, quotient-is}
+use Rattle.hat_division.proofs.Factors.RowSteps.{power_next, power_none}
+use Rattle.hat_division.proofs.Multi.DividedRows.{answer_none, answer_some}
 use Rattle.hat_division.proofs.ProductLemmas.{ArePositive-table}
-use Rattle.hat_division.proofs.QuotientLemmas.{candidate-small, candidate-is, candidate-is_not}
-use Rattle.hat_division.proofs.WordLemmas.{IfSome-value, small-table}
 use Rattle.hat_division.proofs.quotients.quotient_of.Goals as goal
 
-pub unwrap-candidate-requires : goal.unwrap-candidate-requires
-unwrap-candidate-requires c =
-    let rows = c.rows-rows.result.now in
-    let found = c.in_ok-candidate_rows.field-0.items in
-    let small : All IsSmall rows = subst (λ xs. All IsSmall xs) (sym c.rows-rows.ensures.rows) c.requires.small in
-    let held : IsCandidate c.args.k rows (length rows) found = c.in_ok-candidate_rows.ensures in
-    c.of.ensures.accepted.1 (small-table found held.positive
-    (candidate-small c.args.k rows (length rows) found
-    (ArePositive-table rows c.rows-rows.ensures.table) small held))
+pub loop-init : goal.loop-init
+loop-init c =
+    let rows = c.args.t.now in
+    let table = subst IsTable c.rows.ensures.rows c.rows.ensures.table in
+    subst (IsQuotient 0 rows) (sym (c.in_ok-left.ensures ∙ c.rows.ensures.rows))
+    (quotient_start rows (ArePositive-table rows table))
 
-pub times_factor-requires-clause-small : goal.times_factor-requires-clause-small
-times_factor-requires-clause-small c =
-    let rows = c.rows-rows.result.now in
-    let found = c.in_ok-candidate_rows.field-0.items in
-    let small : All IsSmall rows = subst (λ xs. All IsSmall xs) (sym c.rows-rows.ensures.rows) c.requires.small in
-    let same =
-    IfSome-value (λ t. t ≡ found) c.of.result c.unwrap-candidate.result c.unwrap-candidate.ensures c.of.ensures.rows in
-    subst (λ xs. All IsSmall xs) (sym same)
-    (candidate-small c.args.k rows (length rows) found
-    (ArePositive-table rows c.rows-rows.ensures.table) small c.in_ok-candidate_rows.ensures)
+pub divide_one-requires-clause-positive : goal.divide_one-requires-clause-positive
+divide_one-requires-clause-positive c =
+    let left = c.loop.left.items in
+    subst (λ xs. ArePositive xs) (sym c.as_slice.ensures.value)
+    (quotient_positive c.loop.counter c.args.t.now left c.loop.invariant)
 
-pub returns-then-are_same : goal.returns-then-are_same
-returns-then-are_same c =
+pub divide_one-requires-clause-small : goal.divide_one-requires-clause-small
+divide_one-requires-clause-small c =
+    let rows = c.args.t.now in
+    let left = c.loop.left.items in
+    let table = subst IsTable c.rows.ensures.rows c.rows.ensures.table in
+    subst (λ xs. All IsSmall xs) (sym c.as_slice.ensures.value)
+    (small_under rows left (general left (quotient_positive c.loop.counter rows left c.loop.invariant))
+    (quotient_under c.loop.counter rows left c.loop.invariant) (ArePositive-table rows table) c.requires.small)
+
+pub returns-in_default : goal.returns-in_default
+returns-in_default c q h =
+    let rows = c.args.t.now in
+    let left = c.loop.left.items in
+    let n = c.loop.counter in
     let k = c.args.k in
-    let rows = c.rows-rows.result.now in
-    let found = c.in_ok-candidate_rows.field-0.items in
-    let product = c.in_ok-product.product in
-    let same =
-    IfSome-value (λ t. t ≡ found) c.of.result c.unwrap-candidate.result c.unwrap-candidate.ensures c.of.ensures.rows in
-    let table : product ≡ rows = sym c.rows.ensures.rows ∙ c.are_same.ensures.0 c.if-are_same.true in
-    let is : IsProduct k found product = subst (λ xs. IsProduct k xs product) same c.in_ok-product.ensures in
-    let quotient : IsQuotient k rows found =
-    candidate-is k rows found c.in_ok-candidate_rows.ensures (subst (λ xs. IsProduct k found xs) table is) in
-    subst (λ xs. IsQuotient k xs c.unwrap-candidate.result) c.rows-rows.ensures.rows
-    (subst (λ xs. IsQuotient k rows xs) (sym same) quotient)
+    let table = subst IsTable c.rows.ensures.rows c.rows.ensures.table in
+    let none =
+    answer_none ((r : List TableRow) → IsQuotient 1 c.as_slice.result.now r → ⊥)
+    (λ (v : Vec TableRow Global). IsQuotient 1 c.as_slice.result.now v.items) c.in_ok-quotient.field-0 c.in_default.is
+    c.in_ok-quotient.ensures in
+    power_none bigraded_shape bidegree_up bidegree_up_IsStepUp rows (general rows (ArePositive-table rows table)) k n left
+    c.loop-test.true ((quotient-is n rows left).0 c.loop.invariant)
+    (λ r hr. none r (subst (λ xs. IsQuotient 1 xs r) (sym c.as_slice.ensures.value) ((quotient-is 1 left r).1 hr))) q
+    ((quotient-is k rows q).0 h)
 
-pub returns-else-are_same : goal.returns-else-are_same
-returns-else-are_same c q quotient =
-    let k = c.args.k in
-    let rows = c.rows-rows.result.now in
-    let found = c.in_ok-candidate_rows.field-0.items in
-    let product = c.in_ok-product.product in
-    let same =
-    IfSome-value (λ t. t ≡ found) c.of.result c.unwrap-candidate.result c.unwrap-candidate.ensures c.of.ensures.rows in
-    let is : IsProduct k found product = subst (λ xs. IsProduct k xs product) same c.in_ok-product.ensures in
-    candidate-is_not k rows found c.in_ok-candidate_rows.ensures product
-    (ArePositive-table rows c.rows-rows.ensures.table)
-    (ArePositive-table product (subst IsTable c.rows.ensures.rows c.rows.ensures.table))
-    is
-    (λ e. false≢true (sym c.if-are_same.false ∙ c.are_same.ensures.1 (c.rows.ensures.rows ∙ e)))
-    q (subst (λ xs. IsQuotient k xs q) (sym c.rows-rows.ensures.rows) quotient)
+pub loop-preserved : goal.loop-preserved
+loop-preserved c =
+    let rows = c.args.t.now in
+    let left = c.loop.left.items in
+    let n = c.loop.counter in
+    let new = c.in-Some.quotient.items in
+    let table = subst IsTable c.rows.ensures.rows c.rows.ensures.table in
+    let found =
+    answer_some ((r : List TableRow) → IsQuotient 1 c.as_slice.result.now r → ⊥)
+    (λ (v : Vec TableRow Global). IsQuotient 1 c.as_slice.result.now v.items) c.in_ok-quotient.field-0
+    c.in-Some.quotient c.in-Some.is c.in_ok-quotient.ensures in
+    (quotient-is (n + 1) rows new).1
+    (power_next bigraded_shape bidegree_up bidegree_up_IsStepUp rows (general rows (ArePositive-table rows table)) n left new
+    ((quotient-is n rows left).0 c.loop.invariant)
+    ((quotient-is 1 left new).0 (subst (λ xs. IsQuotient 1 xs new) c.as_slice.ensures.value found)))
+
+pub unwrap-requires : goal.unwrap-requires
+unwrap-requires c =
+    let rows = c.args.t.now in
+    let left = c.loop.left.items in
+    let table = subst IsTable c.rows.ensures.rows c.rows.ensures.table in
+    c.of.ensures.accepted.1
+    (table_under rows left (general left (quotient_positive c.loop.counter rows left c.loop.invariant))
+    (quotient_under c.loop.counter rows left c.loop.invariant) (ArePositive-table rows table) table)
