@@ -1,4 +1,3 @@
-pub mod BoundsLemmas
 pub mod ChainLemmas
 pub mod FollowedLemmas
 pub mod PartLemmas

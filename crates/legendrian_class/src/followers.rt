@@ -1,8 +1,8 @@
 //! A chain that is followed through moves of its grid.
 ghost use Rattle.std.specs.Prelude.{◌≡◌, ◌↔◌, ◌<◌, IfOk, IsTrue, OnErr, OnOk};
 ghost use Rattle.state_rank.specs.Bijection.{IsSize};
-ghost use Rattle.torus_geom.specs.Border.{Bounds};
-ghost use Rattle.torus_geom.specs.Chains.{single};
+ghost use Rattle.torus_geom.specs.Border.{Bounds, border};
+ghost use Rattle.torus_geom.specs.Chains.{nothing, single};
 ghost use Rattle.torus_geom.specs.Front.{minus_state, plus_state};
 ghost use Rattle.torus_geom.specs.Marks.{size};
 ghost use Rattle.grid_moves.specs.Inner.CodeCarried.{turned_chain};
@@ -116,7 +116,12 @@ impl Follower {
         ensures after { OnOk result (followed_of self.new ≡ after_commutation axis c corner (followed_of self.old)) }
         ensures unchanged { OnErr result (self.new ≡ self.old) }
 
-        // Whatever the call answers: x+ bounds in the grid exactly where it bounds in the exchanged grid.
+        // Whatever the call answers: a cycle that is followed bounds exactly where it bounds after the exchange.
+        ensures cycle_bounds { border self.old.grid (followed_of self.old).chain ≡ nothing
+            → Bounds self.old.grid (followed_of self.old).chain
+            ↔ Bounds (swapped axis self.old.grid c) (after_commutation axis c corner (followed_of self.old)).chain }
+
+        // So x+ bounds in the grid exactly where it bounds in the exchanged grid.
         ensures plus_bounds { Bounds self.old.grid (single (plus_state self.old.grid))
             ↔ Bounds (swapped axis self.old.grid c) (single (plus_state (swapped axis self.old.grid c))) }
 

@@ -6,7 +6,7 @@ use Rattle.grid_moves.proofs.Exchanged.SwappedTwice.{size-swapped}
 use Rattle.legendrian_class.specs.Followed.{after_commutation}
 use Rattle.legendrian_class.specs.FollowedCodes.{followed_of}
 use Rattle.legendrian_class.proofs.FollowedStates.{followed_of-exchanged}
-use Rattle.legendrian_class.proofs.StateBounds.{minus_state_bounds_alike, plus_state_bounds_alike}
+use Rattle.legendrian_class.proofs.StateBounds.{followed_bounds_alike, minus_state_bounds_alike, plus_state_bounds_alike}
 use Rattle.legendrian_class.proofs.followers.Follower.commute.Goals as goal
 
 pub invariant_of-self : goal.invariant_of-self
@@ -42,3 +42,15 @@ pub returns-clause-minus_bounds : goal.returns-clause-minus_bounds
 returns-clause-minus_bounds c =
     minus_state_bounds_alike c.args.axis c.args.self.now.grid
     (subst IsGrid (ap (λ p. p.grid) c.self.view_is) c.size.ensures.grid) c.args.c c.requires.below c.requires.commutes
+
+pub returns-in_err-self-inside-clause-cycle_bounds : goal.returns-in_err-self-inside-clause-cycle_bounds
+returns-in_err-self-inside-clause-cycle_bounds c =
+    followed_bounds_alike c.args.axis c.args.self.now
+    (subst IsGrid (ap (λ p. p.grid) c.self.view_is) c.size.ensures.grid) c.args.c c.requires.below c.requires.commutes
+    c.args.corner
+
+pub returns-clause-cycle_bounds : goal.returns-clause-cycle_bounds
+returns-clause-cycle_bounds c =
+    followed_bounds_alike c.args.axis c.args.self.now
+    (subst IsGrid (ap (λ p. p.grid) c.self.view_is) c.size.ensures.grid) c.args.c c.requires.below c.requires.commutes
+    c.args.corner
