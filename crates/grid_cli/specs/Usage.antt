@@ -3,4 +3,4 @@
 use Rattle.std.specs.Prelude.{ℕ, List, [], ◌∷◌, ◌++◌, codes}
 
 abbrev pub usage_line : List ℕ
-usage_line = codes "usage: gridhom run | cert | check | make --size N --seed K" ++ 10 ∷ []
+usage_line = codes "usage: gridhom run | cert | check | make --size N --seed K | compare" ++ 10 ∷ []

@@ -12,7 +12,7 @@ use grid_ports::{Sink, Source, write_all};
 use std::alloc::Global;
 
 /// The line that tells which words the program knows.
-const USAGE: &str = "usage: gridhom run | cert | check | make --size N --seed K\n";
+const USAGE: &str = "usage: gridhom run | cert | check | make --size N --seed K | compare\n";
 
 /// Does what the words ask for, and answers how the call ended. Where they ask for nothing, `errors` is told the
 /// usage.
@@ -73,7 +73,8 @@ pub(crate) fn answer<S: Source, K: Sink, E: Sink>(
     // A text is refused where one is read.
     ensures refused { result ≡ Status.Refused → (map string_bytes words.now ≡ codes "run" ∷ [])
         ⊎ ((map string_bytes words.now ≡ codes "cert" ∷ [])
-        ⊎ (map string_bytes words.now ≡ codes "check" ∷ [])) }
+        ⊎ ((map string_bytes words.now ≡ codes "check" ∷ [])
+        ⊎ (map string_bytes words.now ≡ codes "compare" ∷ []))) }
 
     // A call of `make` reads nothing, whatever its end. A call that is done has written a made script with its
     // summary, whatever the source is.

@@ -13,7 +13,7 @@ fn other_words_are_told_the_usage(rt: HostRuntime) -> Result<(), Fail> {
             "walk",
             1,
             "",
-            "usage: gridhom run | cert | check | make --size N --seed K\n",
+            "usage: gridhom run | cert | check | make --size N --seed K | compare\n",
         ),
     ] {
         let mut words = Vec::new(alloc);

@@ -3,3 +3,4 @@ pub mod Certified
 pub mod Reported
 pub mod Outcomes
 pub mod Parsed
+pub mod Compared

@@ -3,6 +3,7 @@
 --     hat_exponent g     the number of these factors
 --     IsHat g hat        the rows are of positive ranks, in the order of tables, and their product with the factors
 --                        is the table of the grid
+--     HasHat g hat       this is the hat of the grid; or the grid has none
 --     IsHatText g text   the exponent and the rows of the hat; or that there is none, exactly if there is none
 use Rattle.std.specs.Prelude.{◌≡◌, ℕ, ◌-◌, List, map, Option, MatchOption}
 use Rattle.hat_division.specs.Product.{IsQuotient}
@@ -21,7 +22,10 @@ pub record IsHat (g : Marks) (hat : List TableRow) : Type 0 where
   pub table : IsHomologyTable g (map homology_row rows)
   pub quotient : IsQuotient (hat_exponent g) rows hat
 
+abbrev pub HasHat : Marks → Option (List TableRow) → Type 0
+HasHat g hat = MatchOption hat ((q : List TableRow) → ¬ IsHat g q) (λ q. IsHat g q)
+
 pub record IsHatText (g : Marks) (text : List ℕ) : Type 0 where
   pub hat : Option (List TableRow)
-  pub told : MatchOption hat ((q : List TableRow) → ¬ IsHat g q) (λ q. IsHat g q)
+  pub told : HasHat g hat
   pub lines : text ≡ hat_lines (hat_exponent g) hat

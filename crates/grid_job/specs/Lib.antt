@@ -8,5 +8,6 @@ pub mod Status
 pub mod Words
 pub mod Checked
 pub mod Certified
+pub mod Compared
 pub mod Outcome
 pub mod Inner

@@ -28,20 +28,22 @@ use Rattle.report_text.specs.Lines.{refused_line}
 use Rattle.grid_job.specs.Certified.{IsCertified, IsTooLarge}
 use Rattle.homology_cert.specs.CertificateLimits.{max_certificate}
 use Rattle.grid_job.specs.Checked.{IsPassed, IsFailed, IsNoCertificate}
+use Rattle.grid_job.specs.Compared.{IsCompared, IsPairFaulty}
 use Rattle.grid_job.specs.Made.{IsMade}
 use Rattle.grid_job.specs.Report.{IsReport}
 use Rattle.grid_job.specs.Words.{IsMake}
 use Rattle.grid_job.specs.declared.modes.Mode.{Mode}
-use Rattle.grid_job.specs.declared.modes.Mode.TheVariants.{Run, Cert, Check, Make}
+use Rattle.grid_job.specs.declared.modes.Mode.TheVariants.{Run, Cert, Check, Compare, Make}
 use Rattle.grid_job.specs.declared.statuses.Status.{Status}
 use Rattle.grid_job.specs.declared.statuses.Status.TheVariants.{Done, Refused, No}
 
--- `run`, `cert` and `check` alone ask for what they say, and `make` with its two options for a grid of this size and
--- seed
+-- `run`, `cert`, `check` and `compare` alone ask for what they say, and `make` with its two options for a grid of this
+-- size and seed
 abbrev pub IsForm : List (List ℕ) → Mode → Type 0
 IsForm words Run = words ≡ codes "run" ∷ []
 IsForm words Cert = words ≡ codes "cert" ∷ []
 IsForm words Check = words ≡ codes "check" ∷ []
+IsForm words Compare = words ≡ codes "compare" ∷ []
 IsForm words (Make size seed) = IsMake words size seed
 
 -- one byte past the most that is judged; `make` reads nothing
@@ -79,6 +81,8 @@ IsOutcome Cert text Refused answer = IsRefusal text answer ⊎ IsTooLarge text a
 IsOutcome Check text Done answer = IsPassed text answer
 IsOutcome Check text No answer = IsFailed text answer
 IsOutcome Check text Refused answer = IsTooLong max_certificate text answer ⊎ IsNoCertificate text answer
+IsOutcome Compare text Done answer = IsCompared text answer
+IsOutcome Compare text Refused answer = IsTooLong max_text text answer ⊎ IsPairFaulty text answer
 IsOutcome (Make size seed) text Done answer = IsMade size seed answer
 IsOutcome mode text status answer = ⊥
 

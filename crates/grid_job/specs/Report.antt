@@ -1,5 +1,7 @@
 -- Reports: the bytes that a run writes for a script. The table of a grid is given by what holds of it, so
 -- a text is a report by what holds of it too.
+--     IsTableText g text       the text has the lines of the table of the grid
+--     IsEulerText g text       the text has the lines of the Euler numbers of the grid
 --     IsAnswer p c text        the text may be the answer to the command c where p is in force
 --     AreAnswers p cs text     the text is the concatenation, in order, of one answer to each command, where p is
 --                              in force before the first
@@ -7,7 +9,9 @@
 use Rattle.std.specs.Prelude.{◌≡◌, List, ℕ, [], ◌∷◌, ◌++◌, map, codes}
 use Rattle.hat_division.specs.declared.tables.TableRow.{TableRow}
 use Rattle.hat_division.specs.Table.{homology_row}
-use Rattle.report_text.specs.Lines.{front_line, table_lines}
+use Rattle.grid_euler.specs.Euler.{IsEulerTable}
+use Rattle.grid_euler.specs.declared.tables.EulerRow.{EulerRow}
+use Rattle.report_text.specs.Lines.{front_line, table_lines, euler_lines}
 use Rattle.text_lines.specs.Lines.{line, chain_line}
 use Rattle.torus_geom.specs.Border.{border}
 use Rattle.torus_geom.specs.Chains.{single}
@@ -29,6 +33,12 @@ pub record IsTableText (g : Marks) (text : List ℕ) : Type 0 where
   pub table : IsHomologyTable g (map homology_row rows)
   pub lines : text ≡ table_lines rows
 
+-- the lines of the Euler numbers that are not 0
+pub record IsEulerText (g : Marks) (text : List ℕ) : Type 0 where
+  pub rows : List EulerRow
+  pub numbers : IsEulerTable g rows
+  pub lines : text ≡ euler_lines rows
+
 -- the classical invariants of the front; the table of ranks; the hat, or that there is none; the verdict of the
 -- class of x+ or x-, and of the chain in force, each with its evidence; the states of the border, those of the chain in
 -- force, and those of its image there and back across a commutation and of its homotopy, in ascending order; nothing if a
@@ -44,6 +54,7 @@ IsAnswer p command.Bounds text = IsBoundsText p.grid p.chain text
 IsAnswer p (command.Invert axis c corner) text = text
     ≡ line (chain_line (codes "return") (size p.grid) (return_image axis p.grid c corner p.chain))
     ++ line (chain_line (codes "homotopy") (size p.grid) (homotopy axis p.grid c corner p.chain))
+IsAnswer p command.Euler text = IsEulerText p.grid text
 IsAnswer p other text = text ≡ []
 
 -- one answer to each command, in order, and nothing else

@@ -8,6 +8,7 @@ ghost use Rattle.grid_job.specs.Outcome.{IsForm, IsRefusal, IsOutcome, IsEnd, Ha
 
 use crate::certificates::cert;
 use crate::checks::check;
+use crate::comparisons::compare;
 use crate::made::make;
 use crate::modes::{Mode, mode_of};
 use crate::runs::run;
@@ -52,7 +53,8 @@ pub(crate) fn answer_words<S: Source, K: Sink>(
     ensures no { result ≡ Status.No → map string_bytes words.now ≡ codes "check" ∷ [] }
     ensures refused { result ≡ Status.Refused → (map string_bytes words.now ≡ codes "run" ∷ [])
         ⊎ ((map string_bytes words.now ≡ codes "cert" ∷ [])
-        ⊎ (map string_bytes words.now ≡ codes "check" ∷ [])) }
+        ⊎ ((map string_bytes words.now ≡ codes "check" ∷ [])
+        ⊎ (map string_bytes words.now ≡ codes "compare" ∷ []))) }
     ensures make_reads_nothing { (size seed : ℕ) → IsMake (map string_bytes words.now) size seed
         → src.new ≡ src.old }
     ensures make_ended { (size seed : ℕ) → IsMake (map string_bytes words.now) size seed → IsEnd result
@@ -79,6 +81,7 @@ pub(crate) fn answer_words<S: Source, K: Sink>(
         Some(Mode::Run) => run(alloc, src, out),
         Some(Mode::Cert) => cert(alloc, src, out),
         Some(Mode::Check) => check(alloc, src, out),
+        Some(Mode::Compare) => compare(alloc, src, out),
         Some(Mode::Make { size, seed }) => make(alloc, size, seed, out),
         None => Status::Usage,
     }

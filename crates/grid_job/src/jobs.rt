@@ -24,8 +24,9 @@ use std::alloc::Global;
 
 /// Does what the words ask for: `run` alone reads a document from `src` and writes a report of it to `out`;
 /// `cert` alone reads a document and writes a certificate of the grid in force at its end, which has a size of at
-/// most six; `check` alone reads a certificate and writes whether it passes; `make --size N --seed K` reads
-/// nothing, and writes the script of this size and seed with a summary of its grid.
+/// most six; `check` alone reads a certificate and writes whether it passes; `compare` alone reads two documents,
+/// parted by a line `next`, and writes which of the facts on the grids in force at their ends agree; `make --size N
+/// --seed K` reads nothing, and writes the script of this size and seed with a summary of its grid.
 ///
 /// The words are those after the program's name. The options of `make` stand in either order, each in one word
 /// with `=` or in two, and are read by `clap`, which asks for memory. All is read before anything is written. A text
@@ -88,7 +89,8 @@ pub fn gridhom<S: Source, K: Sink>(
     // A text is refused where one is read.
     ensures refused { result ≡ Status.Refused → (map string_bytes words.now ≡ codes "run" ∷ [])
         ⊎ ((map string_bytes words.now ≡ codes "cert" ∷ [])
-        ⊎ (map string_bytes words.now ≡ codes "check" ∷ [])) }
+        ⊎ ((map string_bytes words.now ≡ codes "check" ∷ [])
+        ⊎ (map string_bytes words.now ≡ codes "compare" ∷ []))) }
 
     // A call of `make` reads nothing, whatever its end. A call that is done has written a made script with its
     // summary, whatever the source is.

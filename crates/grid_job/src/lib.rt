@@ -4,7 +4,7 @@
 //! written a report of it, and when each other answer comes, with what was written until then. What a
 //! document and a report are is said in specs/, with no trace of how they are read and written.
 //! Stands on `grid_ports`, on `grid_text`, which judges texts, on `front_data`, `rectangles`, `homology_cert`,
-//! `hat_division` and `legendrian_class`, which answer the commands, and on `report_text`, which prints their
+//! `hat_division`, `grid_euler` and `legendrian_class`, which answer the commands, and on `report_text`, which prints their
 //! answers. `homology_cert` makes, reads and checks certificates too. `clap` reads the options of `make`.
 //!
 //! Example: the word `run` and the lines `grid 2`, `O 1 0`, `X 0 1`, `hat` and `end` write the lines
@@ -15,6 +15,8 @@ mod answers;
 mod certificates;
 mod checks;
 mod classes;
+mod comparisons;
+mod euler_numbers;
 mod generator;
 mod hats;
 mod in_force;

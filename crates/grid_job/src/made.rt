@@ -63,7 +63,7 @@ fn summary(alloc: Global, g: &Grid) -> Result<Vec<u8>, NoMemory>
 }
 
 // Whether the class of x+ or x- is alive, and not null.
-fn is_alive(alloc: Global, g: &Grid, sign: Sign) -> Result<bool, NoMemory>
+pub(crate) fn is_alive(alloc: Global, g: &Grid, sign: Sign) -> Result<bool, NoMemory>
     ensures { IfOk result (λ alive. HasClassVerdict g.now sign alive) }
 {
     let _ = g.size();

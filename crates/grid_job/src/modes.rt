@@ -12,6 +12,8 @@ pub enum Mode {
     Cert,
     /// Reads a certificate and writes whether it passes.
     Check,
+    /// Reads two documents and writes which of the facts on the grids in force at their ends agree.
+    Compare,
     /// Reads nothing, and writes the script of this size and seed, with a summary of its grid.
     Make { size: u8, seed: u32 },
 }
@@ -32,6 +34,9 @@ pub(crate) fn mode_of(words: &[String], made: Option<(u32, u32)>) -> Option<Mode
     }
     if is_alone(words, "check") {
         return Some(Mode::Check);
+    }
+    if is_alone(words, "compare") {
+        return Some(Mode::Compare);
     }
     let Some((size, seed)) = made else {
         return None;

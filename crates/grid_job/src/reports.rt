@@ -13,9 +13,10 @@ ghost use Rattle.grid_text.specs.Script.{AreAllowed};
 ghost use Rattle.grid_job.specs.InForce.{at_start};
 ghost use Rattle.grid_job.specs.Hat.{IsHatText};
 ghost use Rattle.grid_job.specs.Inner.Tables.{IsTableOf};
-ghost use Rattle.grid_job.specs.Report.{IsAnswer, AreAnswers, IsTableText};
+ghost use Rattle.grid_job.specs.Report.{IsAnswer, AreAnswers, IsTableText, IsEulerText};
 
 use crate::classes::{bounds_lines, class_lines};
+use crate::euler_numbers::euler_text;
 use crate::hats::hat_text;
 use crate::in_force::follow;
 use crate::inversions::invert_lines;
@@ -116,6 +117,7 @@ fn answer_to(
         | Command::Commute(_, _, _)
         | Command::Stab(_, _)
         | Command::Destab(_, _, _) => Ok(Vec::new(alloc)),
+        Command::Euler => euler_of(alloc, g, table),
     }
 }
 
@@ -141,6 +143,19 @@ fn hat_of(alloc: Global, g: &Grid, table: &mut Option<Table>) -> Result<Vec<u8>,
     make_table(alloc, g, table)?;
     match table {
         Some(known) => hat_text(alloc, g, known),
+        None => unreachable!(),
+    }
+}
+
+// The lines of the Euler numbers.
+fn euler_of(alloc: Global, g: &Grid, table: &mut Option<Table>) -> Result<Vec<u8>, NoMemory>
+    requires { IfSome table.old (IsTableOf g.now) }
+    ensures lines { IfOk result (λ text. IsEulerText g.now text.items) }
+    ensures table { IfSome table.new (IsTableOf g.now) }
+{
+    make_table(alloc, g, table)?;
+    match table {
+        Some(known) => euler_text(alloc, g, known),
         None => unreachable!(),
     }
 }

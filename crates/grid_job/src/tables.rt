@@ -1,5 +1,5 @@
 //! The table of the grid in force, which is made once.
-ghost use Rattle.std.specs.Prelude.{IfSome, IsSome, OnOk};
+ghost use Rattle.std.specs.Prelude.{IfOk, IfSome, IsSome, OnOk};
 ghost use Rattle.grid_text.specs.Commands.{grid_after};
 ghost use Rattle.torus_geom.specs.Marks.{Marks};
 ghost use Rattle.grid_job.specs.Inner.Tables.{IsTableOf};
@@ -18,9 +18,16 @@ pub(crate) fn make_table(alloc: Global, g: &Grid, table: &mut Option<Table>) -> 
     ensures table { IfSome table.new (IsTableOf g.now) }
 {
     if table.is_none() {
-        *table = Some(rank_table(alloc, g)?);
+        *table = Some(table_of(alloc, g)?);
     }
     Ok(())
+}
+
+/// The table of the grid.
+pub(crate) fn table_of(alloc: Global, g: &Grid) -> Result<Table, NoMemory>
+    ensures { IfOk result (IsTableOf g.now) }
+{
+    rank_table(alloc, g)
 }
 
 /// Drops the table where the command has moved its grid.

@@ -10,6 +10,8 @@
 #[cfg(test)]
 mod certificates;
 #[cfg(test)]
+mod comparisons;
+#[cfg(test)]
 mod failing;
 #[cfg(test)]
 mod knots;

@@ -1,5 +1,6 @@
 //! One test for each table.
 use crate::certificates::{CERTIFIED, CHECKED};
+use crate::comparisons::{COMPARISONS, EULER_NUMBERS};
 use crate::failing::FAILING;
 use crate::knots::{KNOTS, KNOTS_OF_NINE_1, KNOTS_OF_NINE_2, KNOTS_OF_NINE_3, KNOTS_OF_NINE_4};
 use crate::large::{
@@ -18,6 +19,16 @@ use std::test::Fail;
 #[test]
 fn reports(rt: HostRuntime) -> Result<(), Fail> {
     try_rows(&rt, REPORTS)
+}
+
+#[test]
+fn euler_numbers(rt: HostRuntime) -> Result<(), Fail> {
+    try_rows(&rt, EULER_NUMBERS)
+}
+
+#[test]
+fn comparisons(rt: HostRuntime) -> Result<(), Fail> {
+    try_rows(&rt, COMPARISONS)
 }
 
 #[test]

@@ -125,6 +125,7 @@ command_row (command.Commute i c v) = (axis_word i, number c ∷ corner v ∷ []
 command_row (command.Stab c v) = (stab_word, number c ∷ square v ∷ [])
 command_row (command.Destab c r v) = (destab_word, first_of_two c ∷ first_of_two r ∷ square v ∷ [])
 command_row (command.Invert i c v) = (invert_word, axis i ∷ number c ∷ corner v ∷ [])
+command_row command.Euler = (codes "euler", [])
 
 abbrev pub command_words : Command → List Word
 command_words c = (command_row c).0 ∷ map argument_word (command_row c).1

@@ -107,7 +107,8 @@ abbrev pub examples : List Command
 examples =
     command.Front ∷ command.Ranks ∷ command.Hat ∷ command.Class Plus ∷ command.Border [] ∷ command.Chain []
     ∷ command.Show ∷ command.Bounds ∷ command.Turn Left ∷ command.Commute Cols 0 Over ∷ command.Commute Rows 0 Over
-    ∷ command.Stab 0 Nw ∷ command.Destab 0 0 Nw ∷ command.Invert Cols 0 Over ∷ []
+    ∷ command.Stab 0 Nw ∷ command.Destab 0 0 Nw ∷ command.Invert Cols 0 Over ∷ command.Euler
+    ∷ []
 
 abbrev pub body_forms : ℕ → List (Word × Form)
 body_forms n = map (λ c. ((command_row c).0, form_of n c)) examples ++ (end_word, exactly []) ∷ []

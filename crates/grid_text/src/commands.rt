@@ -110,4 +110,5 @@ pub enum Command {
     Destab(u8, u8, Square),
     /// What the way there and back across a commutation does to the chain.
     Invert(Axis, u8, Corner),
+    Euler,
 }

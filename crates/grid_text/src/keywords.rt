@@ -26,11 +26,12 @@ pub(crate) enum Keyword {
     Stab,
     Destab,
     Invert,
+    Euler,
     End,
 }
 
 /// All keywords.
-const KEYWORDS: [Keyword; 15] = [
+const KEYWORDS: [Keyword; 16] = [
     Keyword::Front,
     Keyword::Ranks,
     Keyword::Hat,
@@ -45,6 +46,7 @@ const KEYWORDS: [Keyword; 15] = [
     Keyword::Stab,
     Keyword::Destab,
     Keyword::Invert,
+    Keyword::Euler,
     Keyword::End,
 ];
 
@@ -77,6 +79,7 @@ pub(crate) fn keyword_text(keyword: Keyword) -> &'static [u8]
         Keyword::Stab => b"stab",
         Keyword::Destab => b"destab",
         Keyword::Invert => b"invert",
+        Keyword::Euler => b"euler",
         Keyword::End => b"end",
     }
 }
@@ -100,6 +103,7 @@ pub(crate) fn keyword_of(command: &Command) -> Keyword
         Command::Stab(_, _) => Keyword::Stab,
         Command::Destab(_, _, _) => Keyword::Destab,
         Command::Invert(_, _, _) => Keyword::Invert,
+        Command::Euler => Keyword::Euler,
     }
 }
 
@@ -113,6 +117,7 @@ pub(crate) fn command_alone(keyword: Keyword) -> Option<Command>
         Keyword::Hat => Some(Command::Hat),
         Keyword::Show => Some(Command::Show),
         Keyword::Bounds => Some(Command::Bounds),
+        Keyword::Euler => Some(Command::Euler),
         _ => None,
     }
 }

@@ -46,7 +46,7 @@ exists_alive g grid sign (NotCycle s) stands = absurd (class_is_cycle g grid sig
 exists_alive g grid sign (Null b) stands = (false, (b, stands))
 exists_alive g grid sign (Alive f) stands = (true, (f, stands))
 
-exists_class_verdict : (g : Marks) → IsGrid g → (sign : Sign) → (alive : Bool) × HasClassVerdict g sign alive
+pub exists_class_verdict : (g : Marks) → IsGrid g → (sign : Sign) → (alive : Bool) × HasClassVerdict g sign alive
 exists_class_verdict g grid sign =
     let found = HasVerdict-states g grid (class_chain g sign) (IsChain-class_chain g grid sign) in
     exists_alive g grid sign found.0 found.1

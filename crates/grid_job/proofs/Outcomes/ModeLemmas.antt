@@ -6,7 +6,7 @@ use Rattle.std.proofs.lemmas.Slice.Eq.{bytes_eq-Decides}
 use Rattle.grid_job.specs.Outcome.{IsForm}
 use Rattle.grid_job.specs.Words.{word_at, IsMake}
 use Rattle.grid_job.specs.declared.modes.Mode.{Mode}
-use Rattle.grid_job.specs.declared.modes.Mode.TheVariants.{Run, Cert, Check, Make}
+use Rattle.grid_job.specs.declared.modes.Mode.TheVariants.{Run, Cert, Check, Compare, Make}
 
 -- a list of one element
 pub single-item : {X : Type 0} (xs : List X) (x : X) → 1 ≤ length xs → length xs < 2 → x ≡ get_or xs 0 x → xs ≡ x ∷ []
@@ -29,12 +29,13 @@ command_alone words word command told one e =
 
 -- words that ask for none of the modes
 pub no_mode : (words : List (List ℕ)) → (words ≡ codes "run" ∷ [] → ⊥) → (words ≡ codes "cert" ∷ [] → ⊥)
-    → (words ≡ codes "check" ∷ [] → ⊥)
+    → (words ≡ codes "check" ∷ [] → ⊥) → (words ≡ codes "compare" ∷ [] → ⊥)
     → ((n s : ℕ) → IsMake words n s → ⊥) → (mode : Mode) → IsForm words mode → ⊥
-no_mode words run cert check make Run form = run form
-no_mode words run cert check make Cert form = cert form
-no_mode words run cert check make Check form = check form
-no_mode words run cert check make (Make n s) form = make n s form
+no_mode words run cert check compare make Run form = run form
+no_mode words run cert check compare make Cert form = cert form
+no_mode words run cert check compare make Check form = check form
+no_mode words run cert check compare make Compare form = compare form
+no_mode words run cert check compare make (Make n s) form = make n s form
 
 -- ---- the modes are told apart
 -- the first word of each mode
@@ -42,12 +43,14 @@ abbrev pub mode_word : Mode → List ℕ
 mode_word Run = codes "run"
 mode_word Cert = codes "cert"
 mode_word Check = codes "check"
+mode_word Compare = codes "compare"
 mode_word (Make n s) = codes "make"
 
 first-word : (words : List (List ℕ)) (mode : Mode) → IsForm words mode → word_at words 0 ≡ mode_word mode
 first-word words Run form = ap (λ ws. word_at ws 0) form
 first-word words Cert form = ap (λ ws. word_at ws 0) form
 first-word words Check form = ap (λ ws. word_at ws 0) form
+first-word words Compare form = ap (λ ws. word_at ws 0) form
 first-word words (Make n s) form = form.command
 
 -- words do not ask for two modes whose first words differ

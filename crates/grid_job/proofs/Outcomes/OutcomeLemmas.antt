@@ -1,9 +1,9 @@
 -- Each text has an outcome in each mode, and all outcomes of a text have one status.
 use Rattle.std.proofs.Common.{◌≡◌, ◌⊎◌, ℕ, ◌<◌, ◌≤◌, List, length, map, nat_lt, false, refl, sym, ap, ◌∙◌, inl, inr, arith}
 use Rattle.std.proofs.lemmas.Bool.{cases_Bool, ltb-true}
-use Rattle.torus_geom.specs.Marks.{size}
-use Rattle.grid_text.specs.Words.{lines_of, words_of, words_of_lines}
-use Rattle.grid_text.specs.Document.{head, ended, IsDocument}
+use Rattle.torus_geom.specs.Marks.{size, IsGrid}
+use Rattle.grid_text.specs.Words.{Word, lines_of, words_of, words_of_lines}
+use Rattle.grid_text.specs.Document.{head, ended, Path, IsDocument}
 use Rattle.grid_text.specs.Script.{GridScript, IsScript, grid_in_force}
 use Rattle.grid_text.specs.Limits.{max_text}
 use Rattle.grid_text.proofs.Lines.ScriptLemmas.{IsGrid-grid_in_force}
@@ -16,13 +16,17 @@ use Rattle.homology_cert.specs.CertificateText.{certificate_text}
 use Rattle.homology_cert.specs.declared.verdicts.CertTest.{CertTest}
 use Rattle.homology_cert.specs.declared.verdicts.CertVerdict.{CertVerdict}
 use Rattle.homology_cert.specs.declared.verdicts.CertVerdict.TheVariants as verdict
+use Rattle.grid_text.proofs.Paths.PairLemmas.{every_pair_text, no_pair}
+use Rattle.grid_text.specs.Pairs.{first_part}
+use Rattle.grid_job.specs.Compared.{IsCompared, IsPairFaulty}
+use Rattle.grid_job.proofs.Compared.FactLemmas.{exists_comparison}
 use Rattle.grid_job.specs.Certified.{IsCertificateText, IsCertified, IsTooLarge}
 use Rattle.homology_cert.specs.CertificateLimits.{max_certificate}
 use Rattle.grid_job.specs.Checked.{IsPassed, IsFailed, IsNoCertificate}
 use Rattle.grid_job.specs.InForce.{at_start}
 use Rattle.grid_job.specs.Outcome.{IsForm, IsTooLong, IsFaulty, IsRefusal, IsReported, IsOutcome}
 use Rattle.grid_job.specs.declared.modes.Mode.{Mode}
-use Rattle.grid_job.specs.declared.modes.Mode.TheVariants.{Run, Cert, Check, Make}
+use Rattle.grid_job.specs.declared.modes.Mode.TheVariants.{Run, Cert, Check, Compare, Make}
 use Rattle.grid_job.specs.declared.statuses.Status.{Status}
 use Rattle.grid_job.specs.declared.statuses.Status.TheVariants.{Done, Refused, No}
 use Rattle.homology_cert.proofs.States.StateTexts.{some_answer}
@@ -48,6 +52,9 @@ CheckCase text s a =
     ((s ≡ Done) × IsPassed text a) ⊎ ((s ≡ No) × IsFailed text a)
     ⊎ ((s ≡ Refused) × (IsTooLong max_certificate text a ⊎ IsNoCertificate text a))
 
+CompareCase : List ℕ → Status → List ℕ → Type 0
+CompareCase text s a = ((s ≡ Done) × IsCompared text a) ⊎ ((s ≡ Refused) × (IsTooLong max_text text a ⊎ IsPairFaulty text a))
+
 run_case : (text : List ℕ) (s : Status) (a : List ℕ) → IsOutcome Run text s a → RunCase text s a
 unfolding RunCase
 run_case text Done a x = inl (refl, x)
@@ -66,6 +73,12 @@ check_case text Done a x = inl (refl, x)
 check_case text No a x = inr (inl (refl, x))
 check_case text Refused a x = inr (inr (refl, x))
 check_case text s a x = absurd x
+
+compare_case : (text : List ℕ) (s : Status) (a : List ℕ) → IsOutcome Compare text s a → CompareCase text s a
+unfolding CompareCase
+compare_case text Done a x = inl (refl, x)
+compare_case text Refused a x = inr (refl, x)
+compare_case text s a x = absurd x
 
 make_done : (n k : ℕ) (text : List ℕ) (s : Status) (a : List ℕ) → IsOutcome (Make n k) text s a → s ≡ Done
 make_done n k text Done a x = refl
@@ -140,11 +153,25 @@ one_status_of_check text s t a b (inr (inl p)) (inr (inr q)) =
 one_status_of_check text s t a b (inr (inr p)) (inr (inl q)) =
     absurd (not_refused text a q.1.certificate q.1.within q.1.is_certificate q.1.lines p.1)
 
+-- a pair of documents is not refused
+not_faulty : (text a b : List ℕ) → IsCompared text a → IsTooLong max_text text b ⊎ IsPairFaulty text b → ⊥
+not_faulty text a b p (inl long) = not_long max_text text b p.within long
+not_faulty text a b p (inr faulty) = no_pair text faulty.fault faulty.number p.first p.second faulty.first p.pair
+
+one_status_of_compare : (text : List ℕ) (s t : Status) (a b : List ℕ) → CompareCase text s a → CompareCase text t b
+    → s ≡ t
+unfolding CompareCase
+one_status_of_compare text s t a b (inl p) (inl q) = p.0 ∙ sym q.0
+one_status_of_compare text s t a b (inr p) (inr q) = p.0 ∙ sym q.0
+one_status_of_compare text s t a b (inl p) (inr q) = absurd (not_faulty text a b p.1 q.1)
+one_status_of_compare text s t a b (inr p) (inl q) = absurd (not_faulty text b a q.1 p.1)
+
 pub one_status : (mode : Mode) (text : List ℕ) (s t : Status) (a b : List ℕ) → IsOutcome mode text s a
     → IsOutcome mode text t b → s ≡ t
 one_status Run text s t a b x y = one_status_of_run text s t a b (run_case text s a x) (run_case text t b y)
 one_status Cert text s t a b x y = one_status_of_cert text s t a b (cert_case text s a x) (cert_case text t b y)
 one_status Check text s t a b x y = one_status_of_check text s t a b (check_case text s a x) (check_case text t b y)
+one_status Compare text s t a b x y = one_status_of_compare text s t a b (compare_case text s a x) (compare_case text t b y)
 one_status (Make n k) text s t a b x y = make_done n k text s a x ∙ sym (make_done n k text t b y)
 
 -- ---- an outcome
@@ -278,11 +305,43 @@ some_checked text = elim (within_or_long max_certificate (length text)) [
       },
     )
 
+-- a script of a part of a text has a grid
+grid_of_part : (lines : List (List Word)) (s : GridScript) → Path head lines (ended s) → IsGrid (grid_in_force s)
+grid_of_part lines s path = IsGrid-grid_in_force s (IsPlace-path head (ended s) lines tt path)
+
+pub some_compared : (text : List ℕ) → SomeOutcome Compare text
+some_compared text = elim (within_or_long max_text (length text)) [
+  | inr long ↦ (Refused, _, inl (record { long = long; told = refl }))
+  | inl within ↦ elim (every_pair_text text) [
+    | inl pair ↦
+        let (s, t, is_pair) = pair in
+        let compared = exists_comparison (grid_in_force s) (grid_in_force t)
+        (grid_of_part (first_part (words_of_lines text)) s is_pair.first)
+        (grid_of_part is_pair.later t is_pair.second) in (
+          Done,
+          compared.0,
+          record { within = within; first = s; second = t; pair = is_pair; compared = compared.1 },
+        )
+    | inr faulty ↦ (
+      Refused,
+      _,
+      inr (record {
+        within = within;
+        fault = faulty.0;
+        number = faulty.1;
+        first = faulty.2;
+        told = refl;
+      }),
+    )
+  ]
+]
+
 -- ---- the words ask for one mode
 pub one_form : (words : List (List ℕ)) (m k : Mode) → IsForm words m → IsForm words k → m ≡ k
 one_form words Run Run f g = refl
 one_form words Cert Cert f g = refl
 one_form words Check Check f g = refl
+one_form words Compare Compare f g = refl
 one_form words (Make n s) (Make m t) f g = let same = IsMake-one words n m s t f g in λ i. Make (same.0 i) (same.1 i)
 one_form words m k f g = absurd (told_apart words m k refl f g)
 
@@ -291,5 +350,6 @@ pub some_outcome : (words : List (List ℕ)) (mode : Mode) (text : List ℕ) →
 some_outcome words Run text form = some_report text
 some_outcome words Cert text form = some_certified text
 some_outcome words Check text form = some_checked text
+some_outcome words Compare text form = some_compared text
 some_outcome words (Make n s) text form = let made = exists_made n s (IsMake-size words n s form) in
     (Done, made.0, made.1)

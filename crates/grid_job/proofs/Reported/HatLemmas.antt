@@ -19,7 +19,7 @@ use Rattle.torus_geom.specs.Components.{is_first, components}
 use Rattle.torus_geom.specs.Homology.{IsHomologyTable}
 use Rattle.torus_geom.specs.Homology.{Row}
 use Rattle.torus_geom.specs.Marks.{Marks, size, IsGrid}
-use Rattle.grid_job.specs.Hat.{hat_exponent, IsHat, IsHatText}
+use Rattle.grid_job.specs.Hat.{hat_exponent, IsHat, IsHatText, HasHat}
 use Rattle.grid_job.specs.Report.{IsTableText}
 use Rattle.f2_algebra.proofs.Chains.Lists.{below-map}
 
@@ -102,32 +102,35 @@ quotient-IsHat : (g : Marks) (rows q : List TableRow) → IsHomologyTable g (map
 quotient-IsHat g rows q table hat =
     subst (λ r. IsQuotient (hat_exponent g) r q) (one_table g hat.rows rows hat.table table) hat.quotient
 
-pub exists_hat_text : (g : Marks) → IsGrid g → (text : List ℕ) × IsHatText g text
-exists_hat_text g grid =
+pub exists_hat : (g : Marks) → IsGrid g → (hat : Option (List TableRow)) × HasHat g hat
+exists_hat g grid =
     let found = exists_rows g grid in
     elim (has_quotient (hat_exponent g) found.0 (ArePositive-homology g found.0 found.1)) [
-      | inl q ↦ (
-        hat_lines (hat_exponent g) (Some q.0),
-        record { hat = Some q.0; told = IsHat-quotient g found.0 q.0 found.1 q.1; lines = refl },
-      )
-      | inr none ↦ (
-        hat_lines (hat_exponent g) None,
-        record { hat = None; told = λ q hat. none q (quotient-IsHat g found.0 q found.1 hat); lines = refl },
-      )
+      | inl q ↦ (Some q.0, IsHat-quotient g found.0 q.0 found.1 q.1)
+      | inr none ↦ (None, λ q hat. none q (quotient-IsHat g found.0 q found.1 hat))
     ]
+
+pub exists_hat_text : (g : Marks) → IsGrid g → (text : List ℕ) × IsHatText g text
+exists_hat_text g grid =
+    let (hat, told) = exists_hat g grid in
+    (hat_lines (hat_exponent g) hat, record { hat = hat; told = told; lines = refl })
+
+-- the quotient by the exponent of the grid, or none, is the hat
+pub HasHat-quotient : (g : Marks) (k : ℕ) (rows : List TableRow) (found : Option (List TableRow)) → k ≡ hat_exponent g
+    → IsHomologyTable g (map homology_row rows)
+    → MatchOption found ((q : List TableRow) → IsQuotient k rows q → ⊥) (λ q. IsQuotient k rows q) → HasHat g found
+HasHat-quotient g k rows None exponent table told =
+    λ q hat. told q (subst (λ n. IsQuotient n rows q) (sym exponent) (quotient-IsHat g rows q table hat))
+HasHat-quotient g k rows (Some q) exponent table told =
+    IsHat-quotient g rows q table (subst (λ n. IsQuotient n rows q) exponent told)
 
 -- the lines of the quotient by the exponent of the grid, or of none, are those of the hat
 pub IsHatText-quotient : (g : Marks) (k : ℕ) (rows : List TableRow) (found : Option (List TableRow)) (text : List ℕ)
     → k ≡ hat_exponent g → IsHomologyTable g (map homology_row rows)
     → MatchOption found ((q : List TableRow) → IsQuotient k rows q → ⊥) (λ q. IsQuotient k rows q)
     → text ≡ hat_lines k found → IsHatText g text
-IsHatText-quotient g k rows None text exponent table told lines = record {
-  hat = None;
-  told = λ q hat. told q (subst (λ n. IsQuotient n rows q) (sym exponent) (quotient-IsHat g rows q table hat));
-  lines = lines ∙ ap (λ n. hat_lines n None) exponent;
-}
-IsHatText-quotient g k rows (Some q) text exponent table told lines = record {
-  hat = Some q;
-  told = IsHat-quotient g rows q table (subst (λ n. IsQuotient n rows q) exponent told);
-  lines = lines ∙ ap (λ n. hat_lines n (Some q)) exponent;
+IsHatText-quotient g k rows found text exponent table told lines = record {
+  hat = found;
+  told = HasHat-quotient g k rows found exponent table told;
+  lines = lines ∙ ap (λ n. hat_lines n found) exponent;
 }

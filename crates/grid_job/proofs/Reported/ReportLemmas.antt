@@ -15,6 +15,8 @@ use Rattle.grid_ports.proofs.BytesLemmas.{Appends-none, Appends-append}
 use Rattle.grid_job.specs.InForce.{InForce, after_command, after_commands}
 use Rattle.grid_job.specs.Report.{IsAnswer, AreAnswers}
 use Rattle.torus_geom.specs.Chains.{IsChain}
+use Rattle.grid_euler.proofs.ExistenceLemmas.{exists_euler_table}
+use Rattle.report_text.specs.Lines.{euler_lines}
 use Rattle.grid_job.proofs.Reported.ChainLemmas.{IsChain-after_command}
 use Rattle.grid_job.proofs.Reported.ClassLemmas.{exists_class_text, exists_bounds_text}
 use Rattle.grid_job.proofs.Reported.HatLemmas.{exists_table, exists_hat_text}
@@ -35,6 +37,9 @@ exists_answer p (command.Commute axis c corner) grid states = ([], refl)
 exists_answer p (command.Stab c empty) grid states = ([], refl)
 exists_answer p (command.Destab c r empty) grid states = ([], refl)
 exists_answer p (command.Invert axis c corner) grid states = (_, refl)
+exists_answer p command.Euler grid states =
+    let (rows, numbers) = exists_euler_table p.grid grid in
+    (euler_lines rows, record { rows = rows; numbers = numbers; lines = refl })
 
 pub exists_answers : (p : InForce) (cs : List Command) → IsGrid p.grid → IsChain (size p.grid) p.chain → AreAllowed p.grid cs
     → (text : List ℕ) × AreAnswers p cs text

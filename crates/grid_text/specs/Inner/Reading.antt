@@ -51,6 +51,7 @@ example keyword.Rows = Some (command.Commute Rows 0 Over)
 example keyword.Stab = Some (command.Stab 0 Nw)
 example keyword.Destab = Some (command.Destab 0 0 Nw)
 example keyword.Invert = Some (command.Invert Cols 0 Over)
+example keyword.Euler = Some command.Euler
 example keyword.End = None
 
 abbrev pub keyword_word : Keyword → Word

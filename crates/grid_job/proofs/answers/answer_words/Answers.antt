@@ -3,7 +3,7 @@ use Rattle.grid_job.specs.Outcome.{IsForm, IsOutcome}
 use Rattle.grid_job.specs.declared.statuses.Status.TheVariants.{NoMemory}
 use Rattle.grid_job.proofs.Generated.MadeLemmas.{exists_made}
 use Rattle.grid_job.proofs.Outcomes.OutcomeLemmas.{some_outcome}
-use Rattle.grid_job.specs.declared.modes.Mode.TheVariants.{Run, Cert, Check, Make}
+use Rattle.grid_job.specs.declared.modes.Mode.TheVariants.{Run, Cert, Check, Compare, Make}
 use Rattle.grid_job.proofs.Outcomes.ModeLemmas.{told_apart}
 use Rattle.grid_job.proofs.Outcomes.OptionLemmas.{IsMake-one, IsMake-size, IsMake-seed}
 use Rattle.grid_job.proofs.Outcomes.WrittenLemmas.{HasEnded-written, HasBegun-written, HasWritten-made, HasWritten-unread, nothing_of, IsMade-same, left_alone, ended_not_read_fault, begun_not_read_fault, status_of_reading, status_of_mode}
@@ -106,6 +106,38 @@ pub returns-in-Some-Check-clause-no : goal.returns-in-Some-Check-clause-no
 returns-in-Some-Check-clause-no g c _ =
     let ws = map (string_bytes {Z = Global}) c.args.words.now in
     subst (IsForm ws) c.in-Some-Check.field-0-is c.in-Some-Check.ensures.some
+
+-- ---- two documents are compared
+pub returns-in-Some-Compare-clause-ended : goal.returns-in-Some-Compare-clause-ended
+returns-in-Some-Compare-clause-ended g c is_end =
+    let ws = map (string_bytes {Z = Global}) c.args.words.now in
+    HasEnded-written ws Compare c.compare.result _ _ _ _ _ _
+    (subst (IsForm ws) c.in-Some-Compare.field-0-is c.in-Some-Compare.ensures.some) is_end (c.compare.ensures.read is_end)
+    (c.compare.ensures.written (ended_not_read_fault c.compare.result is_end))
+
+pub returns-in-Some-Compare-clause-begun : goal.returns-in-Some-Compare-clause-begun
+returns-in-Some-Compare-clause-begun g c _ _ begun =
+    let ws = map (string_bytes {Z = Global}) c.args.words.now in
+    HasBegun-written ws Compare c.compare.result _ _ _ _ _
+    (subst (IsForm ws) c.in-Some-Compare.field-0-is c.in-Some-Compare.ensures.some)
+    (c.compare.ensures.written (begun_not_read_fault c.compare.result begun))
+
+pub returns-in-Some-Compare-clause-answer : goal.returns-in-Some-Compare-clause-answer
+returns-in-Some-Compare-clause-answer g c mode form source_kept sink_kept =
+    let ws = map (string_bytes {Z = Global}) c.args.words.now in
+    status_of_reading ws mode Compare c.compare.result _ _ _ _ _ _ _ form
+    (subst (IsForm ws) c.in-Some-Compare.field-0-is c.in-Some-Compare.ensures.some)
+    c.requires.source_count c.requires.sink_count source_kept sink_kept (λ e. (c.compare.ensures.read_fault e).0)
+    c.compare.ensures.written
+
+pub returns-in-Some-Compare-clause-make_reads_nothing : goal.returns-in-Some-Compare-clause-make_reads_nothing
+returns-in-Some-Compare-clause-make_reads_nothing g c n s make =
+    let ws = map (string_bytes {Z = Global}) c.args.words.now in
+    absurd (told_apart ws Compare (Make n s) refl (subst (IsForm ws) c.in-Some-Compare.field-0-is c.in-Some-Compare.ensures.some)
+    make)
+
+pub returns-in-Some-Compare-clause-no : goal.returns-in-Some-Compare-clause-no
+returns-in-Some-Compare-clause-no g c is_no = absurd (c.compare.ensures.not_others.1 is_no)
 
 -- ---- a made script
 pub make-requires-clause-size : goal.make-requires-clause-size

@@ -11,4 +11,5 @@ returns-in_default-clause-none c =
     (λ run. false≢true (sym c.if-is_alone.false ∙ c.is_alone.ensures.1 run))
     (λ cert. false≢true (sym c.if-is_alone-2.false ∙ c.is_alone-2.ensures.1 cert))
     (λ check. false≢true (sym c.if-is_alone-3.false ∙ c.is_alone-3.ensures.1 check))
+    (λ compare. false≢true (sym c.if-is_alone-4.false ∙ c.is_alone-4.ensures.1 compare))
     (not_made (IsMake (map (string_bytes {Z = Global}) c.args.words.now)) c.args.made c.in_default.is c.requires.none)
