@@ -1,28 +1,24 @@
 -- Each state of the homotopy of a state has its Maslov degree and one more, and its Alexander degree: for columns by its
 -- hexagons, for rows since transposing keeps degrees.
-use Rattle.std.proofs.Common.{Bool, List, ap, arith, eqb, false, inl, inr, length, not, refl, slice_index, subst, swap, sym, true, true≢false, ℕ, ◌&&◌, ◌<◌, ◌||◌, ◌∙◌, ◌≡◌, ◌≢◌, ◌⊎◌}
+use Rattle.std.proofs.Common.{Bool, List, ap, arith, eqb, false, inl, inr, not, refl, slice_index, subst, swap, sym, true, true≢false, ℕ, ◌&&◌, ◌<◌, ◌||◌, ◌∙◌, ◌≡◌, ◌≢◌, ◌⊎◌}
 use Rattle.std.proofs.Math.IntN.{pos, ◌+ℤ◌}
 use Rattle.std.specs.Prelude.{int_div}
 use Rattle.std.proofs.lemmas.Int.{ints}
-use Rattle.std.proofs.lemmas.Bool.{and_parts, eqb-true, ne_eqb, not-true, or_cases}
+use Rattle.std.proofs.lemmas.Bool.{and_parts, eqb-true, ne_eqb, or_cases}
 use Rattle.f2_algebra.specs.Chain.{holds}
 use Rattle.f2_algebra.proofs.Chains.Sets.{weight-at}
 use Rattle.state_rank.proofs.BijectionLemmas.{one_to_one}
 use Rattle.state_rank.proofs.RankLemmas.{rank_one_to_one}
-use Rattle.state_rank.proofs.SwapLemmas.{slice_index-swap_first, slice_index-swap_second, slice_index-swap_other, IsBijection-swap}
+use Rattle.state_rank.proofs.SwapLemmas.{IsBijection-swap}
 use Rattle.state_rank.specs.Bijection.{IsBijection}
 use Rattle.state_rank.specs.States.{rank, transpose}
-use Rattle.torus_geom.proofs.Pairs.ExchangeLaw.{IsExchange, points_within}
 use Rattle.torus_geom.proofs.Pairs.PairLemmas.{maslov-by_pairs}
 use Rattle.torus_geom.proofs.Sums.AllBelowLemmas.{at_all_below}
-use Rattle.torus_geom.proofs.Sums.SumLemmas.{sum_below_vanishes}
 use Rattle.torus_geom.proofs.TransposeLemmas.{IsBijection-transposed, IsGrid-transposed}
-use Rattle.torus_geom.specs.Counts.{one_if}
 use Rattle.torus_geom.specs.Degrees.{alexander, doubled_alexander, maslov, maslov_o, maslov_x}
 use Rattle.torus_geom.specs.Marks.{IsGrid, Marks, size}
 use Rattle.torus_geom.specs.Range.{one_down}
 use Rattle.torus_geom.specs.Transposed.{transposed}
-use Rattle.torus_geom.proofs.Circles.BetweenLemmas.{is_between}
 use Rattle.rectangles.proofs.Square.CyclicOrder.{between}
 use Rattle.rectangles.proofs.Square.EmptyRectangles.{is_clear_of}
 use Rattle.rectangles.proofs.Square.OpenRectangles.{marks}

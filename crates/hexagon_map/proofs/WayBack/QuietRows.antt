@@ -6,9 +6,9 @@ use Rattle.std.proofs.Common.{Bool, List, ap, arith, cond, false, ltb, not, refl
 use Rattle.std.proofs.lemmas.Bool.{and_parts}
 use Rattle.std.proofs.lemmas.List.Edits.{length-swap}
 use mathlib.Core.Bool.{beq}
-use Rattle.f2_algebra.proofs.Chains.Tables.{Table, given, implies, same, ◌⊻◌, and-false}
+use Rattle.f2_algebra.proofs.Chains.Tables.{Table, given, implies, same, ◌⊻◌}
 use Rattle.rectangles.proofs.Square.CyclicOrder.{between, between_other, between_end}
-use Rattle.rectangles.proofs.Square.TwoSteps.{differ, differ-self}
+use Rattle.rectangles.proofs.Square.TwoSteps.{differ}
 use Rattle.state_rank.specs.Bijection.{IsBijection}
 use Rattle.torus_geom.proofs.Circles.TurnLemmas.{one_down-other, one_down_below}
 use Rattle.torus_geom.specs.Range.{one_down}
