@@ -32,8 +32,9 @@ use std::alloc::Global;
 /// with `=` or in two, and are read by `clap`, which asks for memory. All is read before anything is written. A text
 /// that is no document is refused by one line, which tells its first fault and the line that has it; to `check`, one
 /// that is no certificate is, by its first bad line. A chain that the document names is followed through the turns and
-/// the commutations of the grid. The ranks that a report or a certificate tells are those of the homology of the fully
-/// blocked grid complex over F2 (Ozsváth, Stipsicz and Szabó, "Grid Homology for Knots and Links", chapter 4).
+/// the commutations of the grid; no chain is followed across a stabilisation. The ranks that a report or a certificate
+/// tells are those of the homology of the fully blocked grid complex over F2 (Ozsváth, Stipsicz and Szabó, "Grid
+/// Homology for Knots and Links", chapter 4).
 ///
 /// What is said of bytes holds for a source and a sink that tell theirs.
 pub fn gridhom<S: Source, K: Sink>(

@@ -91,13 +91,14 @@ fn refusals(rt: HostRuntime) -> Result<(), Fail> {
 // A document of every command.
 #[test]
 fn a_document(rt: HostRuntime) -> Result<(), Fail> {
-    let commands = "front\nranks\nhat\nclass +\nborder 01\nchain 10 01\nshow\nbounds\nturn up\nend";
+    let commands =
+        "front\nranks\nhat\nclass +\nborder 01\nchain 10 01\nshow\nbounds\nturn up\nstab 0 sw\nend";
     let text = format!(in rt.alloc(); "{A}{commands}")?;
     if text.len() > MAX_TEXT {
         return Err(Fail::from("long"));
     }
     match judge(rt.alloc(), text.as_bytes()) {
-        Ok(judged) => assert_eq!(rt; judged.script.commands().len(), 9),
+        Ok(judged) => assert_eq!(rt; judged.script.commands().len(), 10),
         Err(_) => return Err(Fail::from("refused")),
     }
     Ok(())
@@ -107,7 +108,7 @@ fn a_document(rt: HostRuntime) -> Result<(), Fail> {
 #[test]
 fn the_plain_form(rt: HostRuntime) -> Result<(), Fail> {
     let text = format!(in rt.alloc();
-        "# a\n{A} front\r\nchain\t10 \t01\n\nclass - \n\t# b\nborder 10\nturn up\nend\r\n \n# c"
+        "# a\n{A} front\r\nchain\t10 \t01\n\nclass - \n\t# b\nborder 10\nturn up\nstab\t1 ne\nend\r\n \n# c"
     )?;
     if text.len() > MAX_TEXT {
         return Err(Fail::from("long"));
@@ -119,7 +120,7 @@ fn the_plain_form(rt: HostRuntime) -> Result<(), Fail> {
         return Err(Fail::from("out of memory"));
     };
     let wanted = format!(in rt.alloc();
-        "{A}front\nchain 01 10\nclass -\nborder 10\nturn up\nend\n"
+        "{A}front\nchain 01 10\nclass -\nborder 10\nturn up\nstab 1 ne\nend\n"
     )?;
     assert_eq!(rt; plain.as_slice(), wanted.as_bytes());
     assert_eq!(rt; print_len(&judged.script), wanted.len() as u128);
