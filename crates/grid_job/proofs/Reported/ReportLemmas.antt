@@ -4,7 +4,7 @@
 use Rattle.std.proofs.Common.{◌≡◌, ℕ, zero, suc, ◌+◌, ◌<◌, ◌≤◌, List, [], ◌∷◌, ◌++◌, length, get_or, take, drop, Option, refl, sym, ap, subst, ◌∙◌, append_assoc, append-nil, drop-cons}
 use Rattle.std.specs.Io.KnownBytes.{Appends}
 use Rattle.std.proofs.lemmas.List.{take-append-drop, take_more, take_all}
-use Rattle.torus_geom.specs.Marks.{Marks, size, IsGrid}
+use Rattle.torus_geom.specs.Marks.{size, IsGrid}
 use Rattle.grid_text.specs.Commands.{IsAllowed}
 use Rattle.grid_text.specs.Script.{AreAllowed}
 use Rattle.grid_text.specs.declared.commands.Command.{Command}
