@@ -8,19 +8,20 @@
 use Rattle.std.specs.Prelude.{List, [], ◌∷◌}
 use Rattle.torus_geom.specs.Chains.{Chain, nothing}
 pub use Rattle.legendrian_class.specs.Followed.{Followed as InForce, at_start}
-use Rattle.legendrian_class.specs.Followed.{after_commutation, after_turn, listed}
+use Rattle.legendrian_class.specs.Followed.{after_commutation, after_turn, chain_after_symmetry, listed}
 use Rattle.grid_text.specs.Commands.{grid_after}
 use Rattle.grid_text.specs.declared.commands.Command.{Command}
 use Rattle.grid_text.specs.declared.commands.Command.TheVariants as command
 
--- `chain` puts its states in the place of the chain, a turn turns them, and a commutation takes the image; no chain is
--- followed across a stabilisation
+-- `chain` puts its states in the place of the chain, a turn turns them, a commutation takes the image, and a symmetry
+-- takes each to what it becomes; no chain is followed across a stabilisation or the mirror image
 abbrev pub chain_after : InForce → Command → Chain
 chain_after p (command.Chain xs) = listed xs
 chain_after p (command.Turn side) = (after_turn side p).chain
 chain_after p (command.Commute axis c corner) = (after_commutation axis c corner p).chain
 chain_after p (command.Stab c empty) = nothing
 chain_after p (command.Destab c r empty) = nothing
+chain_after p (command.Symm s) = chain_after_symmetry s p
 chain_after p other = p.chain
 
 abbrev pub after_command : InForce → Command → InForce

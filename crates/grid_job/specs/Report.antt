@@ -11,7 +11,8 @@ use Rattle.hat_division.specs.declared.tables.TableRow.{TableRow}
 use Rattle.hat_division.specs.Table.{homology_row}
 use Rattle.grid_euler.specs.Euler.{IsEulerTable}
 use Rattle.grid_euler.specs.declared.tables.EulerRow.{EulerRow}
-use Rattle.report_text.specs.Lines.{front_line, table_lines, euler_lines}
+use Rattle.report_text.specs.Lines.{corank_lines, front_line, table_lines, euler_lines}
+use Rattle.rectangles.specs.Coranks.{IsCorankTable}
 use Rattle.text_lines.specs.Lines.{line, chain_line}
 use Rattle.torus_geom.specs.Border.{border}
 use Rattle.torus_geom.specs.Chains.{single}
@@ -33,6 +34,12 @@ pub record IsTableText (g : Marks) (text : List ℕ) : Type 0 where
   pub table : IsHomologyTable g (map homology_row rows)
   pub lines : text ≡ table_lines rows
 
+-- the lines of rows that are the table of the coranks of the grid
+pub record IsCorankText (g : Marks) (text : List ℕ) : Type 0 where
+  pub rows : List TableRow
+  pub table : IsCorankTable g (map homology_row rows)
+  pub lines : text ≡ corank_lines rows
+
 -- the lines of the Euler numbers that are not 0
 pub record IsEulerText (g : Marks) (text : List ℕ) : Type 0 where
   pub rows : List EulerRow
@@ -41,8 +48,8 @@ pub record IsEulerText (g : Marks) (text : List ℕ) : Type 0 where
 
 -- the classical invariants of the front; the table of ranks; the hat, or that there is none; the verdict of the
 -- class of x+ or x-, and of the chain in force, each with its evidence; the states of the border, those of the chain in
--- force, and those of its image there and back across a commutation and of its homotopy, in ascending order; nothing if a
--- command makes what is in force
+-- force, and those of its image there and back across a commutation and of its homotopy, in ascending order; the table of
+-- coranks; the Euler numbers; nothing if a command makes what is in force
 abbrev pub IsAnswer : InForce → Command → List ℕ → Type 0
 IsAnswer p command.Front text = text ≡ front_line (thurston_bennequin p.grid) (rotation p.grid) (components p.grid)
 IsAnswer p command.Ranks text = IsTableText p.grid text
@@ -54,6 +61,7 @@ IsAnswer p command.Bounds text = IsBoundsText p.grid p.chain text
 IsAnswer p (command.Invert axis c corner) text = text
     ≡ line (chain_line (codes "return") (size p.grid) (return_image axis p.grid c corner p.chain))
     ++ line (chain_line (codes "homotopy") (size p.grid) (homotopy axis p.grid c corner p.chain))
+IsAnswer p command.Coranks text = IsCorankText p.grid text
 IsAnswer p command.Euler text = IsEulerText p.grid text
 IsAnswer p other text = text ≡ []
 

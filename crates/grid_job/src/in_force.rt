@@ -27,6 +27,7 @@ pub(crate) fn follow(alloc: Global, p: &mut Follower, command: &Command) -> Resu
         Command::Destab(c, r, empty) => {
             *p = Follower::new(alloc, &destabilise(p.grid(), *c, *r, *empty));
         }
+        Command::Symm(s) => p.symmetry(alloc, *s)?,
         _ => {}
     }
     Ok(())

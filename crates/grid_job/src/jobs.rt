@@ -31,10 +31,10 @@ use std::alloc::Global;
 /// The words are those after the program's name. The options of `make` stand in either order, each in one word
 /// with `=` or in two, and are read by `clap`, which asks for memory. All is read before anything is written. A text
 /// that is no document is refused by one line, which tells its first fault and the line that has it; to `check`, one
-/// that is no certificate is, by its first bad line. A chain that the document names is followed through the turns and
-/// the commutations of the grid; no chain is followed across a stabilisation. The ranks that a report or a certificate
-/// tells are those of the homology of the fully blocked grid complex over F2 (Ozsváth, Stipsicz and Szabó, "Grid
-/// Homology for Knots and Links", chapter 4).
+/// that is no certificate is, by its first bad line. A chain that the document names is followed through the turns, the
+/// commutations and the symmetries of the grid; no chain is followed across a stabilisation or the mirror image. The
+/// ranks that a report or a certificate tells are those of the homology of the fully blocked grid complex over F2
+/// (Ozsváth, Stipsicz and Szabó, "Grid Homology for Knots and Links", chapter 4), or, for `coranks`, of its cohomology.
 ///
 /// What is said of bytes holds for a source and a sink that tell theirs.
 pub fn gridhom<S: Source, K: Sink>(

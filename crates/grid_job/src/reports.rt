@@ -13,7 +13,7 @@ ghost use Rattle.grid_text.specs.Script.{AreAllowed};
 ghost use Rattle.grid_job.specs.InForce.{at_start};
 ghost use Rattle.grid_job.specs.Hat.{IsHatText};
 ghost use Rattle.grid_job.specs.Inner.Tables.{IsTableOf};
-ghost use Rattle.grid_job.specs.Report.{IsAnswer, AreAnswers, IsTableText, IsEulerText};
+ghost use Rattle.grid_job.specs.Report.{IsAnswer, AreAnswers, IsCorankText, IsTableText, IsEulerText};
 
 use crate::classes::{bounds_lines, class_lines};
 use crate::euler_numbers::euler_text;
@@ -25,9 +25,10 @@ use front_data::front;
 use grid_ports::{NoMemory, Sink, WriteFault, write_all};
 use grid_text::Command;
 use hat_division::Table;
+use homology_cert::corank_table;
 use legendrian_class::Follower;
 use rectangles::border_of_state;
-use report_text::{front_line, set_line, table_lines};
+use report_text::{corank_lines, front_line, set_line, table_lines};
 use state_rank::State;
 use std::alloc::Global;
 use torus_geom::Grid;
@@ -116,7 +117,9 @@ fn answer_to(
         | Command::Turn(_)
         | Command::Commute(_, _, _)
         | Command::Stab(_, _)
-        | Command::Destab(_, _, _) => Ok(Vec::new(alloc)),
+        | Command::Destab(_, _, _)
+        | Command::Symm(_) => Ok(Vec::new(alloc)),
+        Command::Coranks => coranks_lines(alloc, g),
         Command::Euler => euler_of(alloc, g, table),
     }
 }
@@ -132,6 +135,14 @@ fn ranks_lines(alloc: Global, g: &Grid, table: &mut Option<Table>) -> Result<Vec
         Some(known) => table_lines(alloc, known),
         None => unreachable!(),
     }
+}
+
+// The lines of the table of coranks.
+fn coranks_lines(alloc: Global, g: &Grid) -> Result<Vec<u8>, NoMemory>
+    ensures { IfOk result (λ text. IsCorankText g.now text.items) }
+{
+    let table = corank_table(alloc, g)?;
+    corank_lines(alloc, &table)
 }
 
 // The lines of the hat.

@@ -38,7 +38,8 @@ pub(crate) fn forget_if_moved(table: &mut Option<Table>, command: &Command)
     if let Command::Turn(_)
     | Command::Commute(_, _, _)
     | Command::Stab(_, _)
-    | Command::Destab(_, _, _) = command
+    | Command::Destab(_, _, _)
+    | Command::Symm(_) = command
     {
         *table = None;
     }

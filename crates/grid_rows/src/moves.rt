@@ -1,7 +1,47 @@
-//! Chains that are followed through turns and commutations.
+//! Chains that are followed through turns, commutations and symmetries.
 
 /// Small grids.
 pub(crate) const MOVES: &str = "
+$ run
+< grid 3
+< O 2 1 0
+< X 1 0 2
+< chain 120 012
+< flip
+< show
+< end
+> chain 012 201
+
+$ run
+< grid 3
+< O 2 1 0
+< X 1 0 2
+< chain 120 012
+< half
+< show
+< end
+> chain 012 201
+
+$ run
+< grid 3
+< O 2 1 0
+< X 1 0 2
+< chain 120 012
+< marks
+< show
+< end
+> chain 012 120
+
+$ run
+< grid 3
+< O 2 1 0
+< X 1 0 2
+< chain 120 012
+< mirror
+< show
+< end
+> chain
+
 $ run
 < grid 3
 < O 2 1 0

@@ -3,6 +3,15 @@
 /// Texts, and the lines that refuse them.
 pub(crate) const REFUSALS: &str = "
 $ run
+< grid 2
+< O 1 0
+< X 0 1
+< flip now
+< end
+= 2
+> refused BadCount line 4
+
+$ run
 < grid 5
 < O 0 1 2 3 4
 < X 2 3 4 0 1

@@ -1,7 +1,42 @@
-//! Reports of small grids: `front`, `border`, `ranks` and `hat`.
+//! Reports of small grids: `front`, `border`, `ranks`, `hat` and `coranks`.
 
 /// Documents and their reports.
 pub(crate) const REPORTS: &str = "
+$ run
+< grid 5
+< O 0 1 2 3 4
+< X 2 3 4 0 1
+< mirror
+< ranks
+< hat
+< end
+> ranks 7
+> rank 0 1 1
+> rank -1 0 5
+> rank -2 -1 11
+> rank -3 -2 14
+> rank -4 -3 11
+> rank -5 -4 5
+> rank -6 -5 1
+> hat exponent 4 rows 3
+> rank 0 1 1
+> rank -1 0 1
+> rank -2 -1 1
+
+$ run
+< grid 3
+< O 2 1 0
+< X 1 0 2
+< marks
+< front
+< coranks
+< end
+> front tb -2 rot 1 components 1
+> coranks 3
+> rank 0 0 1
+> rank -1 -1 2
+> rank -2 -2 1
+
 $ run
 < grid 2
 < O 1 0

@@ -2,6 +2,7 @@
 -- of it. Each command is said once, in the table `command_row`.
 --     sign_word, side_word, corner_word, axis_word   the word for each sign, side, corner and axis
 --     square_word                the word for each square of a block of two columns and two rows
+--     symmetry_word              the word for each symmetry
 --     signs, sides, corners, squares, axes   all of them
 --     stab_word, destab_word     the first words of the commands of stabilisation
 --     invert_word                the first word of the command for the way there and back across a commutation
@@ -26,6 +27,9 @@ use Rattle.grid_moves.specs.declared.turns.Side.{Side}
 use Rattle.grid_moves.specs.declared.turns.Side.TheVariants.{Left, Right, Up, Down}
 use Rattle.grid_moves.specs.declared.commutations.Axis.{Axis}
 use Rattle.grid_moves.specs.declared.commutations.Axis.TheVariants.{Cols, Rows}
+use Rattle.grid_symmetry.specs.Symmetries.{symmetric}
+use Rattle.grid_symmetry.specs.declared.symmetries.Symmetry.{Symmetry}
+use Rattle.grid_symmetry.specs.declared.symmetries.Symmetry.TheVariants.{Flip, Half, Mirror, Marks as ExchangeMarks}
 use Rattle.pentagon_map.specs.declared.Corner.{Corner}
 use Rattle.pentagon_map.specs.declared.Corner.TheVariants.{Over, Under}
 use Rattle.stabilise.specs.Stabilised.{stabilised, is_block, destabilised}
@@ -79,6 +83,12 @@ squares = Nw ∷ Ne ∷ Sw ∷ Se ∷ []
 abbrev pub axes : List Axis
 axes = Cols ∷ Rows ∷ []
 
+abbrev pub symmetry_word : Symmetry → Word
+symmetry_word Flip = codes "flip"
+symmetry_word Half = codes "half"
+symmetry_word Mirror = codes "mirror"
+symmetry_word ExchangeMarks = codes "marks"
+
 -- ---- the words of commands
 
 abbrev pub stab_word : Word
@@ -125,6 +135,8 @@ command_row (command.Commute i c v) = (axis_word i, number c ∷ corner v ∷ []
 command_row (command.Stab c v) = (stab_word, number c ∷ square v ∷ [])
 command_row (command.Destab c r v) = (destab_word, first_of_two c ∷ first_of_two r ∷ square v ∷ [])
 command_row (command.Invert i c v) = (invert_word, axis i ∷ number c ∷ corner v ∷ [])
+command_row (command.Symm s) = (symmetry_word s, [])
+command_row command.Coranks = (codes "coranks", [])
 command_row command.Euler = (codes "euler", [])
 
 abbrev pub command_words : Command → List Word
@@ -157,4 +169,5 @@ grid_after g (command.Turn v) = turned v g
 grid_after g (command.Commute i c v) = swapped i g c
 grid_after g (command.Stab c v) = stabilised g c v
 grid_after g (command.Destab c r v) = destabilised g c r v
+grid_after g (command.Symm s) = symmetric s g
 grid_after g c = g

@@ -61,6 +61,7 @@ use Rattle.grid_moves.specs.Moves.{are_commuting}
 use Rattle.grid_moves.specs.declared.turns.Side.TheVariants.{Left}
 use Rattle.grid_moves.specs.declared.commutations.Axis.{Axis}
 use Rattle.grid_moves.specs.declared.commutations.Axis.TheVariants.{Cols, Rows}
+use Rattle.grid_symmetry.specs.declared.symmetries.Symmetry.TheVariants.{Flip, Half, Mirror, Marks as ExchangeMarks}
 use Rattle.pentagon_map.specs.declared.Corner.TheVariants.{Over}
 use Rattle.stabilise.specs.Stabilised.{is_block}
 use Rattle.stabilise.specs.declared.squares.Square.TheVariants.{Nw}
@@ -107,8 +108,8 @@ abbrev pub examples : List Command
 examples =
     command.Front ∷ command.Ranks ∷ command.Hat ∷ command.Class Plus ∷ command.Border [] ∷ command.Chain []
     ∷ command.Show ∷ command.Bounds ∷ command.Turn Left ∷ command.Commute Cols 0 Over ∷ command.Commute Rows 0 Over
-    ∷ command.Stab 0 Nw ∷ command.Destab 0 0 Nw ∷ command.Invert Cols 0 Over ∷ command.Euler
-    ∷ []
+    ∷ command.Stab 0 Nw ∷ command.Destab 0 0 Nw ∷ command.Invert Cols 0 Over ∷ command.Symm Flip ∷ command.Symm Half
+    ∷ command.Symm Mirror ∷ command.Symm ExchangeMarks ∷ command.Coranks ∷ command.Euler ∷ []
 
 abbrev pub body_forms : ℕ → List (Word × Form)
 body_forms n = map (λ c. ((command_row c).0, form_of n c)) examples ++ (end_word, exactly []) ∷ []

@@ -4,6 +4,7 @@ ghost use Rattle.state_rank.specs.States.{rank};
 ghost use Rattle.grid_text.specs.States.{AreStates};
 
 use grid_moves::{Axis, Side};
+use grid_symmetry::Symmetry;
 use pentagon_map::Corner;
 use stabilise::Square;
 use state_rank::State;
@@ -110,5 +111,7 @@ pub enum Command {
     Destab(u8, u8, Square),
     /// What the way there and back across a commutation does to the chain.
     Invert(Axis, u8, Corner),
+    Symm(Symmetry),
+    Coranks,
     Euler,
 }

@@ -8,6 +8,7 @@ ghost use Rattle.grid_text.specs.Inner.Reading.{keyword_word, example, stands_al
 use crate::commands::Command;
 use crate::words::is_word;
 use grid_moves::Axis;
+use grid_symmetry::Symmetry;
 
 /// The first words of the lines of a body.
 #[derive(Clone, Copy, PartialEq, Eq, Debug)]
@@ -26,12 +27,17 @@ pub(crate) enum Keyword {
     Stab,
     Destab,
     Invert,
+    Flip,
+    Half,
+    Mirror,
+    Marks,
+    Coranks,
     Euler,
     End,
 }
 
 /// All keywords.
-const KEYWORDS: [Keyword; 16] = [
+const KEYWORDS: [Keyword; 21] = [
     Keyword::Front,
     Keyword::Ranks,
     Keyword::Hat,
@@ -46,6 +52,11 @@ const KEYWORDS: [Keyword; 16] = [
     Keyword::Stab,
     Keyword::Destab,
     Keyword::Invert,
+    Keyword::Flip,
+    Keyword::Half,
+    Keyword::Mirror,
+    Keyword::Marks,
+    Keyword::Coranks,
     Keyword::Euler,
     Keyword::End,
 ];
@@ -79,6 +90,11 @@ pub(crate) fn keyword_text(keyword: Keyword) -> &'static [u8]
         Keyword::Stab => b"stab",
         Keyword::Destab => b"destab",
         Keyword::Invert => b"invert",
+        Keyword::Flip => b"flip",
+        Keyword::Half => b"half",
+        Keyword::Mirror => b"mirror",
+        Keyword::Marks => b"marks",
+        Keyword::Coranks => b"coranks",
         Keyword::Euler => b"euler",
         Keyword::End => b"end",
     }
@@ -103,6 +119,11 @@ pub(crate) fn keyword_of(command: &Command) -> Keyword
         Command::Stab(_, _) => Keyword::Stab,
         Command::Destab(_, _, _) => Keyword::Destab,
         Command::Invert(_, _, _) => Keyword::Invert,
+        Command::Symm(Symmetry::Flip) => Keyword::Flip,
+        Command::Symm(Symmetry::Half) => Keyword::Half,
+        Command::Symm(Symmetry::Mirror) => Keyword::Mirror,
+        Command::Symm(Symmetry::Marks) => Keyword::Marks,
+        Command::Coranks => Keyword::Coranks,
         Command::Euler => Keyword::Euler,
     }
 }
@@ -117,6 +138,11 @@ pub(crate) fn command_alone(keyword: Keyword) -> Option<Command>
         Keyword::Hat => Some(Command::Hat),
         Keyword::Show => Some(Command::Show),
         Keyword::Bounds => Some(Command::Bounds),
+        Keyword::Flip => Some(Command::Symm(Symmetry::Flip)),
+        Keyword::Half => Some(Command::Symm(Symmetry::Half)),
+        Keyword::Mirror => Some(Command::Symm(Symmetry::Mirror)),
+        Keyword::Marks => Some(Command::Symm(Symmetry::Marks)),
+        Keyword::Coranks => Some(Command::Coranks),
         Keyword::Euler => Some(Command::Euler),
         _ => None,
     }

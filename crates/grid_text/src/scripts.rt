@@ -8,6 +8,7 @@ ghost use Rattle.grid_text.specs.Script.{GridScript, IsScript, grid_in_force, wi
 use crate::commands::Command;
 use grid_moves::{swap, turn};
 use grid_ports::NoMemory;
+use grid_symmetry::apply;
 use stabilise::{destabilise, stabilise};
 use std::alloc::Global;
 use std::marker::Model;
@@ -99,6 +100,7 @@ fn grid_after(g: &Grid, command: &Command) -> Grid
         Command::Commute(axis, c, _) => swap(g, *axis, *c),
         Command::Stab(c, empty) => stabilise(g, *c, *empty),
         Command::Destab(c, r, empty) => destabilise(g, *c, *r, *empty),
+        Command::Symm(s) => apply(g, *s),
         _ => *g,
     }
 }

@@ -3,6 +3,7 @@
 //! Read `rank_table` first. Its contract says that the answer is the table: all bidegrees with a rank
 //! above 0, each with its rank, in the order of a table; that each bidegree has a rank, and no two; and
 //! that a grid has one table.
+//! `corank_table` answers the table of cohomology, which is the same.
 //! Stands on `sparse_complex` and `cancel`: a slice at each Alexander degree is built and its arrows
 //! are cancelled, and the cells that are left are counted, in a map from bidegrees to ranks.
 //!
@@ -37,7 +38,7 @@ pub use component_tables::rank_table_multi;
 pub use making::{MAX_CERTIFIED_SIZE, make_cert};
 pub use printing::print_cert;
 pub use reading::{CertEnd, MAX_CERTIFICATE, read_cert};
-pub use tables::rank_table;
+pub use tables::{corank_table, rank_table};
 pub use verdicts::{CertTest, CertVerdict};
 
 #[cfg(test)]

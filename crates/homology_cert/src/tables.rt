@@ -1,7 +1,8 @@
 //! Tables of ranks.
-ghost use Rattle.std.specs.Prelude.{◌≡◌, ◌<◌, ◌^◌, ℕ, ℤ, List, map, All, IfOk};
+ghost use Rattle.std.specs.Prelude.{◌≡◌, ◌↔◌, ◌<◌, ◌^◌, ℕ, ℤ, List, map, All, IfOk};
 ghost use Rattle.torus_geom.specs.Homology.{Row, IsHomologyRank, IsHomologyTable};
 ghost use Rattle.torus_geom.specs.Inner.CodeHomology.{IsHomologyTable as IsCodeTable};
+ghost use Rattle.rectangles.specs.Coranks.{IsCorank, IsCorankTable};
 ghost use Rattle.hat_division.specs.Table.{homology_row};
 ghost use Rattle.homology_cert.specs.Tables.{HasSmallDegrees, HasSmallRank};
 
@@ -39,6 +40,26 @@ pub fn rank_table(alloc: Global, g: &Grid) -> Result<Table, NoMemory>
 {
     let _size = g.size();
     table_of(alloc, g)
+}
+
+/// The table of the coranks of the grid: each bidegree in which its cohomology has a rank above 0, with this rank.
+///
+/// A cochain is a finite set of states, and its coborder has the states whose border pairs oddly with it. No
+/// coborder is made: the corank is the rank (`rectangles::laws::coranks`), so the table is that of the ranks.
+///
+/// # Errors
+///
+/// `NoMemory` if the allocator refuses.
+pub fn corank_table(alloc: Global, g: &Grid) -> Result<Table, NoMemory>
+    ensures table { IfOk result (λ t. IsCorankTable g.now (map homology_row t)) }
+    ensures degrees { IfOk result (λ t. All HasSmallDegrees t) }
+    ensures ranks { IfOk result (λ t. All HasSmallRank t) }
+
+    // Whatever the call answers: in each bidegree the corank is the rank.
+    ensures coranks { (m a : ℤ) (d : ℕ) → IsCorank g.now m a d ↔ IsHomologyRank g.now m a d }
+{
+    let _size = g.size();
+    rank_table(alloc, g)
 }
 
 // The table of the grid.

@@ -1,4 +1,4 @@
-use crate::rank_table;
+use crate::{corank_table, rank_table};
 use hat_division::TableRow;
 use std::test::Fail;
 use torus_geom::Grid;
@@ -14,5 +14,7 @@ fn tables_of_the_unknot(rt: HostRuntime) -> Result<(), Fail> {
     let table = rank_table(rt.alloc(), &large).ok().ok_or("memory")?;
     let rows = [row(0, 0, 1), row(-1, -1, 2), row(-2, -2, 1)];
     assert_eq!(rt; table.rows(), rows.as_slice());
+    let coranks = corank_table(rt.alloc(), &large).ok().ok_or("memory")?;
+    assert_eq!(rt; coranks.rows(), rows.as_slice());
     Ok(())
 }

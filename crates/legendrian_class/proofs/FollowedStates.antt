@@ -1,8 +1,8 @@
 -- A grid and a set of ranks that are followed stand for the grid and the chain of states that are followed.
 use Rattle.torus_geom.specs.Chains.{IsChain}
-use Rattle.grid_moves.specs.Inner.CodeCarried.{turned_chain as turned_codes}
+use Rattle.grid_moves.specs.Inner.CodeCarried.{carried as carried_codes, turned_chain as turned_codes}
 use Rattle.pentagon_map.specs.Pentagon.{image}
-use Rattle.std.proofs.Common.{◌≡◌, ℕ, List, map, sym, ap, subst, ◌∙◌}
+use Rattle.std.proofs.Common.{◌≡◌, ℕ, List, map, sym, ap, ap₂, subst, ◌∙◌}
 use Rattle.std.specs.List.{Contains}
 use Rattle.std.proofs.lemmas.Bool.{eqb-true, false_from_ne_true}
 use Rattle.std.proofs.lemmas.Cmp.{nat_eq_equiv}
@@ -23,11 +23,15 @@ use Rattle.pentagon_map.specs.declared.Corner.{Corner}
 use Rattle.legendrian_class.specs.Inner.CodeFollowed as over_codes
 use Rattle.torus_geom.specs.Codes.{states_of}
 use Rattle.legendrian_class.specs.FollowedCodes.{FollowedCodes, followed_of}
-use Rattle.legendrian_class.specs.Followed.{listed, at_start, after_turn, after_commutation}
+use Rattle.legendrian_class.specs.Followed.{listed, at_start, after_turn, after_commutation, after_symmetry}
 use Rattle.torus_geom.proofs.Chains.StateTests.{is_same-is, is_same-true, any-member, member_of_any}
 use Rattle.torus_geom.proofs.Chains.CodesLemmas.{AreRanks, is_states_of, states_of-nothing}
 use Rattle.grid_moves.proofs.Exchanged.SwappedTwice.{size-swapped}
-use Rattle.grid_moves.proofs.Turned.CarriedStates.{states_of-turned}
+use Rattle.grid_moves.proofs.Turned.CarriedStates.{states_of-carried, states_of-turned}
+use Rattle.grid_symmetry.specs.Symmetries.{symmetric, symmetric_state}
+use Rattle.grid_symmetry.specs.declared.symmetries.Symmetry.{Symmetry}
+use Rattle.grid_symmetry.specs.declared.symmetries.Symmetry.TheVariants.{Mirror}
+use Rattle.grid_symmetry.proofs.StateLaws.{IsBijection-symmetric_state, size-symmetric}
 use Rattle.pentagon_map.proofs.States.StateImages.{states_of-image}
 use Rattle.f2_algebra.proofs.Chains.Tables.{same_test}
 
@@ -40,7 +44,8 @@ states_of-listed n xs all =
     (λ h.
     let (x, m, is) =
     member_of_map rank xs (rank y)
-    (Contains-from_any (λ a b. eqb-true a b) (rank y) (map rank xs) (sym (holds-of_codes (map rank xs) (rank y)) ∙ h)) in
+    (Contains-from_any (λ a b. eqb-true a b) (rank y) (map rank xs) (sym (holds-of_codes (map rank xs) (rank y)) ∙ h))
+    in
     any-member (λ x. is_same x y) xs x m (is_same-is x y (rank_one_to_one n x y (all x m) sy is)))
     (λ h.
     let (x, m, is) = member_of_any (λ x. is_same x y) xs h in
@@ -93,3 +98,24 @@ pub IsChain-listed : (n : ℕ) (xs : List (List ℕ)) → ((x : List ℕ) → Co
 IsChain-listed n xs all y h =
     let (x, m, is) = member_of_any (λ x. is_same x y) xs h in
     subst (IsBijection n) (is_same-true x y is) (all x m)
+
+-- What the code has after a symmetry stands for what follows.
+pub followed_of-symmetry : (s : Symmetry) (n : ℕ) (p q : FollowedCodes) → IsGrid p.grid → n ≡ size p.grid
+    → AreRanks (size p.grid) p.chain → q.grid ≡ symmetric s p.grid → q.chain ≡ over_codes.codes_after s n p.chain
+    → followed_of q ≡ after_symmetry s (followed_of p)
+followed_of-symmetry s n p q grid same below of_grid of_chain =
+    (λ i. record { grid = of_grid i; chain = states_of (ap size of_grid i) (of_chain i) })
+    ∙ by s
+  where
+    by : (s : Symmetry) → record {
+      grid = symmetric s p.grid;
+      chain = states_of (size (symmetric s p.grid)) (over_codes.codes_after s n p.chain);
+    }
+        ≡ after_symmetry s (followed_of p)
+    by Mirror =
+        ap (λ z. record { grid = symmetric Mirror p.grid; chain = z })
+        (states_of-nothing (size (symmetric Mirror p.grid)))
+    by s = ap (λ z. record { grid = symmetric s p.grid; chain = z })
+        (ap₂ (λ m k. states_of m (carried_codes k (symmetric_state s) p.chain)) (size-symmetric s p.grid grid) same
+        ∙ states_of-carried (size p.grid) (symmetric_state s) (IsBijection-symmetric_state s (size p.grid)) p.chain
+        below)

@@ -1,19 +1,23 @@
 //! A chain that is followed through moves of its grid.
-ghost use Rattle.std.specs.Prelude.{◌≡◌, ◌↔◌, ◌<◌, IfOk, IsTrue, OnErr, OnOk};
+ghost use Rattle.std.specs.Prelude.{◌≡◌, ◌≢◌, ◌↔◌, ◌<◌, IfOk, IsTrue, OnErr, OnOk};
 ghost use Rattle.state_rank.specs.Bijection.{IsSize};
 ghost use Rattle.torus_geom.specs.Border.{Bounds, border};
-ghost use Rattle.torus_geom.specs.Chains.{nothing, single};
+ghost use Rattle.torus_geom.specs.Chains.{Chain as StateChain, IsChain, nothing, single};
 ghost use Rattle.torus_geom.specs.Front.{minus_state, plus_state};
 ghost use Rattle.torus_geom.specs.Marks.{size};
-ghost use Rattle.grid_moves.specs.Inner.CodeCarried.{turned_chain};
+ghost use Rattle.torus_geom.specs.Transposed.{transposed};
+ghost use Rattle.grid_moves.specs.Inner.CodeCarried.{carried, turned_chain};
 ghost use Rattle.grid_moves.specs.Moves.{are_commuting, swapped, turned};
-ghost use Rattle.legendrian_class.specs.Followed.{after_commutation, after_turn, at_start};
+ghost use Rattle.grid_symmetry.specs.Symmetries.{half_turned, symmetric, symmetric_chain, symmetric_state};
+ghost use Rattle.legendrian_class.specs.Followed.{after_commutation, after_symmetry, after_turn, at_start};
 ghost use Rattle.legendrian_class.specs.FollowedCodes.{followed_of};
+ghost use Rattle.legendrian_class.specs.Inner.CodeFollowed.{codes_after};
 ghost use Rattle.torus_geom.specs.Codes.{HasRanks};
 
 use f2_chain::{Builder, Chain, CodeSet};
 use grid_moves::{Axis, Side, swap, turn_state};
 use grid_ports::NoMemory;
+use grid_symmetry::{Symmetry, apply, apply_state};
 use pentagon_map::{Corner, image};
 use state_rank::State;
 use std::alloc::Global;
@@ -134,6 +138,73 @@ impl Follower {
         self.grid = swap(&self.grid, axis, c);
         Ok(())
     }
+
+    /// Takes the grid and each state of the chain to what they become by the symmetry `s`. No chain is followed
+    /// across `Mirror`, which carries coborders to borders: after it the chain is empty.
+    ///
+    /// # Errors
+    ///
+    /// `NoMemory` if the allocator refuses; grid and chain are as before.
+    pub fn symmetry(&mut self, alloc: Global, s: Symmetry) -> Result<(), NoMemory>
+        ensures after { OnOk result (followed_of self.new ≡ after_symmetry s (followed_of self.old)) }
+        ensures unchanged { OnErr result (self.new ≡ self.old) }
+
+        // Whatever the call answers: all but `Mirror` carry the border of each chain to the border of what it becomes.
+        ensures carries_border { (z : StateChain) → IsChain (size self.old.grid) z → s ≢ Symmetry.Mirror
+            → border (symmetric s self.old.grid) (symmetric_chain s (size self.old.grid) z)
+            ≡ symmetric_chain s (size self.old.grid) (border self.old.grid z) }
+
+        // `Flip` carries the chain of x+ to that of x+, and the chain of x- to that of x-.
+        ensures flip_plus { symmetric_chain Symmetry.Flip (size self.old.grid) (single (plus_state self.old.grid))
+            ≡ single (plus_state (transposed self.old.grid)) }
+        ensures flip_minus { symmetric_chain Symmetry.Flip (size self.old.grid) (single (minus_state self.old.grid))
+            ≡ single (minus_state (transposed self.old.grid)) }
+
+        // `Half` carries each of them to the other.
+        ensures half_plus { symmetric_chain Symmetry.Half (size self.old.grid) (single (plus_state self.old.grid))
+            ≡ single (minus_state (half_turned self.old.grid)) }
+        ensures half_minus { symmetric_chain Symmetry.Half (size self.old.grid) (single (minus_state self.old.grid))
+            ≡ single (plus_state (half_turned self.old.grid)) }
+    {
+        let _ = self.grid.size();
+        self.carry(alloc, s)
+    }
+
+    // The same without the laws.
+    fn carry(&mut self, alloc: Global, s: Symmetry) -> Result<(), NoMemory>
+        ensures after { OnOk result (followed_of self.new ≡ after_symmetry s (followed_of self.old)) }
+        ensures unchanged { OnErr result (self.new ≡ self.old) }
+    {
+        let n = self.grid.size();
+        self.chain = chain_after(alloc, n, s, &self.chain)?;
+        self.grid = apply(&self.grid, s);
+        Ok(())
+    }
+}
+
+// The chain of what the states of `z`, of size `n`, become by the symmetry; none after the mirror image.
+fn chain_after(alloc: Global, n: u8, s: Symmetry, z: &Chain) -> Result<Chain, NoMemory>
+    requires is_size { IsSize n }
+    requires ranks { HasRanks n z.now }
+    ensures { IfOk result (λ y. y ≡ codes_after s n z.now) }
+{
+    match s {
+        Symmetry::Mirror => Ok(CodeSet::empty(alloc)),
+        Symmetry::Flip | Symmetry::Half | Symmetry::Marks => carried_states(alloc, n, s, z),
+    }
+}
+
+// The chain of what the states of `z`, of size `n`, become by the symmetry.
+fn carried_states(alloc: Global, n: u8, s: Symmetry, z: &Chain) -> Result<Chain, NoMemory>
+    requires is_size { IsSize n }
+    requires ranks { HasRanks n z.now }
+    ensures { IfOk result (λ y. y ≡ carried n (symmetric_state s) z.now) }
+{
+    let mut carried = Builder::new(alloc);
+    for code in z.codes() {
+        carried.toggle(apply_state(&State::unrank(n, *code), s).rank())?;
+    }
+    carried.finish()
 }
 
 // The chain of the turned states of `z`, of size `n`.

@@ -8,6 +8,7 @@
 --                                the state x+ or x- of a grid, its Maslov and its Alexander degree, and whether its
 --                                class is alive or null
 --     table_lines rows           the number of rows of a table, and a line for each row
+--     corank_lines rows          the same of a table of coranks
 --     hat_lines exponent hat     the exponent, the number of rows and a line for each row of a hat, or that there is
 --                                none
 --     refused_line word number   the word of a fault, and the number of its line
@@ -39,6 +40,9 @@ row_line row = line (codes "rank " ++ signed_decimal row.m ++ 32 ∷ signed_deci
 
 abbrev pub table_lines : List TableRow → List ℕ
 table_lines rows = line (codes "ranks " ++ decimal (length rows)) ++ flat_map row_line rows
+
+abbrev pub corank_lines : List TableRow → List ℕ
+corank_lines rows = line (codes "coranks " ++ decimal (length rows)) ++ flat_map row_line rows
 
 abbrev pub hat_lines : ℕ → Option (List TableRow) → List ℕ
 hat_lines exponent None = line (codes "hat none")

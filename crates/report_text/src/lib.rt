@@ -13,8 +13,8 @@ mod lines;
 
 pub use comparisons::{Facts, compare_lines};
 pub use lines::{
-    class_line, euler_lines, front_line, hat_lines, refused_line, set_line, table_lines,
-    verdict_word,
+    class_line, corank_lines, euler_lines, front_line, hat_lines, refused_line, set_line,
+    table_lines, verdict_word,
 };
 
 #[cfg(test)]

@@ -4,7 +4,7 @@ ghost use Rattle.std.specs.List.{flat_map};
 ghost use Rattle.std.specs.Option.{option_copied};
 ghost use Rattle.state_rank.specs.Bijection.{IsSize};
 ghost use Rattle.grid_text.specs.Commands.{sign_word};
-ghost use Rattle.report_text.specs.Lines.{front_line as front_line_of, class_line as class_line_of, verdict_word as verdict_word_of, row_line, table_lines as table_lines_of, hat_lines as hat_lines_of, refused_line as refused_line_of, euler_line, euler_lines as euler_lines_of};
+ghost use Rattle.report_text.specs.Lines.{front_line as front_line_of, class_line as class_line_of, verdict_word as verdict_word_of, row_line, table_lines as table_lines_of, corank_lines as corank_lines_of, hat_lines as hat_lines_of, refused_line as refused_line_of, euler_line, euler_lines as euler_lines_of};
 ghost use Rattle.text_lines.specs.Lines.{line, chain_line};
 ghost use Rattle.torus_geom.specs.Codes.{HasRanks, states_of};
 
@@ -89,6 +89,23 @@ pub fn table_lines(alloc: Global, t: &Table) -> Result<Vec<u8>, NoMemory>
     lines.push(b'\n')?;
     push_rows(&mut lines, rows)?;
     Ok(lines)
+}
+
+/// The lines of a table of coranks: `coranks K` with the number of rows, then a line `rank M A D` for each row, in the
+/// order of the table.
+///
+/// # Errors
+///
+/// `NoMemory` if the allocator refuses.
+pub fn corank_lines(alloc: Global, t: &Table) -> Result<Vec<u8>, NoMemory>
+    ensures { IfOk result (λ lines. lines.items ≡ corank_lines_of t.now) }
+{
+    let coranks = t.rows();
+    let mut table = Vec::from_slice(alloc, b"coranks ")?;
+    push_number(&mut table, coranks.len())?;
+    table.push(b'\n')?;
+    push_rows(&mut table, coranks)?;
+    Ok(table)
 }
 
 /// The lines of a hat: `hat exponent E rows K` with the exponent and the number of rows, then a line

@@ -12,7 +12,7 @@ use Rattle.state_rank.specs.Bijection.{IsBijection}
 use Rattle.state_rank.specs.States.{IsState, rank, factorial}
 use Rattle.state_rank.proofs.MemberLemmas.{member_cases, pairs_head, pairs_tail}
 use Rattle.state_rank.proofs.RankLemmas.{rank-below, ranks_rise}
-use Rattle.torus_geom.specs.Marks.{Marks, size}
+use Rattle.torus_geom.specs.Marks.{IsGrid, Marks, size}
 use Rattle.grid_text.specs.Commands.{IsAllowed, IsStateOf}
 use Rattle.grid_text.specs.States.{AreStates}
 use Rattle.grid_text.specs.declared.commands.Command.{Command}
@@ -20,6 +20,12 @@ use Rattle.grid_text.specs.declared.commands.Command.TheVariants as command
 use Rattle.torus_geom.specs.Chains.{IsChain}
 use Rattle.torus_geom.proofs.Chains.CodesLemmas.{IsChain-nothing}
 use Rattle.stabilise.specs.Stabilised.{stabilised, destabilised}
+use Rattle.grid_symmetry.specs.Symmetries.{symmetric_state}
+use Rattle.grid_symmetry.specs.declared.symmetries.Symmetry.{Symmetry}
+use Rattle.grid_symmetry.specs.declared.symmetries.Symmetry.TheVariants.{Mirror}
+use Rattle.grid_symmetry.proofs.StateLaws.{IsBijection-symmetric_state, size-symmetric}
+use Rattle.grid_moves.proofs.Turned.CarriedStates.{IsChain-carried}
+use Rattle.legendrian_class.specs.Followed.{chain_after_symmetry}
 use Rattle.torus_geom.specs.Codes.{HasRanks, states_of}
 use Rattle.grid_moves.specs.Carried.{turned_chain}
 use Rattle.grid_moves.proofs.Exchanged.SwappedTwice.{size-swapped}
@@ -127,17 +133,23 @@ followed_of-listed g xs states p of_grid of_chain =
     ∙ ap (λ z. record { grid = g; chain = z }) (states_of-listed (size g) xs (states_of_grid g xs states))
 
 -- what is in force stays a grid with a chain of its states
-pub IsChain-after_command : (p : InForce) (c : Command) → IsChain (size p.grid) p.chain → IsAllowed p.grid c
+pub IsChain-after_command : (p : InForce) (c : Command) → IsGrid p.grid → IsChain (size p.grid) p.chain → IsAllowed p.grid c
     → IsChain (size (after_command p c).grid) (after_command p c).chain
-IsChain-after_command p (command.Chain xs) states allowed =
+IsChain-after_command p (command.Chain xs) grid states allowed =
     IsChain-listed (size p.grid) xs (states_of_grid p.grid xs allowed.0)
-IsChain-after_command p (command.Turn side) states allowed =
+IsChain-after_command p (command.Turn side) grid states allowed =
     subst (λ n. IsChain n (turned_chain side (size p.grid) p.chain)) (sym (length-turned_rows side (size p.grid) p.grid.o))
     (IsChain-turned side (size p.grid) p.chain)
-IsChain-after_command p (command.Commute axis c corner) states allowed =
+IsChain-after_command p (command.Commute axis c corner) grid states allowed =
     subst (λ n. IsChain n (image axis p.grid c corner p.chain)) (sym (size-swapped axis p.grid c))
     (IsChain-image axis p.grid c corner p.chain)
-IsChain-after_command p (command.Stab c empty) states allowed = IsChain-nothing (size (stabilised p.grid c empty))
-IsChain-after_command p (command.Destab c r empty) states allowed =
+IsChain-after_command p (command.Stab c empty) grid states allowed = IsChain-nothing (size (stabilised p.grid c empty))
+IsChain-after_command p (command.Destab c r empty) grid states allowed =
     IsChain-nothing (size (destabilised p.grid c r empty))
-IsChain-after_command p other states allowed = states
+IsChain-after_command p (command.Symm s) grid states allowed =
+    subst (λ n. IsChain n (chain_after_symmetry s p)) (sym (size-symmetric s p.grid grid)) (by s)
+  where
+    by : (s : Symmetry) → IsChain (size p.grid) (chain_after_symmetry s p)
+    by Mirror = IsChain-nothing (size p.grid)
+    by s = IsChain-carried (size p.grid) (symmetric_state s) (IsBijection-symmetric_state s (size p.grid)) p.chain
+IsChain-after_command p other grid states allowed = states

@@ -14,13 +14,14 @@ use Rattle.hat_division.specs.Inner.Products.{ArePositive}
 use Rattle.hat_division.specs.declared.tables.TableRow.{TableRow}
 use Rattle.hat_division.proofs.Factors.BigradedTables.{has_quotient}
 use Rattle.homology_cert.proofs.Homology.StateTables.{exists_homology_table, one_homology_table}
-use Rattle.report_text.specs.Lines.{table_lines, hat_lines}
+use Rattle.rectangles.proofs.Homology.CorankLemmas.{corank_table-table}
+use Rattle.report_text.specs.Lines.{corank_lines, table_lines, hat_lines}
 use Rattle.torus_geom.specs.Components.{is_first, components}
 use Rattle.torus_geom.specs.Homology.{IsHomologyTable}
 use Rattle.torus_geom.specs.Homology.{Row}
 use Rattle.torus_geom.specs.Marks.{Marks, size, IsGrid}
 use Rattle.grid_job.specs.Hat.{hat_exponent, IsHat, IsHatText, HasHat}
-use Rattle.grid_job.specs.Report.{IsTableText}
+use Rattle.grid_job.specs.Report.{IsCorankText, IsTableText}
 use Rattle.f2_algebra.proofs.Chains.Lists.{below-map}
 
 -- ---- each grid has a table
@@ -46,6 +47,18 @@ pub exists_table : (g : Marks) → IsGrid g → (text : List ℕ) × IsTableText
 exists_table g grid =
     let found = exists_rows g grid in
     (table_lines found.0, record { rows = found.0; table = found.1; lines = refl })
+
+-- they are a table of coranks too
+pub exists_corank_text : (g : Marks) → IsGrid g → (text : List ℕ) × IsCorankText g text
+exists_corank_text g grid =
+    let found = exists_rows g grid in (
+      corank_lines found.0,
+      record {
+        rows = found.0;
+        table = (corank_table-table g grid (map homology_row found.0)).1 found.1;
+        lines = refl;
+      },
+    )
 
 -- and no other
 one_table : (g : Marks) (rows others : List TableRow) → IsHomologyTable g (map homology_row rows)

@@ -19,7 +19,7 @@ use Rattle.grid_euler.proofs.ExistenceLemmas.{exists_euler_table}
 use Rattle.report_text.specs.Lines.{euler_lines}
 use Rattle.grid_job.proofs.Reported.ChainLemmas.{IsChain-after_command}
 use Rattle.grid_job.proofs.Reported.ClassLemmas.{exists_class_text, exists_bounds_text}
-use Rattle.grid_job.proofs.Reported.HatLemmas.{exists_table, exists_hat_text}
+use Rattle.grid_job.proofs.Reported.HatLemmas.{exists_corank_text, exists_table, exists_hat_text}
 
 -- ---- each command has an answer
 exists_answer : (p : InForce) (c : Command) → IsGrid p.grid → IsChain (size p.grid) p.chain
@@ -37,6 +37,8 @@ exists_answer p (command.Commute axis c corner) grid states = ([], refl)
 exists_answer p (command.Stab c empty) grid states = ([], refl)
 exists_answer p (command.Destab c r empty) grid states = ([], refl)
 exists_answer p (command.Invert axis c corner) grid states = (_, refl)
+exists_answer p (command.Symm s) grid states = ([], refl)
+exists_answer p command.Coranks grid states = exists_corank_text p.grid grid
 exists_answer p command.Euler grid states =
     let (rows, numbers) = exists_euler_table p.grid grid in
     (euler_lines rows, record { rows = rows; numbers = numbers; lines = refl })
@@ -47,7 +49,7 @@ exists_answers p [] grid states allowed = ([], refl)
 exists_answers p (c ∷ cs) grid states allowed =
     let first = exists_answer p c grid states in
     let later = exists_answers (after_command p c) cs (IsGrid-grid_after p.grid c grid allowed.0)
-    (IsChain-after_command p c states allowed.0) allowed.1 in
+    (IsChain-after_command p c grid states allowed.0) allowed.1 in
     (first.0 ++ later.0, (first.0, later.0, first.1, later.1, refl))
 
 -- ---- answers in order
@@ -91,7 +93,7 @@ StandsAt-drop (suc k) p (c ∷ cs) h =
     StandsAt-drop k (after_command p c) cs
     (record {
       grid = IsGrid-grid_after p.grid c h.grid h.allowed.0;
-      states = IsChain-after_command p c h.states h.allowed.0;
+      states = IsChain-after_command p c h.grid h.states h.allowed.0;
       allowed = h.allowed.1;
     })
 

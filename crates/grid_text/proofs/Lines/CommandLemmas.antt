@@ -3,7 +3,7 @@
 -- where it undoes a stabilisation there is the block, and where it stabilises there is room. A line is that of one
 -- command.
 use Rattle.std.proofs.Common.{◌≡◌, ℕ, ◌+◌, ◌-◌, ◌<◌, ◌^◌, true, false, not, ◌||◌, ◌&&◌, cond, List, [], ◌∷◌, length, map, None, Some, refl, ap, subst, ◌∙◌, sym, arith, true≢false}
-use Rattle.std.specs.Prelude.{nat_le}
+use Rattle.std.specs.Prelude.{nat_le, ◌==◌}
 use Rattle.std.specs.Option.{option_map_or}
 use Rattle.std.specs.List.Sorted.{IsPermutation}
 use Rattle.std.specs.List.{list_any, Contains, All}
@@ -12,7 +12,7 @@ use Rattle.std.proofs.lemmas.List.Sorted.{All-permutation, IsPermutation-sym}
 use Rattle.std.proofs.lemmas.List.Elements.{All-contains, All-head, All-tail}
 use Rattle.std.proofs.lemmas.Fmt.{decimal_injective}
 use Rattle.state_rank.specs.States.{state_word}
-use Rattle.state_rank.specs.Bijection.{IsBijection}
+use Rattle.state_rank.specs.Bijection.{IsBijection, greatest_size}
 use Rattle.state_rank.proofs.MemberLemmas.{member_head, member_tail}
 use Rattle.torus_geom.specs.Marks.{Marks, size}
 use Rattle.grid_moves.specs.Moves.{are_commuting}
@@ -20,6 +20,8 @@ use Rattle.grid_moves.specs.declared.turns.Side.{Side}
 use Rattle.grid_moves.specs.declared.turns.Side.TheVariants.{Left, Right, Up, Down}
 use Rattle.grid_moves.specs.declared.commutations.Axis.{Axis}
 use Rattle.grid_moves.specs.declared.commutations.Axis.TheVariants.{Cols, Rows}
+use Rattle.grid_symmetry.specs.declared.symmetries.Symmetry.{Symmetry}
+use Rattle.grid_symmetry.specs.declared.symmetries.Symmetry.TheVariants.{Flip, Half, Mirror, Marks as ExchangeMarks}
 use Rattle.pentagon_map.specs.declared.Corner.{Corner}
 use Rattle.pentagon_map.specs.declared.Corner.TheVariants.{Over, Under}
 use Rattle.grid_text.specs.Limits.{max_commands}
@@ -27,7 +29,7 @@ use Rattle.grid_text.specs.Words.{Word, is_comment, is_blank, is_word}
 use Rattle.stabilise.specs.Stabilised.{is_block}
 use Rattle.stabilise.specs.declared.squares.Square.{Square}
 use Rattle.stabilise.specs.declared.squares.Square.TheVariants.{Nw, Ne, Sw, Se}
-use Rattle.grid_text.specs.Commands.{sign_word, side_word, corner_word, square_word, axis_word, stab_word, destab_word, invert_word, state, argument_word, command_row, command_words, IsLineOf, IsAllowed, IsStateOf}
+use Rattle.grid_text.specs.Commands.{sign_word, side_word, corner_word, square_word, axis_word, symmetry_word, stab_word, destab_word, invert_word, state, argument_word, command_row, command_words, IsLineOf, IsAllowed, IsStateOf}
 use Rattle.grid_text.specs.Script.{GridScript, IsScript, grid_in_force}
 use Rattle.grid_text.specs.Document.{body, end_word}
 use Rattle.grid_text.specs.Faults.{Form, exactly, any_number_of, state_of_size, kind_of, is_bad_by, form_at, has_repeated, fails_to_commute, is_not_commuting, has_no_block, is_not_block, is_at_limit, fault_in_table}
@@ -41,7 +43,7 @@ use Rattle.grid_text.proofs.Lines.WordLemmas.{is_word-same, numeral-decimal}
 use Rattle.state_rank.proofs.WordLemmas.{state_word_injective}
 use Rattle.grid_text.proofs.Lines.KindLemmas.{state-good, list_any-never, AreGood, arguments-good, arguments-count, square-found}
 use Rattle.grid_text.proofs.Lines.BlockLemmas.{has_no_block-read, below_greatest}
-use Rattle.grid_text.proofs.Lines.KeywordLemmas.{not_end}
+use Rattle.grid_text.proofs.Lines.KeywordLemmas.{form_at-command, not_end}
 use Rattle.grid_text.proofs.Lines.FaultLemmas.{NoRowHolds, fault_in_table-last}
 use Rattle.grid_text.proofs.Lines.ScriptLemmas.{IsGrid-grid_in_force}
 use Rattle.grid_text.proofs.States.ChainLemmas.{repeated-none, one_chain}
@@ -89,6 +91,13 @@ arguments-allowed g (command.Stab c v) allowed = (allowed.0, (tt, tt))
 arguments-allowed g (command.Destab c r v) allowed = (allowed.0, (allowed.1, (tt, tt)))
 arguments-allowed g (command.Invert i c v) allowed = (tt, (allowed.0, (tt, tt)))
 arguments-allowed g c allowed = tt
+
+-- no symmetry begins as `stab` does
+not_stab : (v : Symmetry) → is_word stab_word (symmetry_word v) ≡ false
+not_stab Flip = refl
+not_stab Half = refl
+not_stab Mirror = refl
+not_stab ExchangeMarks = refl
 
 -- ---- what the rows are for a line of a command
 
@@ -232,6 +241,9 @@ module _ (s : GridScript) (h : IsScript s) where
       exact-faultless (command.Invert Rows c v) words e refl
       (arguments-allowed (grid_in_force s) (command.Invert Rows c v) allowed)
       (commutes-number Rows c allowed.0 allowed.1) refl refl
+  faultless words (command.Symm v) e allowed =
+      exact-faultless (command.Symm v) words e (form_at-command s (command.Symm v)) tt refl refl
+      (ap (λ b. b && (n == greatest_size)) (not_stab v))
   faultless words c e allowed =
       exact-faultless c words e refl (arguments-allowed (grid_in_force s) c allowed) refl refl refl
 
@@ -305,6 +317,16 @@ square_apart Sw w t = cc
 square_apart Se Se t = refl
 square_apart Se w t = cc
 
+symmetry_apart : (v w : Symmetry) → is_word (symmetry_word v) (symmetry_word w) ≡ true → v ≡ w
+symmetry_apart Flip Flip t = refl
+symmetry_apart Flip w t = cc
+symmetry_apart Half Half t = refl
+symmetry_apart Half w t = cc
+symmetry_apart Mirror Mirror t = refl
+symmetry_apart Mirror w t = cc
+symmetry_apart ExchangeMarks ExchangeMarks t = refl
+symmetry_apart ExchangeMarks w t = cc
+
 axis_apart : (v w : Axis) → is_word (axis_word v) (axis_word w) ≡ true → v ≡ w
 axis_apart Cols Cols t = refl
 axis_apart Cols Rows t = cc
@@ -341,6 +363,7 @@ AreAlike (command.Commute i c v) (command.Commute j d w) = Unit {0}
 AreAlike (command.Stab c v) (command.Stab d w) = Unit {0}
 AreAlike (command.Destab c r v) (command.Destab d q w) = Unit {0}
 AreAlike (command.Invert i c v) (command.Invert j d w) = Unit {0}
+AreAlike (command.Symm v) (command.Symm w) = Unit {0}
 AreAlike c d = c ≡ d
 
 alike : (c d : Command) → is_word (command_row c).0 (command_row d).0 ≡ true → AreAlike c d
@@ -352,10 +375,35 @@ alike (command.Commute i c v) (command.Commute j d w) t = tt
 alike (command.Stab c v) (command.Stab d w) t = tt
 alike (command.Destab c r v) (command.Destab d q w) t = tt
 alike (command.Invert i c v) (command.Invert j d w) t = tt
+alike (command.Symm v) (command.Symm w) t = tt
+alike (command.Symm Flip) (command.Commute Cols d w) t = cc
+alike (command.Symm Flip) (command.Commute Rows d w) t = cc
+alike (command.Symm Half) (command.Commute Cols d w) t = cc
+alike (command.Symm Half) (command.Commute Rows d w) t = cc
+alike (command.Symm Mirror) (command.Commute Cols d w) t = cc
+alike (command.Symm Mirror) (command.Commute Rows d w) t = cc
+alike (command.Symm ExchangeMarks) (command.Commute Cols d w) t = cc
+alike (command.Symm ExchangeMarks) (command.Commute Rows d w) t = cc
+alike (command.Commute Cols d w) (command.Symm Flip) t = cc
+alike (command.Commute Rows d w) (command.Symm Flip) t = cc
+alike (command.Commute Cols d w) (command.Symm Half) t = cc
+alike (command.Commute Rows d w) (command.Symm Half) t = cc
+alike (command.Commute Cols d w) (command.Symm Mirror) t = cc
+alike (command.Commute Rows d w) (command.Symm Mirror) t = cc
+alike (command.Commute Cols d w) (command.Symm ExchangeMarks) t = cc
+alike (command.Commute Rows d w) (command.Symm ExchangeMarks) t = cc
 alike (command.Commute Cols c v) d t = cc
 alike (command.Commute Rows c v) d t = cc
 alike c (command.Commute Cols d w) t = cc
 alike c (command.Commute Rows d w) t = cc
+alike (command.Symm Flip) d t = cc
+alike (command.Symm Half) d t = cc
+alike (command.Symm Mirror) d t = cc
+alike (command.Symm ExchangeMarks) d t = cc
+alike c (command.Symm Flip) t = cc
+alike c (command.Symm Half) t = cc
+alike c (command.Symm Mirror) t = cc
+alike c (command.Symm ExchangeMarks) t = cc
 alike c d t = cc
 
 -- the first word of a line is that of the command
@@ -371,6 +419,10 @@ command-filled words c l = ap is_blank (first_of_line words c l).1 ∙ first_fil
     first_filled : (c : Command) → is_comment (command_row c).0 ≡ false
     first_filled (command.Commute Cols c v) = refl
     first_filled (command.Commute Rows c v) = refl
+    first_filled (command.Symm Flip) = refl
+    first_filled (command.Symm Half) = refl
+    first_filled (command.Symm Mirror) = refl
+    first_filled (command.Symm ExchangeMarks) = refl
     first_filled c = refl
 
 -- commands of one line have one first word
@@ -444,4 +496,6 @@ one_command s h words (command.Invert i c v) (command.Invert j d w) l a m b =
     let number = decimal_injective c d (omega arith) (omega arith) (third_word whole) in
     let corner = corner_apart v w (same_is_word _ _ (fourth_word whole)) in
     (λ k. command.Invert (axis k) (number k) (corner k))
+one_command s h words (command.Symm v) (command.Symm w) l a m b =
+    ap command.Symm (symmetry_apart v w (same_is_word _ _ (cons-head _ _ _ _ (sym l ∙ m))))
 one_command s h words c d l a m b = alike_of_line words c d l m

@@ -7,6 +7,7 @@ use Rattle.std.proofs.lemmas.Bool.{cases_Bool}
 use Rattle.torus_geom.specs.Marks.{size}
 use Rattle.grid_moves.specs.declared.commutations.Axis.{Axis}
 use Rattle.grid_moves.specs.declared.commutations.Axis.TheVariants.{Cols, Rows}
+use Rattle.grid_symmetry.specs.declared.symmetries.Symmetry.TheVariants.{Flip, Half, Mirror, Marks as ExchangeMarks}
 use Rattle.grid_text.specs.Words.{Word, is_word}
 use Rattle.grid_text.specs.Commands.{command_row}
 use Rattle.grid_text.specs.Script.{GridScript, grid_in_force}
@@ -62,12 +63,20 @@ pub form_at-command : (s : GridScript) (c : Command)
     → form_at (body s) (command_row c).0 ≡ Some (form_of (size (grid_in_force s)) c)
 form_at-command s (command.Commute Cols c v) = refl
 form_at-command s (command.Commute Rows c v) = refl
+form_at-command s (command.Symm Flip) = refl
+form_at-command s (command.Symm Half) = refl
+form_at-command s (command.Symm Mirror) = refl
+form_at-command s (command.Symm ExchangeMarks) = refl
 form_at-command s c = refl
 
 -- a command does not begin with `end`
 pub not_end : (c : Command) → is_word end_word (command_row c).0 ≡ false
 not_end (command.Commute Cols c v) = refl
 not_end (command.Commute Rows c v) = refl
+not_end (command.Symm Flip) = refl
+not_end (command.Symm Half) = refl
+not_end (command.Symm Mirror) = refl
+not_end (command.Symm ExchangeMarks) = refl
 not_end c = refl
 
 -- a keyword that stands alone has no further words, in any grid

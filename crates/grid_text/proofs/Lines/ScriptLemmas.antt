@@ -5,6 +5,7 @@ use Rattle.std.proofs.Common.{◌≡◌, ◌<◌, List, [], ◌∷◌, ◌++◌,
 use Rattle.torus_geom.specs.Marks.{Marks, IsGrid}
 use Rattle.grid_moves.proofs.Turned.TurnLemmas.{IsGrid-turned}
 use Rattle.grid_moves.proofs.Exchanged.SwappedTwice.{IsGrid-swapped}
+use Rattle.grid_symmetry.proofs.StateLaws.{IsGrid-symmetric}
 use Rattle.stabilise.proofs.StabilisedGrids.{IsGrid-stabilised}
 use Rattle.stabilise.proofs.BlockLemmas.{IsGrid-destabilised}
 use Rattle.grid_text.specs.Commands.{IsAllowed, grid_after}
@@ -22,6 +23,7 @@ IsGrid-grid_after g (command.Stab c empty) h a =
     let room = a.1 in
     IsGrid-stabilised g c empty h a.0 (record { least = omega arith; greatest = omega arith })
 IsGrid-grid_after g (command.Destab c r empty) h a = IsGrid-destabilised g c r empty h a.0 a.1 a.2
+IsGrid-grid_after g (command.Symm s) h a = IsGrid-symmetric s g h
 IsGrid-grid_after g c h a = h
 
 -- the grid in force after one more command

@@ -15,6 +15,7 @@ use Rattle.std.specs.List.{Contains}
 use Rattle.torus_geom.specs.Marks.{Marks, size}
 use Rattle.grid_moves.specs.declared.turns.Side.{Side}
 use Rattle.grid_moves.specs.declared.turns.Side.TheVariants.{Left, Right, Up, Down}
+use Rattle.grid_symmetry.specs.declared.symmetries.Symmetry.TheVariants.{Flip, Half, Mirror, Marks as ExchangeMarks}
 use Rattle.grid_text.specs.Words.{Word, parts, before_parts, is_filled, without_return, lines_of, words_of}
 use Rattle.grid_text.specs.PlainForm.{after_space, line_of, command_line, plain_form}
 use Rattle.pentagon_map.specs.declared.Corner.{Corner}
@@ -209,6 +210,10 @@ plain_arguments n (a ∷ arguments) some few h = (plain a h.0, plain_arguments n
 plain_first : (c : Command) → IsPlainWord (command_row c).0
 plain_first (command.Commute Cols c v) = closed (codes "cols") refl (omega arith)
 plain_first (command.Commute Rows c v) = closed (codes "rows") refl (omega arith)
+plain_first (command.Symm Flip) = closed (codes "flip") refl (omega arith)
+plain_first (command.Symm Half) = closed (codes "half") refl (omega arith)
+plain_first (command.Symm Mirror) = closed (codes "mirror") refl (omega arith)
+plain_first (command.Symm ExchangeMarks) = closed (codes "marks") refl (omega arith)
 plain_first c = closed (command_row c).0 refl (omega arith)
 
 -- the words of a line that is written are those of the command

@@ -30,6 +30,7 @@ use Rattle.grid_text.specs.declared.commands.Command.TheVariants as command
 use Rattle.grid_text.specs.declared.commands.Sign.TheVariants.{Plus}
 use Rattle.grid_moves.specs.declared.turns.Side.TheVariants.{Left}
 use Rattle.grid_moves.specs.declared.commutations.Axis.TheVariants.{Cols, Rows}
+use Rattle.grid_symmetry.specs.declared.symmetries.Symmetry.TheVariants.{Flip, Half, Mirror, Marks as ExchangeMarks}
 use Rattle.pentagon_map.specs.declared.Corner.TheVariants.{Over}
 use Rattle.stabilise.specs.declared.squares.Square.TheVariants.{Nw}
 use Rattle.grid_text.specs.declared.faults.TextFault.{TextFault}
@@ -51,6 +52,11 @@ example keyword.Rows = Some (command.Commute Rows 0 Over)
 example keyword.Stab = Some (command.Stab 0 Nw)
 example keyword.Destab = Some (command.Destab 0 0 Nw)
 example keyword.Invert = Some (command.Invert Cols 0 Over)
+example keyword.Flip = Some (command.Symm Flip)
+example keyword.Half = Some (command.Symm Half)
+example keyword.Mirror = Some (command.Symm Mirror)
+example keyword.Marks = Some (command.Symm ExchangeMarks)
+example keyword.Coranks = Some command.Coranks
 example keyword.Euler = Some command.Euler
 example keyword.End = None
 
