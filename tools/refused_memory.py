@@ -29,6 +29,12 @@ ROWS = [
     ("run", A + b"ranks\nhat\nend\n"),
     ("run", C + b"ranks\nclass -\nclass +\nend\n"),
     ("run", E + b"chain 1203\ncols 1 over\ncols 1 over\nshow\nranks\nend\n"),
+    ("run", E + b"chain 0312\ninvert cols 1 over\nshow\nend\n"),
+    ("run", C + b"stab 1 ne\nfront\nclass +\ndestab 1 0 ne\nhat\nend\n"),
+    ("run", C + b"chain 012 120\nflip\nhalf\nmarks\nshow\nmirror\nranks\nend\n"),
+    ("run", C + b"coranks\neuler\nend\n"),
+    ("run", b"grid2 4\nO 0 1 2 3\nX 2 3 0 1\nranks\nhat\nend\n"),
+    ("compare", C + b"end\nnext\n" + C + b"turn up\nend\n"),
     ("check", CERTIFICATE),
     ("make --seed 1 --size 5", b""),
 ]
@@ -70,6 +76,13 @@ def try_row(program, folder, words, text):
     return kinds
 
 
+def name_of(words, text):
+    """The words of a call, and the first words of the commands of its input."""
+    first = [line.split()[0].decode() for line in text.splitlines()]
+    commands = [word for word in first if word not in ("O", "X", "end", "gridcert")]
+    return " ".join([words, "<", *commands]) if words in ("run", "compare") else words
+
+
 def told(kinds):
     return "; ".join(f"{count} {kind}" for kind, count in sorted(kinds.items()))
 
@@ -85,7 +98,7 @@ def main():
         for words, text in ROWS:
             kinds = try_row(program, folder, words, text)
             total += kinds
-            print(f"{words}: {sum(kinds.values())} runs: {told(kinds)}")
+            print(f"{name_of(words, text)}: {sum(kinds.values())} runs: {told(kinds)}", flush=True)
     print(f"in all {sum(total.values())} runs: {told(total)}")
 
 

@@ -30,8 +30,29 @@ What the program prints for the documents of [examples/knots](../examples/knots/
 - The hats in [examples/knots/knots.tsv](../examples/knots/knots.tsv) are those of the literature, and the program
   prints the same. The last four knots are not alternating: no polynomial with a signature decides their hats.
 
+10_132, whose hat lies on two diagonals, and the Borromean rings: the grid, its front and the hat, as
+[tools/draw.py](../tools/draw.py) draws them.
+
+![the grid of 10_132](pictures/10_132-grid.svg)
+![its front](pictures/10_132-front.svg)
+![its hat](pictures/10_132-chart.svg)
+
+![the grid of the Borromean rings](pictures/borromean-grid.svg)
+![its front](pictures/borromean-front.svg)
+![its hat](pictures/borromean-chart.svg)
+
 | name | size, O, X | tb | rot | hat | total rank | x+ | x- | closed braid, and what its hat follows from |
 |---|---|---|---|---|---|---|---|---|"""
+
+
+COMPONENTS = """
+## Links by component
+
+What `hat` answers for the same documents if their first line is `grid2 N`. A row M D1 .. Dl R of it is the term
+R q^M t1^D1 .. tl^Dl here, with a doubled Alexander degree for each component, in the order of their least columns.
+
+| name | exponents | hat by component |
+|---|---|---|"""
 
 
 def literature():
@@ -59,10 +80,21 @@ def hat_of(report):
     return [tuple(map(int, line.split()[1:])) for line in report.splitlines() if line.startswith("rank ")]
 
 
+def power(letter, e):
+    return "" if e == 0 else f" {letter}" if e == 1 else f" {letter}^{e}"
+
+
+def of_powers(powers, rank):
+    return powers.strip() if rank == 1 and powers else f"{rank}{powers}"
+
+
 def term(m, a, rank):
-    power = lambda letter, e: "" if e == 0 else f" {letter}" if e == 1 else f" {letter}^{e}"
-    powers = (power("q", m) + power("t", a)).strip()
-    return powers if rank == 1 and powers else f"{rank} {powers}".strip()
+    return of_powers(power("q", m) + power("t", a), rank)
+
+
+def component_term(m, *degrees_and_rank):
+    *degrees, rank = degrees_and_rank
+    return of_powers(power("q", m) + "".join(power(f"t{i}", d) for i, d in enumerate(degrees, 1)), rank)
 
 
 def line_of(row, text, report):
@@ -85,9 +117,25 @@ def line_of(row, text, report):
     return f"| {' | '.join(cells)} |"
 
 
-def page(reports):
-    """The page, from the reports of the documents by name."""
-    return "\n".join([HEAD, *[line_of(it, document(it["file"]), reports[it["file"]]) for it in literature()]]) + "\n"
+def by_component(program, reports):
+    """The reports of the documents of links in version 2, by name."""
+    links = [it for it in reports if "components 1\n" not in reports[it]]
+    return {it: report_of(program, document(it).replace("\ngrid ", "\ngrid2 ")) for it in links}
+
+
+def component_line_of(row, report):
+    """The line of the table by component for a row of knots.tsv and its report in version 2."""
+    head = next(it.split() for it in report.splitlines() if it.startswith("hat "))
+    exponents = head[2 : head.index("rows")]
+    return f"| {row['name']} | {' '.join(exponents)} | {' + '.join(component_term(*it) for it in hat_of(report))} |"
+
+
+def page(reports, in_version_two):
+    """The page, from the reports of the documents by name, and those of links in version 2."""
+    lines = [line_of(it, document(it["file"]), reports[it["file"]]) for it in literature()]
+    links = [it for it in literature() if it["file"] in in_version_two]
+    by_components = [component_line_of(it, in_version_two[it["file"]]) for it in links]
+    return "\n".join([HEAD, *lines, COMPONENTS, *by_components]) + "\n"
 
 
 def grids():
@@ -118,7 +166,7 @@ def main():
         return write_documents()
     program = sys.argv[1] if len(sys.argv) > 1 else PROGRAM
     reports = {it["file"]: report_of(program, document(it["file"])) for it in literature()}
-    print(page(reports), end="")
+    print(page(reports, by_component(program, reports)), end="")
 
 
 if __name__ == "__main__":

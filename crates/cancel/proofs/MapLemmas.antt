@@ -54,7 +54,8 @@ toggled-sum z (x ∷ xs) apart =
 pub toggled-all : (z w : Chain) (xs : List ℕ) (k : ℕ) → k ≡ length xs → AllPairs (λ b c. b ≢ c) xs
     → toggled_by w (drop k xs) ≡ toggled_by z xs → w ≡ z ⊕ of_codes xs
 toggled-all z w xs k all once so_far =
-    ap (toggled_by w) (sym (ap (λ n. drop n xs) all ∙ drop-length xs)) ∙ so_far ∙ toggled-sum z xs (IsApart-pairs xs once)
+    ap (toggled_by w) (sym (ap (λ n. drop n xs) all ∙ drop-length xs)) ∙ so_far
+    ∙ toggled-sum z xs (IsApart-pairs xs once)
 
 -- ---- a code taken out
 at_code : (z : Chain) (s q : ℕ) (b : Bool) → holds z s ≡ b → (t : Bool) → eqb q s ≡ t

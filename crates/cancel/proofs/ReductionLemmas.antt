@@ -59,7 +59,8 @@ LeadsTo-push first now next entries e so_far fits once left = record {
     alone (suc k) d l = absurd (omega arith)
 
 -- what is left when a log breaks off
-pub LeadsTo_IsPartlyCancelled : (first now next : Slice) (entries : List LogEntry) → LeadsTo first now entries → next ≡ now
+pub LeadsTo_IsPartlyCancelled : (first now next : Slice) (entries : List LogEntry)
+    → LeadsTo first now entries → next ≡ now
     → IsPartlyCancelled first next
 LeadsTo_IsPartlyCancelled first now next entries so_far same = record {
   log = log_of entries;

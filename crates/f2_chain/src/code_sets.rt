@@ -13,7 +13,7 @@ pub struct CodeSet {
     list: Vec<u32>,
 }
 
-/// A finite set of states, by their ranks.
+/// A finite set of states, by their indices.
 pub type Chain = CodeSet;
 
 /// A finite set of states that pairs with chains.

@@ -1,4 +1,4 @@
-//! Chains over the field of two elements, as finite sets of codes. A code is the rank of a state.
+//! Chains over the field of two elements, as finite sets of codes. A code is the index of a state.
 //!
 //! Read `CodeSet` first; a `Builder` makes one from codes that come in any order, and any number of
 //! times. Contracts see both as chains (`f2_algebra`, specs/Chain.antt), and each answer is an equation

@@ -153,9 +153,27 @@ fn doubled_rotation_at(g: &Grid, c: u8) -> i32
     ensures low { neg_ℤ (pos 2) ≤ℤ result }
     ensures high { result ≤ℤ pos 2 }
 {
+    added_corners(g, c) - taken_corners(g, c)
+}
+
+// The corners of a column that count as 1: an NE corner at its X, an SW corner at its O.
+fn added_corners(g: &Grid, c: u8) -> i32
+    requires { c < size g.now }
+    ensures value { result ≡ one_if (is_north_east_x g.now c) +ℤ one_if (is_south_west_o g.now c) }
+    ensures low { pos 0 ≤ℤ result }
+    ensures high { result ≤ℤ pos 2 }
+{
     i32::from(is_north_east_at_x(g, c)) + i32::from(is_south_west_at_o(g, c))
-        - i32::from(is_north_east_at_o(g, c))
-        - i32::from(is_south_west_at_x(g, c))
+}
+
+// The corners of a column that count as -1: an NE corner at its O, an SW corner at its X.
+fn taken_corners(g: &Grid, c: u8) -> i32
+    requires { c < size g.now }
+    ensures value { result ≡ one_if (is_north_east_o g.now c) +ℤ one_if (is_south_west_x g.now c) }
+    ensures low { pos 0 ≤ℤ result }
+    ensures high { result ≤ℤ pos 2 }
+{
+    i32::from(is_north_east_at_o(g, c)) + i32::from(is_south_west_at_x(g, c))
 }
 
 fn is_north_east_at_x(g: &Grid, c: u8) -> bool

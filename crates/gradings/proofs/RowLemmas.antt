@@ -65,7 +65,8 @@ bit_at-shifted m w k j is small set =
 
 -- a bit that one of two sets has
 pub bit_at-either : (a b k : ℕ) → bit_at a k ≡ 1 → bit_at (bit_or a b) k ≡ 1
-bit_at-either a b k h = let e = bit_at_or a b k in let l = bit_at-lt b k in let m = most (bit_at a k) (bit_at b k) h l in
+bit_at-either a b k h = let e = bit_at_or a b k in let l = bit_at-lt b k in
+    let m = most (bit_at a k) (bit_at b k) h l in
     e ∙ m
   where
     most : (x y : ℕ) → x ≡ 1 → y < 2 → max x y ≡ 1

@@ -81,7 +81,8 @@ impl PossibleSums {
     #[inline]
     pub fn can_give(&self, used: usize, sum: i64) -> bool
         // It can if it is so for some state.
-        ensures complete { (z : List ℕ) (c : ℕ) → IsBijection (size self.now) z → c ≤ size self.now → rows_used c z ≡ used
+        ensures complete { (z : List ℕ) (c : ℕ) → IsBijection (size self.now) z → c ≤ size self.now
+            → rows_used c z ≡ used
             → sum +ℤ sum_before self.now c z ≡ sum_before self.now (size self.now) z → IsTrue result }
         ensures small { IsTrue result → (pos 0 ≤ℤ sum) × (sum ≤ℤ pos 127) }
     {

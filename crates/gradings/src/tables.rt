@@ -218,7 +218,9 @@ fn pairs(rows: &[u8]) -> i32
 fn table_sum(table: &[[u8; ROOM]; ROOM], rows: &[u8]) -> u32
     requires state { IsBijection (length rows.now) rows.now }
     requires room { length rows.now ≤ MAX_SIZE }
-    ensures value { pos result ≡ sum_below (length rows.now) (λ c. pos (slice_index (slice_index_or table.now c []) (slice_index rows.now c))) }
+    ensures value { pos result
+        ≡ sum_below (length rows.now) (λ c.
+        pos (slice_index (slice_index_or table.now c []) (slice_index rows.now c))) }
     ensures high { result ≤ 256 * MAX_SIZE }
 {
     let mut sum = 0;

@@ -38,8 +38,11 @@ rows_before sums (suc k) =
     )
     by rows put false e =
         let some : get_or sums k (pos 0) ≢ pos 0 =
-        λ none. false≢true (sym e ∙ (Decides-int_eq (get_or sums k (pos 0)) (pos 0)).1 none) in
-        (rows ++ new ∷ [], subst (λ n. ArePut sums n (rows ++ new ∷ [])) next (put_row sums k rows put new refl refl some))
+        λ none. false≢true (sym e ∙ (Decides-int_eq (get_or sums k (pos 0)) (pos 0)).1 none) in (
+          rows ++ new ∷ [],
+          subst (λ n. ArePut sums n (rows ++ new ∷ [])) next
+              (put_row sums k rows put new refl refl some),
+        )
 
 -- the rows of a function that is 0 at all great degrees
 exists_table : (f : ℤ → ℤ) → Vanishes f → (rows : List EulerRow) × IsTableOf f rows

@@ -68,7 +68,8 @@ number-below row s =
     let a_low = (place_at row.a (alexander_of_row-small row s)).1 in
     omega arith
 
-number-rises : (p q : TableRow) (s : IsSmall p) (t : IsSmall q) → stands_before (bidegree_of p) (bidegree_of q) ≡ true → number p s < number q t
+number-rises : (p q : TableRow) (s : IsSmall p) (t : IsSmall q) → stands_before (bidegree_of p) (bidegree_of q) ≡ true
+    → number p s < number q t
 unfolding number
 number-rises p q s t before = by (int_lt q.a p.a) refl
   where
@@ -98,7 +99,8 @@ number-rises p q s t before = by (int_lt q.a p.a) refl
         let m_q = (place_at q.m (maslov_of_row-small q t)).2 in
         let level : (place_at p.a (alexander_of_row-small p s)).0 ≡ (place_at q.a (alexander_of_row-small q t)).0 =
         omega (arith, ints) in
-        let lower : (place_at p.m (maslov_of_row-small p s)).0 < (place_at q.m (maslov_of_row-small q t)).0 = omega (arith, ints) in
+        let lower : (place_at p.m (maslov_of_row-small p s)).0 < (place_at q.m (maslov_of_row-small q t)).0 =
+        omega (arith, ints) in
         omega arith
 
 -- so there are few
@@ -153,7 +155,8 @@ small_more g k a is s before code l = elim (cases_eq code k) [
 pub euler_number-vanishes : (g : Marks) (k : ℕ) → k ≡ factorial (size g) → AreSmallBefore g k
     → Vanishes (euler_number g)
 euler_number-vanishes g k all small a far =
-    euler_number-codes g a ∙ sum_below_vanishes (factorial (size g)) _ (λ code l. ap (λ b. if b then signed (maslov_o g (unrank (size g) code)) 1
+    euler_number-codes g a ∙ sum_below_vanishes (factorial (size g)) _
+    (λ code l. ap (λ b. if b then signed (maslov_o g (unrank (size g) code)) 1
     else pos 0) (false_from_ne_true _ (λ t. off (alexander g (unrank (size g) code)) (small code (omega arith))
     ((Decides-int_eq (alexander g (unrank (size g) code)) a).0 t) far)))
   where

@@ -2,3 +2,4 @@ pub mod ReportLemmas
 pub mod ChainLemmas
 pub mod ClassLemmas
 pub mod HatLemmas
+pub mod ComponentLemmas

@@ -7,8 +7,8 @@
 --     shuffled n s        the list of 0 to n - 1 after these exchanges at all places but 0
 --     IsGridThrough cs rs g    the X of the i-th of these columns is in the i-th of these rows, and so is the O of
 --                              the next column; after the last comes the first
---     IsMadeScript n seed s    the script of this size and seed: its grid goes through the columns as the seed shuffles
---                              them, and through the rows as the numbers that follow do
+--     IsMadeScript n seed s    the script of this size and seed: it is of version 1, and its grid goes through the
+--                              columns as the seed shuffles them, and through the rows as the numbers that follow do
 use Rattle.std.specs.Prelude.{◌≡◌, ℕ, zero, suc, ◌+◌, ◌-◌, ◌*◌, ◌/◌, ◌%◌, ◌^◌, ◌<◌, List, [], ◌∷◌, length, slice_index}
 use Rattle.std.specs.List.{swap}
 use Rattle.state_rank.specs.Bijection.{ascending}
@@ -42,5 +42,6 @@ pub record IsGridThrough (cs rs : List ℕ) (g : Marks) : Type 0 where
   pub o : (i : ℕ) → i < length cs → slice_index g.o (slice_index cs (one_up (length cs) i)) ≡ slice_index rs i
 
 pub record IsMadeScript (n seed : ℕ) (s : GridScript) : Type 0 where
+  pub version : s.version ≡ 1
   pub grid : IsGridThrough (shuffled n seed) (shuffled n (number_after (n - 1) seed)) s.grid
   pub commands : s.commands ≡ Front ∷ Hat ∷ Class Plus ∷ Class Minus ∷ []

@@ -1,7 +1,7 @@
 //! The lines of verdicts, each with its evidence.
 ghost use Rattle.std.specs.Prelude.{◌≡◌, ◌++◌, length, IfOk, codes};
 ghost use Rattle.state_rank.specs.Bijection.{IsSize};
-ghost use Rattle.torus_geom.specs.Codes.{HasRanks, states_of};
+ghost use Rattle.torus_geom.specs.Codes.{HasIndices, states_of};
 ghost use Rattle.torus_geom.specs.Marks.{size};
 ghost use Rattle.text_lines.specs.Lines.{line as line_of, chain_line};
 ghost use Rattle.grid_job.specs.VerdictTexts.{class_state as class_state_of, verdict_line as verdict_line_of, IsClassText, IsBoundsText};
@@ -40,7 +40,7 @@ pub(crate) fn class_lines(alloc: Global, g: &Grid, sign: Sign) -> Result<Vec<u8>
 
 /// The lines of the verdict of the chain `z`, with its evidence.
 pub(crate) fn bounds_lines(alloc: Global, g: &Grid, z: &Chain) -> Result<Vec<u8>, NoMemory>
-    requires { HasRanks (size g.now) z.now }
+    requires { HasIndices (size g.now) z.now }
     ensures { IfOk result (λ text. IsBoundsText g.now (states_of (size g.now) z.now) text.items) }
 {
     let n = g.size();
@@ -94,7 +94,7 @@ pub(crate) fn with_set(
     z: &Chain,
 ) -> Result<Vec<u8>, NoMemory>
     requires size { IsSize n }
-    requires ranks { HasRanks n z.now }
+    requires indices { HasIndices n z.now }
     ensures { IfOk result (λ lines.
         lines.items ≡ text.items ++ line_of (chain_line word.now n (states_of n z.now))) }
 {

@@ -1,6 +1,6 @@
 //! The lines of the way there and back across a commutation.
 ghost use Rattle.std.specs.Prelude.{◌≡◌, ◌<◌, ◌++◌, IfOk, IsTrue, codes};
-ghost use Rattle.torus_geom.specs.Codes.{HasRanks, states_of};
+ghost use Rattle.torus_geom.specs.Codes.{HasIndices, states_of};
 ghost use Rattle.torus_geom.specs.Marks.{size};
 ghost use Rattle.grid_moves.specs.Moves.{are_commuting};
 ghost use Rattle.text_lines.specs.Lines.{line as line_of, chain_line};
@@ -27,7 +27,7 @@ pub(crate) fn invert_lines(
 ) -> Result<Vec<u8>, NoMemory>
     requires below { c < size g.now }
     requires commutes { IsTrue (are_commuting axis g.now c) }
-    requires ranks { HasRanks (size g.now) z.now }
+    requires indices { HasIndices (size g.now) z.now }
     ensures { IfOk result (λ text. text.items
         ≡ line_of (chain_line (codes "return") (size g.now) (return_image axis g.now c corner (states_of (size g.now) z.now)))
         ++ line_of (chain_line (codes "homotopy") (size g.now) (homotopy_of axis g.now c corner (states_of (size g.now) z.now)))) }
@@ -50,10 +50,10 @@ fn image_there_and_back(
 ) -> Result<Chain, NoMemory>
     requires below { c < size g.now }
     requires commutes { IsTrue (are_commuting axis g.now c) }
-    requires ranks { HasRanks (size g.now) z.now }
+    requires indices { HasIndices (size g.now) z.now }
     ensures image { IfOk result (λ y. states_of (size g.now) y
         ≡ return_image axis g.now c corner (states_of (size g.now) z.now)) }
-    ensures ranks_again { IfOk result (HasRanks (size g.now)) }
+    ensures indices_again { IfOk result (HasIndices (size g.now)) }
 {
     let there = image(alloc, g, axis, c, corner, z)?;
     image(alloc, &swap(g, axis, c), axis, c, corner, &there)

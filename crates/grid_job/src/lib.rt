@@ -4,8 +4,9 @@
 //! written a report of it, and when each other answer comes, with what was written until then. What a
 //! document and a report are is said in specs/, with no trace of how they are read and written.
 //! Stands on `grid_ports`, on `grid_text`, which judges texts, on `front_data`, `rectangles`, `homology_cert`,
-//! `hat_division`, `grid_euler` and `legendrian_class`, which answer the commands, and on `report_text`, which prints their
-//! answers. `homology_cert` makes, reads and checks certificates too. `clap` reads the options of `make`.
+//! `hat_division`, `multi_degree`, `grid_euler` and `legendrian_class`, which answer the commands, and on
+//! `report_text`, which prints their answers. `homology_cert` makes, reads and checks certificates too. `clap`
+//! reads the options of `make`.
 //!
 //! Example: the word `run` and the lines `grid 2`, `O 1 0`, `X 0 1`, `hat` and `end` write the lines
 //! `hat exponent 1 rows 1` and `rank 0 0 1`, and the answer is `Done`.
@@ -16,6 +17,7 @@ mod certificates;
 mod checks;
 mod classes;
 mod comparisons;
+mod components;
 mod euler_numbers;
 mod generator;
 mod hats;

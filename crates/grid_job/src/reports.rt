@@ -9,18 +9,19 @@ ghost use Rattle.torus_geom.specs.Chains.{single};
 ghost use Rattle.legendrian_class.specs.FollowedCodes.{followed_of};
 ghost use Rattle.torus_geom.specs.Marks.{size};
 ghost use Rattle.grid_text.specs.Commands.{IsAllowed};
-ghost use Rattle.grid_text.specs.Script.{AreAllowed};
+ghost use Rattle.grid_text.specs.Script.{AreAllowed, IsVersion};
 ghost use Rattle.grid_job.specs.InForce.{at_start};
 ghost use Rattle.grid_job.specs.Hat.{IsHatText};
-ghost use Rattle.grid_job.specs.Inner.Tables.{IsTableOf};
-ghost use Rattle.grid_job.specs.Report.{IsAnswer, AreAnswers, IsCorankText, IsTableText, IsEulerText};
+ghost use Rattle.grid_job.specs.Inner.Tables.{IsTableOf, AreTablesOf};
+ghost use Rattle.grid_job.specs.Report.{IsAnswer, AreAnswers, IsRanksText, IsHatTextIn, IsCorankText, IsTableText, IsEulerText};
 
 use crate::classes::{bounds_lines, class_lines};
+use crate::components::{component_hat_lines, component_table_lines};
 use crate::euler_numbers::euler_text;
 use crate::hats::hat_text;
 use crate::in_force::follow;
 use crate::inversions::invert_lines;
-use crate::tables::{forget_if_moved, make_table};
+use crate::tables::{Tables, forget_if_moved, make_table};
 use front_data::front;
 use grid_ports::{NoMemory, Sink, WriteFault, write_all};
 use grid_text::Command;
@@ -62,17 +63,19 @@ impl From<NoMemory> for ReportEnd {
     }
 }
 
-/// Writes a report of the commands on the grid. Where it ends early, a prefix of a report is written.
+/// Writes a report of the commands on the grid, in this version. Where it ends early, a prefix of a report is written.
 pub fn write_report<K: Sink>(
     alloc: Global,
+    version: u8,
     g: &Grid,
     commands: &[Command],
     out: &mut K,
 ) -> Result<(), ReportEnd>
+    requires version { IsVersion version }
     requires allowed { AreAllowed g.now commands.now }
-    ensures report { OnOk result ((text : List ℕ) × AreAnswers (at_start g.now) commands.now text
+    ensures report { OnOk result ((text : List ℕ) × AreAnswers version (at_start g.now) commands.now text
         × Appends (K.written out.old) (K.written out.new) text) }
-    ensures part { (text : List ℕ) × AreAnswers (at_start g.now) commands.now text
+    ensures part { (text : List ℕ) × AreAnswers version (at_start g.now) commands.now text
         × AppendsPrefix (K.written out.old) (K.written out.new) text }
     ensures fault { IsErrOf result ReportEnd.WriteFault
         → K.faults out.new ≡ count_up (K.faults out.old) }
@@ -81,33 +84,35 @@ pub fn write_report<K: Sink>(
 {
     let _ = g.size();
     let mut in_force = Follower::new(alloc, g);
-    let mut table = None;
+    let mut tables = Tables::none();
     for command in commands {
-        let text = answer_to(alloc, &in_force, &mut table, command)?;
+        let text = answer_to(alloc, version, &in_force, &mut tables, command)?;
         write_all(out, &text)?;
         follow(alloc, &mut in_force, command)?;
-        forget_if_moved(&mut table, command);
+        forget_if_moved(&mut tables, command);
     }
     Ok(())
 }
 
-// An answer to a command. A table that is made for it is kept in `table`.
+// An answer to a command. A table that is made for it is kept in `tables`.
 fn answer_to(
     alloc: Global,
+    version: u8,
     p: &Follower,
-    table: &mut Option<Table>,
+    tables: &mut Tables,
     command: &Command,
 ) -> Result<Vec<u8>, NoMemory>
+    requires version { IsVersion version }
     requires allowed { IsAllowed p.now.grid command.now }
-    requires table { IfSome table.old (IsTableOf p.now.grid) }
-    ensures answer { IfOk result (λ text. IsAnswer (followed_of p.now) command.now text.items) }
-    ensures table { IfSome table.new (IsTableOf p.now.grid) }
+    requires tables { AreTablesOf p.now.grid tables.old }
+    ensures answer { IfOk result (λ text. IsAnswer version (followed_of p.now) command.now text.items) }
+    ensures tables { AreTablesOf p.now.grid tables.new }
 {
     let g = p.grid();
     match command {
         Command::Front => front_line(alloc, &front(g)),
-        Command::Ranks => ranks_lines(alloc, g, table),
-        Command::Hat => hat_of(alloc, g, table),
+        Command::Ranks => ranks_lines(alloc, version, g, tables),
+        Command::Hat => hat_of(alloc, version, g, tables),
         Command::Border(state) => border_line(alloc, g, state),
         Command::Class(sign) => class_lines(alloc, g, *sign),
         Command::Show => set_line(alloc, "chain", g.size(), p.chain()),
@@ -120,12 +125,35 @@ fn answer_to(
         | Command::Destab(_, _, _)
         | Command::Symm(_) => Ok(Vec::new(alloc)),
         Command::Coranks => coranks_lines(alloc, g),
-        Command::Euler => euler_of(alloc, g, table),
+        Command::Euler => euler_of(alloc, g, &mut tables.whole),
     }
 }
 
-// The lines of the table of ranks.
-fn ranks_lines(alloc: Global, g: &Grid, table: &mut Option<Table>) -> Result<Vec<u8>, NoMemory>
+// The lines of the table of ranks in this version.
+fn ranks_lines(
+    alloc: Global,
+    version: u8,
+    g: &Grid,
+    tables: &mut Tables,
+) -> Result<Vec<u8>, NoMemory>
+    requires version { IsVersion version }
+    requires tables { AreTablesOf g.now tables.old }
+    ensures lines { IfOk result (λ text. IsRanksText version g.now text.items) }
+    ensures tables { AreTablesOf g.now tables.new }
+{
+    if version == 2 {
+        component_table_lines(alloc, g, &mut tables.by_component)
+    } else {
+        whole_table_lines(alloc, g, &mut tables.whole)
+    }
+}
+
+// The lines of the table of ranks by Alexander degree.
+fn whole_table_lines(
+    alloc: Global,
+    g: &Grid,
+    table: &mut Option<Table>,
+) -> Result<Vec<u8>, NoMemory>
     requires { IfSome table.old (IsTableOf g.now) }
     ensures lines { IfOk result (λ text. IsTableText g.now text.items) }
     ensures table { IfSome table.new (IsTableOf g.now) }
@@ -145,8 +173,22 @@ fn coranks_lines(alloc: Global, g: &Grid) -> Result<Vec<u8>, NoMemory>
     corank_lines(alloc, &table)
 }
 
-// The lines of the hat.
-fn hat_of(alloc: Global, g: &Grid, table: &mut Option<Table>) -> Result<Vec<u8>, NoMemory>
+// The lines of the hat in this version.
+fn hat_of(alloc: Global, version: u8, g: &Grid, tables: &mut Tables) -> Result<Vec<u8>, NoMemory>
+    requires version { IsVersion version }
+    requires tables { AreTablesOf g.now tables.old }
+    ensures lines { IfOk result (λ text. IsHatTextIn version g.now text.items) }
+    ensures tables { AreTablesOf g.now tables.new }
+{
+    if version == 2 {
+        component_hat_lines(alloc, g, &mut tables.by_component)
+    } else {
+        whole_hat_lines(alloc, g, &mut tables.whole)
+    }
+}
+
+// The lines of the hat by Alexander degree.
+fn whole_hat_lines(alloc: Global, g: &Grid, table: &mut Option<Table>) -> Result<Vec<u8>, NoMemory>
     requires { IfSome table.old (IsTableOf g.now) }
     ensures lines { IfOk result (λ text. IsHatText g.now text.items) }
     ensures table { IfSome table.new (IsTableOf g.now) }

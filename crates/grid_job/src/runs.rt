@@ -61,7 +61,13 @@ fn answer_script<K: Sink>(alloc: Global, script: &Script, out: &mut K) -> Status
         (λ status answer. (status ≡ Status.Done) × IsReport script.now answer) result
         (K.faults out.old) (K.faults out.new) (K.written out.old) (K.written out.new) }
 {
-    match write_report(alloc, script.grid(), script.commands(), out) {
+    match write_report(
+        alloc,
+        script.version(),
+        script.grid(),
+        script.commands(),
+        out,
+    ) {
         Ok(()) => Status::Done,
         Err(ReportEnd::WriteFault) => Status::WriteFault,
         Err(ReportEnd::NoMemory) => Status::NoMemory,

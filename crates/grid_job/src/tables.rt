@@ -1,15 +1,34 @@
-//! The table of the grid in force, which is made once.
+//! The tables of the grid in force, each of which is made once.
 ghost use Rattle.std.specs.Prelude.{IfOk, IfSome, IsSome, OnOk};
 ghost use Rattle.grid_text.specs.Commands.{grid_after};
 ghost use Rattle.torus_geom.specs.Marks.{Marks};
-ghost use Rattle.grid_job.specs.Inner.Tables.{IsTableOf};
+ghost use Rattle.grid_job.specs.Inner.Tables.{IsTableOf, IsComponentTableOf, AreTablesOf};
 
 use grid_ports::NoMemory;
 use grid_text::Command;
-use hat_division::Table;
-use homology_cert::rank_table;
+use hat_division::{MultiTable, Table};
+use homology_cert::{rank_table, rank_table_multi};
 use std::alloc::Global;
 use torus_geom::Grid;
+
+/// The table of the grid in force, and its table by component, where they were made.
+#[derive(Drop)]
+pub(crate) struct Tables {
+    pub(crate) whole: Option<Table>,
+    pub(crate) by_component: Option<MultiTable>,
+}
+
+impl Tables {
+    /// None was made.
+    pub(crate) fn none() -> Tables
+        ensures { (g : Marks) → AreTablesOf g result }
+    {
+        Tables {
+            whole: None,
+            by_component: None,
+        }
+    }
+}
 
 /// Makes the table of the grid, if there is none yet.
 pub(crate) fn make_table(alloc: Global, g: &Grid, table: &mut Option<Table>) -> Result<(), NoMemory>
@@ -30,10 +49,33 @@ pub(crate) fn table_of(alloc: Global, g: &Grid) -> Result<Table, NoMemory>
     rank_table(alloc, g)
 }
 
-/// Drops the table where the command has moved its grid.
-pub(crate) fn forget_if_moved(table: &mut Option<Table>, command: &Command)
-    ensures { (g : Marks) → IfSome table.old (IsTableOf g)
-        → IfSome table.new (IsTableOf (grid_after g command.now)) }
+/// Makes the table of the grid by component, if there is none yet.
+pub(crate) fn make_component_table(
+    alloc: Global,
+    g: &Grid,
+    table: &mut Option<MultiTable>,
+) -> Result<(), NoMemory>
+    requires { IfSome table.old (IsComponentTableOf g.now) }
+    ensures made { OnOk result (IsSome table.new) }
+    ensures table { IfSome table.new (IsComponentTableOf g.now) }
+{
+    if table.is_none() {
+        *table = Some(component_table_of(alloc, g)?);
+    }
+    Ok(())
+}
+
+// The table of the grid by component.
+fn component_table_of(alloc: Global, g: &Grid) -> Result<MultiTable, NoMemory>
+    ensures { IfOk result (IsComponentTableOf g.now) }
+{
+    rank_table_multi(alloc, g)
+}
+
+/// Drops the tables where the command has moved their grid.
+pub(crate) fn forget_if_moved(tables: &mut Tables, command: &Command)
+    ensures { (g : Marks) → AreTablesOf g tables.old
+        → AreTablesOf (grid_after g command.now) tables.new }
 {
     if let Command::Turn(_)
     | Command::Commute(_, _, _)
@@ -41,6 +83,6 @@ pub(crate) fn forget_if_moved(table: &mut Option<Table>, command: &Command)
     | Command::Destab(_, _, _)
     | Command::Symm(_) = command
     {
-        *table = None;
+        *tables = Tables::none();
     }
 }

@@ -112,6 +112,45 @@ $ compare
 > class + alive alive same
 > class - alive alive same
 
+# the grid in force after the commands, which is not that of the head: here the mirror image of a trefoil
+$ compare
+< grid 5
+< O 0 1 2 3 4
+< X 2 3 4 0 1
+< mirror
+< end
+< next
+< grid 5
+< O 0 1 2 3 4
+< X 2 3 4 0 1
+< end
+> tb -6 1 different
+> rot 1 0 different
+> table different
+> hat different
+> class + null alive different
+> class - null alive different
+
+# and here a stabilised and turned grid of the unknot
+$ compare
+< grid 2
+< O 1 0
+< X 0 1
+< end
+< next
+< grid 2
+< O 1 0
+< X 0 1
+< stab 0 ne
+< turn up
+< end
+> tb -1 -2 different
+> rot 0 1 different
+> table different
+> hat same
+> class + alive null different
+> class - alive alive same
+
 $ compare
 < grid 2
 < O 1 0

@@ -4,13 +4,16 @@
 //! that a further row is no more to prove. What the rows want was worked out by hand from docs/FORMATS.md and
 //! docs/DEFINITIONS.md, or computed by another program from these, and never by this one.
 //! There is nothing but tests here. They stand on `grid_job`, whose top call they make, on `grid_ports`, whose sources
-//! and sinks hold bytes in memory, and on `state_rank` for the words of many states.
+//! and sinks hold bytes in memory, and on `state_rank` for the words of many states. Two tests of `targets.rt` make
+//! calls of `pentagon_map` and `hexagon_map`, which no command makes.
 #![tactic(auto)]
 
 #[cfg(test)]
 mod certificates;
 #[cfg(test)]
 mod comparisons;
+#[cfg(test)]
+mod components;
 #[cfg(test)]
 mod failing;
 #[cfg(test)]
@@ -29,6 +32,8 @@ mod reports;
 mod rows;
 #[cfg(test)]
 mod stabilisations;
+#[cfg(test)]
+mod targets;
 #[cfg(test)]
 mod tests;
 #[cfg(test)]

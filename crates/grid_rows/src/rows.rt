@@ -158,7 +158,8 @@ fn number(word: &str) -> Result<u64, Fail> {
 // A word, a size and a number: the word and the first states of this size, so many.
 fn states(alloc: Global, rest: &str, is_turned: bool) -> Result<String, Fail> {
     let mut words = rest.split_whitespace();
-    let mut line = String::from_str(alloc, words.next().ok_or("a word")?)?;
+    let mut line = Vec::new(alloc);
+    line.extend_from_slice(words.next().ok_or("a word")?.as_bytes())?;
     let size = number(words.next().ok_or("a size")?)?;
     let count = number(words.next().ok_or("a number")?)?;
     if size < 2 || size > 9 {
@@ -168,18 +169,11 @@ fn states(alloc: Global, rest: &str, is_turned: bool) -> Result<String, Fail> {
     for place in 0..count {
         let code = if is_turned { count - 1 - place } else { place };
         if code < u64::from(state_count(n)) {
-            line.push(' ')?;
-            push_state(&mut line, &State::unrank(n, code as u32))?;
+            line.push(b' ')?;
+            State::unrank(n, code as u32).push_word(&mut line)?;
         }
     }
-    Ok(line)
-}
-
-fn push_state(line: &mut String, x: &State) -> Result<(), Fail> {
-    for row in x.rows() {
-        line.push(char::from(b'0'.saturating_add(*row)))?;
-    }
-    Ok(())
+    Ok(String::from_utf8(line).ok().ok_or("a text")?)
 }
 
 // The exit status of the last call of a row, and what it wrote.

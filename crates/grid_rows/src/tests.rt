@@ -1,6 +1,7 @@
 //! One test for each table.
 use crate::certificates::{CERTIFIED, CHECKED};
 use crate::comparisons::{COMPARISONS, EULER_NUMBERS};
+use crate::components::COMPONENTS;
 use crate::failing::FAILING;
 use crate::knots::{KNOTS, KNOTS_OF_NINE_1, KNOTS_OF_NINE_2, KNOTS_OF_NINE_3, KNOTS_OF_NINE_4};
 use crate::large::{
@@ -19,6 +20,11 @@ use std::test::Fail;
 #[test]
 fn reports(rt: HostRuntime) -> Result<(), Fail> {
     try_rows(&rt, REPORTS)
+}
+
+#[test]
+fn components(rt: HostRuntime) -> Result<(), Fail> {
+    try_rows(&rt, COMPONENTS)
 }
 
 #[test]

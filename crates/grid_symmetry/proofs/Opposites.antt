@@ -114,7 +114,8 @@ module _ (n : ℕ) where
   pub is_between-opposite : (a b c : ℕ) → a < n → b < n → c < n
       → is_between (opposite n b) (opposite n a) (opposite n c) ≡ is_between a b c
   is_between-opposite a b c la lb lc =
-      (λ i. ((leb-not_ltb (opposite n b) (opposite n c) i ⊻ leb-not_ltb (opposite n a) (opposite n c) i) ⊻ ltb-opposite a b
+      (λ i. ((leb-not_ltb (opposite n b) (opposite n c) i ⊻ leb-not_ltb (opposite n a) (opposite n c) i)
+      ⊻ ltb-opposite a b
       la lb i) && not (alike i))
       ∙ (λ i. ((not (ltb-opposite c b lc lb i) ⊻ not (ltb-opposite c a lc la i)) ⊻ ((ltb b a ⊻ eqb a 0) ⊻ eqb b 0))
       && not (eqb c b))

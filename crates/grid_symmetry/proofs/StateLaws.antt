@@ -18,18 +18,18 @@ use Rattle.torus_geom.specs.Rectangle.{is_empty, is_same, leads}
 use Rattle.torus_geom.specs.Transposed.{transposed}
 use Rattle.torus_geom.specs.declared.rects.Rect.{Rect}
 use Rattle.torus_geom.proofs.Chains.ChainLemmas.{Contains-members, member_of_members, same_states}
-use Rattle.torus_geom.proofs.Chains.CodesLemmas.{AreRanks, by_ranks}
-use Rattle.torus_geom.proofs.Chains.ReachedLemmas.{IsChain-border, AreRanks-border, states_of-border, states_of-border_at}
+use Rattle.torus_geom.proofs.Chains.CodesLemmas.{AreIndices, by_indices}
+use Rattle.torus_geom.proofs.Chains.ReachedLemmas.{IsChain-border, AreIndices-border, states_of-border, states_of-border_at}
 use Rattle.torus_geom.proofs.Chains.StateTests.{any-member, is_same-refl, is_same-true, member_of_any}
 use Rattle.torus_geom.proofs.TransposeLemmas.{IsGrid-transposed, IsBijection-transposed}
 use Rattle.rectangles.specs.Coranks.{coborder}
 use Rattle.rectangles.specs.Inner.CodeCoranks as code_coranks
-use Rattle.rectangles.proofs.Homology.CorankLemmas.{AreRanks-coborder, states_of-coborder}
+use Rattle.rectangles.proofs.Homology.CorankLemmas.{AreIndices-coborder, states_of-coborder}
 use Rattle.rectangles.proofs.Homology.HomologyLemmas.{homology_rank-states}
 use Rattle.grid_moves.specs.Inner.CodeCarried as over_codes
 use Rattle.grid_moves.proofs.Exchanged.TransposedGrids.{size-transposed, transpose-transpose, transposed-transposed}
 use Rattle.grid_moves.proofs.Turned.CarriedChains.{AreInverse}
-use Rattle.grid_moves.proofs.Turned.CarriedStates.{AreRanks-carried, states_of-carried}
+use Rattle.grid_moves.proofs.Turned.CarriedStates.{AreIndices-carried, states_of-carried}
 use Rattle.pentagon_map.proofs.Degrees.KeptDegrees.{components-transposed}
 use Rattle.grid_symmetry.specs.Symmetries.{half_turned, marks_exchanged, reflected, reflected_state, symmetric, symmetric_chain, symmetric_state}
 use Rattle.grid_symmetry.specs.declared.symmetries.Symmetry.{Symmetry}
@@ -42,20 +42,21 @@ use Rattle.grid_symmetry.proofs.Reflecting.{IsBijection-reflected_state, IsGrid-
 use Rattle.grid_symmetry.proofs.TransposedLaws.{rank-transposed, transposed_CarriesSteps}
 
 -- ---- borders
--- what holds of each set of ranks holds of each chain: the border of the carried chain is that of another map, carried
+-- what holds of each set of indices holds of each chain: the border of the carried chain is that of another map,
+-- carried
 module _ (g h : Marks) (f : List ℕ → List ℕ) (same_size : size h ≡ size g)
     (keeps : (x : List ℕ) → IsBijection (size g) x → IsBijection (size g) (f x)) (on_codes : Codes → Codes)
-    (on_chains : Chain → Chain) (below : (z : Codes) → AreRanks (size g) (on_codes z))
-    (stands : (z : Codes) → AreRanks (size g) z → states_of (size g) (on_codes z) ≡ on_chains (states_of (size g) z))
+    (on_chains : Chain → Chain) (below : (z : Codes) → AreIndices (size g) (on_codes z))
+    (stands : (z : Codes) → AreIndices (size g) z → states_of (size g) (on_codes z) ≡ on_chains (states_of (size g) z))
     (law : (z : Codes) → code_border.border h (over_codes.carried (size g) f z)
     ≡ over_codes.carried (size g) f (on_codes z)) where
   border-carried_chain : (z : Chain) → IsChain (size g) z
       → border h (carried (size g) f z) ≡ carried (size g) f (on_chains z)
   border-carried_chain =
-      by_ranks (size g) (λ z. border h (carried (size g) f z) ≡ carried (size g) f (on_chains z)) (λ z ranks.
+      by_indices (size g) (λ z. border h (carried (size g) f z) ≡ carried (size g) f (on_chains z)) (λ z ranks.
       ap (border h) (sym (states_of-carried (size g) f keeps z ranks))
       ∙ sym (states_of-border_at h (size g) same_size (over_codes.carried (size g) f z)
-      (AreRanks-carried (size g) f keeps z ranks))
+      (AreIndices-carried (size g) f keeps z ranks))
       ∙ ap (states_of (size g)) (law z)
       ∙ states_of-carried (size g) f keeps (on_codes z) (below z)
       ∙ ap (carried (size g) f) (stands z ranks))
@@ -64,14 +65,14 @@ module _ (g h : Marks) (f : List ℕ → List ℕ) (same_size : size h ≡ size 
 border_of_carried : (g h : Marks) (f : List ℕ → List ℕ) → CarriesSteps g h f → (z : Chain) → IsChain (size g) z
     → border h (carried (size g) f z) ≡ carried (size g) f (border g z)
 border_of_carried g h f c =
-    border-carried_chain g h f c.same_size c.inverse.kept (code_border.border g) (border g) (AreRanks-border g)
+    border-carried_chain g h f c.same_size c.inverse.kept (code_border.border g) (border g) (AreIndices-border g)
     (states_of-border g) (border-carried g h f c)
 
 -- where they are turned round, the coborder does
 coborder_of_carried : (g h : Marks) (f : List ℕ → List ℕ) → ReversesSteps g h f → (z : Chain) → IsChain (size g) z
     → border h (carried (size g) f z) ≡ carried (size g) f (coborder g z)
 coborder_of_carried g h f c =
-    border-carried_chain g h f c.same_size c.inverse.kept (code_coranks.coborder g) (coborder g) (AreRanks-coborder g)
+    border-carried_chain g h f c.same_size c.inverse.kept (code_coranks.coborder g) (coborder g) (AreIndices-coborder g)
     (states_of-coborder g) (border-reversed g h f c)
 
 -- a chain of states is carried to itself where each state stays

@@ -128,9 +128,9 @@ form_among [] word = None
 form_among (row ∷ rows) word = if is_word row.0 word then Some row.1 else form_among rows word
 
 abbrev pub form_at : Place → Word → Option Form
-form_at head word = form_among ((grid_word, size_form) ∷ (picture_word, size_form) ∷ []) word
-form_at (o_line n) word = form_among ((o_word, row_form n) ∷ []) word
-form_at (x_line n o) word = form_among ((x_word, row_form n) ∷ []) word
+form_at head word = form_among ((grid_word 1, size_form) ∷ (grid_word 2, size_form) ∷ (picture_word, size_form) ∷ []) word
+form_at (o_line v n) word = form_among ((o_word, row_form n) ∷ []) word
+form_at (x_line v n o) word = form_among ((x_word, row_form n) ∷ []) word
 form_at (picture n o x) word = Some (exactly (replicate n (choice_of symbol_words)))
 form_at (body s) word = form_among (body_forms (size (grid_in_force s))) word
 form_at (ended s) word = None
@@ -166,14 +166,14 @@ abbrev pub stands_in : List ℕ → Word → List Word → Bool
 stands_in columns word arguments = list_any (λ c. is_word word (slice_index_or arguments c [])) columns
 
 abbrev pub is_not_permutation : Place → List Word → Bool
-is_not_permutation (o_line n) arguments = has_repeated arguments
-is_not_permutation (x_line n o) arguments = has_repeated arguments
+is_not_permutation (o_line v n) arguments = has_repeated arguments
+is_not_permutation (x_line v n o) arguments = has_repeated arguments
 is_not_permutation (picture n o x) arguments = not (stands_once o_word arguments)
     || not (stands_once x_word arguments) || stands_in o o_word arguments || stands_in x x_word arguments
 is_not_permutation p arguments = false
 
 abbrev pub has_same_square : Place → List Word → Bool
-has_same_square (x_line n o) arguments = list_any (λ (a : ℕ × Word). is_word (decimal a.0) a.1) (zip o arguments)
+has_same_square (x_line v n o) arguments = list_any (λ (a : ℕ × Word). is_word (decimal a.0) a.1) (zip o arguments)
 has_same_square p arguments = false
 
 abbrev pub has_repeated_state : Form → List Word → Bool

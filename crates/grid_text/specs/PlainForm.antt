@@ -3,7 +3,7 @@
 --     after_space words    each word after a space
 --     line_of words        the bytes of a line with these words
 --     command_line c       the line of a command
---     head_lines g         the lines of the head of the grid g
+--     head_lines v g       the lines of the head of a document of this version, with the grid g
 --     plain_form s         the text
 use Rattle.std.specs.Prelude.{ℕ, List, [], ◌∷◌, ◌++◌, map}
 use Rattle.std.specs.List.{flat_map}
@@ -25,9 +25,9 @@ line_of (word ∷ words) = word ++ after_space words ++ 10 ∷ []
 abbrev pub command_line : Command → List ℕ
 command_line c = line_of (command_words c)
 
-abbrev pub head_lines : Marks → List ℕ
-head_lines g = line_of (grid_word ∷ decimal (size g) ∷ []) ++ line_of (o_word ∷ map decimal g.o)
+abbrev pub head_lines : ℕ → Marks → List ℕ
+head_lines v g = line_of (grid_word v ∷ decimal (size g) ∷ []) ++ line_of (o_word ∷ map decimal g.o)
     ++ line_of (x_word ∷ map decimal g.x)
 
 unfoldable pub plain_form : GridScript → List ℕ
-plain_form s = head_lines s.grid ++ flat_map command_line s.commands ++ line_of (end_word ∷ [])
+plain_form s = head_lines s.version s.grid ++ flat_map command_line s.commands ++ line_of (end_word ∷ [])

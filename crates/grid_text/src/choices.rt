@@ -1,8 +1,9 @@
 //! The words for choices.
-ghost use Rattle.std.specs.Prelude.{◌≡◌};
+ghost use Rattle.std.specs.Prelude.{◌≡◌, ◌≤◌, length};
 ghost use Rattle.std.specs.List.{find};
 ghost use Rattle.grid_text.specs.Words.{is_word as is_word_of};
 ghost use Rattle.grid_text.specs.Commands.{sign_word, signs, side_word, sides, corner_word, corners, square_word, squares, axis_word, axes};
+ghost use Rattle.grid_text.specs.Document.{grid_word};
 
 use crate::commands::Sign;
 use crate::words::is_word;
@@ -125,5 +126,16 @@ pub(crate) fn axis_text(axis: Axis) -> &'static [u8]
     match axis {
         Axis::Cols => b"cols",
         Axis::Rows => b"rows",
+    }
+}
+
+/// The word that begins the number form of a head of a version.
+pub(crate) fn version_text(version: u8) -> &'static [u8]
+    ensures word { result.now ≡ grid_word version }
+    ensures few { length result.now ≤ 5 }
+{
+    match version {
+        2 => b"grid2",
+        _ => b"grid",
     }
 }

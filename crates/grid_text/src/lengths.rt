@@ -5,7 +5,7 @@ ghost use Rattle.grid_text.specs.Commands.{argument_word, command_row};
 ghost use Rattle.grid_text.specs.PlainForm.{after_space, command_line, head_lines, plain_form};
 ghost use Rattle.std.specs.Fmt.{decimal};
 
-use crate::choices::{axis_text, corner_text, side_text, sign_text, square_text};
+use crate::choices::{axis_text, corner_text, side_text, sign_text, square_text, version_text};
 use crate::commands::Command;
 use crate::keywords::{keyword_of, keyword_text};
 use crate::scripts::Script;
@@ -17,7 +17,7 @@ use torus_geom::Grid;
 pub fn print_len(s: &Script) -> u128
     ensures { result ≡ length (plain_form s.now) }
 {
-    let mut count = head_len(s.grid());
+    let mut count = head_len(s.version(), s.grid());
     for command in s.commands() {
         count += command_len(command);
     }
@@ -25,11 +25,12 @@ pub fn print_len(s: &Script) -> u128
 }
 
 // The number of bytes of the lines of the head.
-fn head_len(g: &Grid) -> u128
-    ensures exact { result ≡ length (head_lines g.now) }
+fn head_len(version: u8, g: &Grid) -> u128
+    ensures exact { result ≡ length (head_lines version g.now) }
     ensures few { result ≤ 1000 }
 {
-    10 + number_len(g.size()) + numbers_len(g.o_rows()) + numbers_len(g.x_rows())
+    let first = version_text(version).len() as u128 + 1 + number_len(g.size());
+    first + 5 + numbers_len(g.o_rows()) + numbers_len(g.x_rows())
 }
 
 // The number of bytes of the line of a command.

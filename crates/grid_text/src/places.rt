@@ -4,8 +4,9 @@ ghost use Rattle.std.specs.List.{list_any};
 ghost use Rattle.std.specs.Fmt.{decimal};
 ghost use Rattle.state_rank.specs.Bijection.{IsSize, IsBijection};
 ghost use Rattle.grid_text.specs.Words.{Word, is_blank};
+ghost use Rattle.grid_text.specs.Script.{IsVersion};
 ghost use Rattle.grid_text.specs.Picture.{FitsRow};
-ghost use Rattle.grid_text.specs.Document.{Place as PlaceOf, head, o_line, x_line, picture as picture_at, body, below_row as below};
+ghost use Rattle.grid_text.specs.Document.{Place as PlaceOf, grid_word, head, o_line, x_line, picture as picture_at, body, below_row as below};
 ghost use Rattle.grid_text.specs.Faults.{form_at, size_form, fault_in_table, number_between};
 ghost use Rattle.grid_text.specs.Inner.Kinds.{is_bad};
 ghost use Rattle.grid_text.specs.Inner.Reading.{IsPlace, IsRowPlace, AreNumerals};
@@ -27,10 +28,10 @@ use torus_geom::Grid;
 pub(crate) enum Place {
     /// At the head.
     Head,
-    /// At the O line of a grid of this size.
-    OLine(u8),
-    /// At the X line of a grid whose O are in these rows.
-    XLine(State),
+    /// At the O line of a document of this version, with a grid of this size.
+    OLine { version: u8, size: u8 },
+    /// At the X line of a document of this version, with a grid whose O are in these rows.
+    XLine { version: u8, o: State },
     /// In a picture.
     Picture(Picture),
     /// In the body.
@@ -51,8 +52,8 @@ pub(crate) fn next_place(
 {
     match place {
         Place::Head => Ok(read_head(words)),
-        Place::OLine(n) => Ok(read_o_line(n, words)),
-        Place::XLine(o) => Ok(read_x_line(alloc, &o, words)),
+        Place::OLine { version, size } => Ok(read_o_line(version, size, words)),
+        Place::XLine { version, o } => Ok(read_x_line(alloc, version, &o, words)),
         Place::Picture(picture) => read_picture_row(alloc, picture, words),
         Place::Body(script) => read_body_line(alloc, script, words),
         Place::Ended(_) => Ok(Err(TextFault::AfterEnd)),
@@ -69,11 +70,22 @@ fn read_head(words: &[&[u8]]) -> Result<Place, TextFault>
             Err(fault) => Err(fault),
         };
     }
+    if let Some(arguments) = words_after(b"grid2", words) {
+        return at_o_line(2, arguments);
+    }
     let Some(arguments) = words_after(b"grid", words) else {
         return Err(TextFault::BadWord);
     };
+    at_o_line(1, arguments)
+}
+
+// The place after the first line of the number form of a head of this version, whose words after the first these are.
+fn at_o_line(version: u8, arguments: &[&[u8]]) -> Result<Place, TextFault>
+    requires { IsVersion version }
+    ensures { IsNextOn head (grid_word version ∷ map (λ w. w.now) arguments.now) result }
+{
     match read_size(arguments) {
-        Ok(n) => Ok(Place::OLine(n)),
+        Ok(size) => Ok(Place::OLine { version, size }),
         Err(fault) => Err(fault),
     }
 }
@@ -94,26 +106,28 @@ fn read_size(arguments: &[&[u8]]) -> Result<u8, TextFault>
 }
 
 // The place after an O line.
-fn read_o_line(n: u8, words: &[&[u8]]) -> Result<Place, TextFault>
-    requires { IsSize n }
-    ensures { IsNextOn (o_line n) (map (λ w. w.now) words.now) result }
+fn read_o_line(version: u8, n: u8, words: &[&[u8]]) -> Result<Place, TextFault>
+    requires version { IsVersion version }
+    requires size { IsSize n }
+    ensures { IsNextOn (o_line version n) (map (λ w. w.now) words.now) result }
 {
     match read_rows(b"O", n, words) {
-        Ok(o) => Ok(Place::XLine(o)),
+        Ok(o) => Ok(Place::XLine { version, o }),
         Err(fault) => Err(fault),
     }
 }
 
 // The place after an X line.
-fn read_x_line(alloc: Global, o: &State, words: &[&[u8]]) -> Result<Place, TextFault>
-    ensures { IsNextOn (x_line (length o.now) o.now) (map (λ w. w.now) words.now) result }
+fn read_x_line(alloc: Global, version: u8, o: &State, words: &[&[u8]]) -> Result<Place, TextFault>
+    requires { IsVersion version }
+    ensures { IsNextOn (x_line version (length o.now) o.now) (map (λ w. w.now) words.now) result }
 {
     let x = match read_rows(b"X", o.size(), words) {
         Ok(x) => x,
         Err(fault) => return Err(fault),
     };
     match Grid::of(o.rows(), x.rows()) {
-        Ok(grid) => Ok(Place::Body(Script::new(alloc, &grid))),
+        Ok(grid) => Ok(Place::Body(Script::of_version(alloc, version, &grid))),
         Err(_) => Err(TextFault::SameSquare),
     }
 }

@@ -1,15 +1,15 @@
 //! The plain form of scripts.
-ghost use Rattle.std.specs.Prelude.{◌≡◌, ◌∷◌, ◌++◌, map, IfOk, OnOk};
+ghost use Rattle.std.specs.Prelude.{◌≡◌, [], ◌∷◌, ◌++◌, map, IfOk, OnOk};
 ghost use Rattle.std.specs.List.{flat_map};
 ghost use Rattle.std.specs.Fmt.{decimal};
 ghost use Rattle.state_rank.specs.States.{state_word};
 ghost use Rattle.torus_geom.specs.Marks.{Marks};
 ghost use Rattle.grid_text.specs.Commands.{axis_word, corner_word, square_word, argument_word, command_row};
-ghost use Rattle.grid_text.specs.PlainForm.{after_space, command_line, head_lines, plain_form};
+ghost use Rattle.grid_text.specs.PlainForm.{after_space, line_of, command_line, head_lines, plain_form};
 ghost use Rattle.grid_text.specs.Script.{GridScript, IsScript};
-ghost use Rattle.grid_text.specs.Document.{IsDocument};
+ghost use Rattle.grid_text.specs.Document.{grid_word, IsDocument};
 
-use crate::choices::{axis_text, corner_text, side_text, sign_text, square_text};
+use crate::choices::{axis_text, corner_text, side_text, sign_text, square_text, version_text};
 use crate::commands::Command;
 use crate::keywords::{keyword_of, keyword_text};
 use crate::scripts::Script;
@@ -43,7 +43,7 @@ fn print_lines(alloc: Global, s: &Script) -> Result<Vec<u8>, NoMemory>
     ensures { IfOk result (λ text. text.items ≡ plain_form s.now) }
 {
     let mut text = Vec::new(alloc);
-    push_head(&mut text, s.grid())?;
+    push_head(&mut text, s.version(), s.grid())?;
     for command in s.commands() {
         push_command(&mut text, command)?;
     }
@@ -52,15 +52,25 @@ fn print_lines(alloc: Global, s: &Script) -> Result<Vec<u8>, NoMemory>
 }
 
 // Appends the lines of the head.
-fn push_head(text: &mut Vec<u8>, g: &Grid) -> Result<(), NoMemory>
-    ensures { OnOk result (text.new.items ≡ text.old.items ++ head_lines g.now) }
+fn push_head(text: &mut Vec<u8>, version: u8, g: &Grid) -> Result<(), NoMemory>
+    ensures { OnOk result (text.new.items ≡ text.old.items ++ head_lines version g.now) }
 {
-    push(text, b"grid ")?;
-    push_number(text, g.size())?;
-    push(text, b"\nO")?;
+    push_size(text, version, g.size())?;
+    push(text, b"O")?;
     push_numbers(text, g.o_rows())?;
     push(text, b"\nX")?;
     push_numbers(text, g.x_rows())?;
+    push(text, b"\n")
+}
+
+// Appends the first line of the head.
+fn push_size(text: &mut Vec<u8>, version: u8, n: u8) -> Result<(), NoMemory>
+    ensures { OnOk result
+        (text.new.items ≡ text.old.items ++ line_of (grid_word version ∷ decimal n ∷ [])) }
+{
+    push(text, version_text(version))?;
+    push(text, b" ")?;
+    push_number(text, n)?;
     push(text, b"\n")
 }
 

@@ -1,9 +1,9 @@
-//! Scripts: a grid and the commands that are carried out on it.
+//! Scripts: a version, a grid and the commands that are carried out on it.
 ghost use Rattle.std.specs.Prelude.{◌≡◌, ◌<◌, [], length, OnOk, OnErr};
 ghost use Rattle.torus_geom.specs.Marks.{IsGrid};
 ghost use Rattle.grid_text.specs.Limits.{max_commands};
 ghost use Rattle.grid_text.specs.Commands.{IsAllowed, grid_after as grid_after_command};
-ghost use Rattle.grid_text.specs.Script.{GridScript, IsScript, grid_in_force, with_command};
+ghost use Rattle.grid_text.specs.Script.{GridScript, IsVersion, IsScript, grid_in_force, with_command};
 
 use crate::commands::Command;
 use grid_moves::{swap, turn};
@@ -14,12 +14,13 @@ use std::alloc::Global;
 use std::marker::Model;
 use torus_geom::Grid;
 
-/// A grid and at most `MAX_COMMANDS` commands, each of which may stand where it does.
+/// A version, 1 or 2, a grid and at most `MAX_COMMANDS` commands, each of which may stand where it does.
 ///
 /// A command may stand where its states have the size of the grid in force there, which is the grid after the moves
 /// before it, and where its columns or rows commute in that grid, it has room for one column more, or it has the block.
 #[derive(Drop)]
 pub struct Script {
+    version: u8,
     grid: Grid,
     commands: Vec<Command>,
     in_force: Grid,
@@ -39,13 +40,31 @@ impl Model for Script {
 }
 
 impl Script {
-    /// The script of this grid with no command. It asks for no memory.
+    /// The script of version 1 of this grid with no command. It asks for no memory.
     pub fn new(alloc: Global, g: &Grid) -> Script
-        ensures script { result ≡ record { grid = g.now; commands = [] } }
+        ensures script { result ≡ record { version = 1; grid = g.now; commands = [] } }
+        ensures is_script { IsScript result }
+    {
+        Script::of_version(alloc, 1, g)
+    }
+
+    /// The script of version 2 of this grid with no command. It asks for no memory.
+    pub fn new_two(alloc: Global, g: &Grid) -> Script
+        ensures script { result ≡ record { version = 2; grid = g.now; commands = [] } }
+        ensures is_script { IsScript result }
+    {
+        Script::of_version(alloc, 2, g)
+    }
+
+    // The script of this version and this grid with no command.
+    pub(crate) fn of_version(alloc: Global, version: u8, g: &Grid) -> Script
+        requires { IsVersion version }
+        ensures script { result ≡ record { version = version; grid = g.now; commands = [] } }
         ensures is_script { IsScript result }
     {
         let _size = g.size();
         Script {
+            version,
             grid: *g,
             commands: Vec::new(alloc),
             in_force: *g,
@@ -63,6 +82,14 @@ impl Script {
         self.commands.push(c)?;
         self.in_force = in_force;
         Ok(())
+    }
+
+    /// The version.
+    pub fn version(&self) -> u8
+        ensures version { result ≡ self.now.version }
+        ensures script { IsScript self.now }
+    {
+        self.version
     }
 
     /// The grid before the first command.

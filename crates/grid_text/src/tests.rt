@@ -7,7 +7,7 @@ const A: &str = "grid 2\nO 1 0\nX 0 1\n";
 const B: &str = "grid 5\nO 0 1 2 3 4\nX 2 3 4 0 1\n";
 
 // Texts in two parts, each with the fault and the line for which it is refused.
-const REFUSALS: [(&str, &str, TextFault, u32); 38] = [
+const REFUSALS: [(&str, &str, TextFault, u32); 41] = [
     ("", "", TextFault::NoEnd, 1),
     (A, "", TextFault::NoEnd, 4),
     (A, "end\nfront\n", TextFault::AfterEnd, 5),
@@ -53,6 +53,10 @@ const REFUSALS: [(&str, &str, TextFault, u32); 38] = [
     ("picture 2\n", "OX\nXO\nOX\n", TextFault::BadWord, 4),
     ("picture 11\n", "", TextFault::BadNumber, 1),
     ("picture\n", "", TextFault::BadCount, 1),
+    // heads of version 2, which has no picture
+    ("picture2 2\n", "", TextFault::BadWord, 1),
+    ("grid2\n", "", TextFault::BadCount, 1),
+    ("grid2 11\n", "", TextFault::BadNumber, 1),
     ("grid 2\n", "OX\n", TextFault::BadWord, 2),
     // one carriage return is dropped, and only at the end of a line
     (A, "show\r\r\n", TextFault::BadWord, 4),
@@ -127,9 +131,9 @@ fn the_plain_form(rt: HostRuntime) -> Result<(), Fail> {
     Ok(())
 }
 
-// A picture has its top row first; its head begins at this line.
+// A picture has its top row first, and a head of version 2 is kept; each head begins at this line.
 #[test]
-fn pictures(rt: HostRuntime) -> Result<(), Fail> {
+fn heads(rt: HostRuntime) -> Result<(), Fail> {
     let rows = [
         (
             "# unknot\r\n\r\npicture 2\r\nOX\r\nX O\r\nend\r\n",
@@ -140,6 +144,11 @@ fn pictures(rt: HostRuntime) -> Result<(), Fail> {
             "picture 3\nO . X\n# the middle\n\tXO.\n\n.XO\nend\n",
             "grid 3\nO 2 1 0\nX 1 0 2\nend\n",
             1,
+        ),
+        (
+            "\n grid2\t2\nO 1 0\nX 0 1\nend",
+            "grid2 2\nO 1 0\nX 0 1\nend\n",
+            2,
         ),
     ];
     for (drawn, plain, grid_line) in rows {

@@ -3,5 +3,7 @@ pub mod SumLemmas
 pub mod RankLemmas
 pub mod ProductLemmas
 pub mod WordLemmas
+pub mod RankMapLemmas
+pub mod ProductMapLemmas
 pub mod Factors
 pub mod Multi

@@ -1,13 +1,11 @@
 -- Ranks by bidegree of lists of rows, and of lists in order; tables with the same ranks are equal.
-use Rattle.std.proofs.Common.{◌≡◌, ℕ, zero, suc, ◌+◌, ◌<◌, ◌≤◌, ℤ, true, false, List, [], ◌∷◌, ◌++◌, length, get_or, take, drop, All, refl, ap, sym, ◌∙◌, ◌⊎◌, inl, inr, arith}
-use Rattle.std.specs.Prelude.{◌<ℤ◌}
-use Rattle.std.specs.List.{insert}
+use Rattle.std.proofs.Common.{◌≡◌, ℕ, zero, suc, ◌+◌, ◌<◌, ◌≤◌, ℤ, true, false, List, [], ◌∷◌, length, get_or, All, refl, ap, sym, ◌∙◌, ◌⊎◌, inl, inr, arith}
 use Rattle.std.specs.Ordering.{int_eq}
 use Rattle.std.proofs.lemmas.Bool.{cases_Bool, cond-true, cond-false, false≢true, and_parts}
 use Rattle.std.proofs.lemmas.Bool.Decides.{Decides-int_eq}
 use Rattle.std.proofs.lemmas.Int.{ints}
 use Rattle.std.proofs.lemmas.List.Elements.{All-head, All-tail}
-use Rattle.std.proofs.lemmas.List.Sums.{sum_by-cons, sum_by_push, sum_by_more, sum_by-take-drop, sum_by-insert, get_or-le-sum_by}
+use Rattle.std.proofs.lemmas.List.Sums.{sum_by-cons, get_or-le-sum_by}
 use Rattle.f2_algebra.specs.Bigraded.{stands_before}
 use Rattle.f2_algebra.proofs.Ranks.OrderLemmas.{stands_before-transitive}
 use Rattle.hat_division.specs.Table.{bidegree_of, AreOrdered}
@@ -20,10 +18,6 @@ use Rattle.hat_division.specs.declared.tables.TableRow.{TableRow}
 pub apart : (p q : TableRow) (m a : ℤ) → stands_before (bidegree_of p) (bidegree_of q) ≡ true → stands_at p m a ≡ true
     → stands_at q m a ≡ false
 apart p q m a h s = grind (arith, ints)
-
-pub apart_back : (p q : TableRow) (m a : ℤ) → stands_before (bidegree_of p) (bidegree_of q) ≡ true
-    → stands_at q m a ≡ true → stands_at p m a ≡ false
-apart_back p q m a h s = grind (arith, ints)
 
 -- of two rows one comes before the other, or they stand in one bidegree
 pub ordered_or_together : (p q : TableRow) → (stands_before (bidegree_of p) (bidegree_of q) ≡ true)
@@ -61,11 +55,6 @@ rank_at-cons row rows m a = sum_by-cons (λ r. part_at r m a) row rows
 pub rank_at-nil : (m a : ℤ) → rank_at [] m a ≡ 0
 unfolding rank_at
 rank_at-nil m a = refl
-
-pub rank_at-insert : (rows : List TableRow) (i : ℕ) (row : TableRow) (m a : ℤ)
-    → rank_at (insert rows i row) m a ≡ rank_at rows m a + part_at row m a
-unfolding rank_at
-rank_at-insert rows i row m a = sum_by-insert (λ r. part_at r m a) rows i row
 
 pub part_at-here : (row : TableRow) (m a : ℤ) → stands_at row m a ≡ true → part_at row m a ≡ row.rank
 part_at-here row m a s = cond-true (stands_at row m a) row.rank 0 s

@@ -13,8 +13,8 @@ use Rattle.std.proofs.Math.Nat.{mul-div_cancel_left, mul_comm}
 use Rattle.std.proofs.Math.Pow.{pow_mono}
 use mir.Syntax.{w32}
 use mir.Val.{SFits, to_z, of_z}
-use Rattle.hat_division.specs.Table.{AreOrdered, IsTable}
-use Rattle.hat_division.specs.Product.{binomial, stands_at, rank_at, product_rank, IsSmall}
+use Rattle.hat_division.specs.Table.{AreOrdered}
+use Rattle.hat_division.specs.Product.{binomial, stands_at, rank_at, product_rank}
 use Rattle.hat_division.specs.Inner.Products.{ArePositive}
 use Rattle.hat_division.specs.declared.tables.TableRow.{TableRow}
 use Rattle.hat_division.proofs.SumLemmas.{binomial-le, binomial-next}

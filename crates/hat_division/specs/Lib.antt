@@ -1,5 +1,6 @@
 pub mod Table
 pub mod Product
+pub mod RankMaps
 pub mod Factors
 pub mod DegreeLists
 pub mod MultiTable

@@ -14,6 +14,7 @@ mod multi_quotients;
 mod multi_tables;
 mod products;
 mod quotients;
+mod rank_maps;
 mod tables;
 
 pub use counts::count_cell;
@@ -22,6 +23,7 @@ pub use multi_quotients::divide_multi;
 pub use multi_tables::{MultiRow, MultiTable};
 pub use products::times_factor;
 pub use quotients::divide;
+pub use rank_maps::{Ranks, rows_of};
 pub use tables::{MAX_RANK, Table, TableRow};
 
 #[cfg(test)]

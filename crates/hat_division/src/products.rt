@@ -1,13 +1,12 @@
 //! Products of tables and powers of 1 + q^-1 t^-1.
-ghost use Rattle.std.specs.Prelude.{◌≡◌, ◌+◌, ◌<◌, ◌≤◌, ◌^◌, ℕ, pos, ◌≤ℤ◌, true, false, length, slice_index_or, IfOk, OnOk};
+ghost use Rattle.std.specs.Prelude.{◌≡◌, ◌+◌, ◌≤◌, ◌^◌, pos, ◌≤ℤ◌, IfOk, OnOk};
 ghost use Rattle.std.specs.List.{All, Contains};
-ghost use Rattle.f2_algebra.specs.Bigraded.{stands_before};
-ghost use Rattle.hat_division.specs.Table.{bidegree_of, AreOrdered};
+ghost use Rattle.hat_division.specs.Table.{AreOrdered};
 ghost use Rattle.hat_division.specs.Product.{rank_at as rank_at_of, product_rank as product_rank_of, IsProduct, IsSmall};
-ghost use Rattle.hat_division.specs.Inner.Products.{ArePositive, IsPut, IsPartOfProduct, AreShiftsPut};
-ghost use Rattle.hat_division.specs.declared.tables.TableRow.{TableRow};
+ghost use Rattle.hat_division.specs.Inner.Products.{ArePositive, IsPartOfProduct, AreShiftsPut};
 
-use crate::{Table, TableRow};
+use crate::{Ranks, Table, TableRow, rows_of};
+use gradings::Bidegree;
 use grid_ports::NoMemory;
 use std::alloc::Global;
 
@@ -22,65 +21,30 @@ pub fn times_factor(alloc: Global, t: &Table, k: u8) -> Result<Table, NoMemory>
     ensures { IfOk result (λ product. IsProduct k t.now product) }
 {
     let rows = t.rows();
-    let mut product = Vec::new(alloc);
+    let mut product = Ranks::new(alloc);
     for row in rows {
         put_shifts(&mut product, rows, k, row)?;
     }
-    Ok(Table::of(product).unwrap())
+    let product_rows = rows_of(alloc, &product)?;
+    Ok(Table::of(product_rows).unwrap())
 }
 
-// Puts the rows of the product that stand 0 to `k` steps down from a row of the table.
-fn put_shifts(
-    product: &mut Vec<TableRow>,
-    rows: &[TableRow],
-    k: u8,
-    row: &TableRow,
-) -> Result<(), NoMemory>
+// Puts the ranks of the product 0 to `k` steps down from a row of the table.
+fn put_shifts(product: &mut Ranks, rows: &[TableRow], k: u8, row: &TableRow) -> Result<(), NoMemory>
     requires exponent { k ≤ 16 }
     requires positive { ArePositive rows.now }
     requires small { All IsSmall rows.now }
     requires member { Contains rows.now row.now }
-    requires part { IsPartOfProduct k rows.now product.old.items }
-    ensures { OnOk result
-        (AreShiftsPut k rows.now row.now (k + 1) product.old.items product.new.items) }
+    requires part { IsPartOfProduct k rows.now product.old }
+    ensures { OnOk result (AreShiftsPut k rows.now row.now (k + 1) product.old product.new) }
 {
     for i in 0..k + 1 {
         let m = row.m - i32::from(i);
         let a = row.a - i32::from(i);
         let rank = product_rank(rows, k, m, a);
-        put_row(product, TableRow { m, a, rank })?;
+        product.insert(Bidegree { m, a }, rank)?;
     }
     Ok(())
-}
-
-// Puts a row in its place, unless a row stands in its bidegree.
-fn put_row(rows: &mut Vec<TableRow>, row: TableRow) -> Result<(), NoMemory>
-    requires positive { ArePositive rows.old.items }
-    requires rank { 1 ≤ row.rank }
-    ensures { OnOk result (IsPut row rows.old.items rows.new.items) }
-{
-    let place = place_of(rows.as_slice(), &row);
-    if place < rows.len() && rows[place].stands_at(row.m, row.a) {
-        return Ok(());
-    }
-    rows.insert(place, row)?;
-    Ok(())
-}
-
-// The place of the first row that does not stand before `row`, or the number of rows.
-fn place_of(rows: &[TableRow], row: &TableRow) -> usize
-    ensures within { result ≤ length rows.now }
-    ensures before { (k : ℕ) (d : TableRow) → k < result
-        → stands_before (bidegree_of (slice_index_or rows.now k d)) (bidegree_of row.now) ≡ true }
-    ensures rest { (d : TableRow) → result < length rows.now
-        → stands_before (bidegree_of (slice_index_or rows.now result d)) (bidegree_of row.now) ≡ false }
-{
-    for (i, other) in rows.iter().enumerate() {
-        if !other.stands_before(row) {
-            return i;
-        }
-    }
-    rows.len()
 }
 
 // The rank in a bidegree of the product of rows in order and the `k`-th power.

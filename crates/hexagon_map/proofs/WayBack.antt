@@ -4,7 +4,7 @@ pub mod HexagonTables
 pub mod RowShapes
 pub mod Hexagons
 pub mod ThinHexagons
-pub mod QuietRows
+pub mod MarksBetween
 pub mod HexagonSums
 pub mod HomotopyOfColumns
 pub mod HomotopyByAxis

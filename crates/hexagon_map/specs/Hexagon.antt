@@ -3,8 +3,8 @@
 -- its pentagons).
 --
 -- Columns c - 1 and c of the grid commute, mod n. The marks stay, and circle c is moved past them: the new circle runs
--- left of the marks of column c - 1, in the rows of L, and right of those of column c, in the rows of R. The two circles
--- cross in row w, as for pentagons; on the way back, in the exchanged grid, they cross in row v.
+-- left of the marks of column c - 1, in the rows of L, and right of those of column c, in the rows of R. The two
+-- circles cross in row w, as for pentagons; on the way back, in the exchanged grid, they cross in row v.
 --
 --        column c - 1 | column c
 --                     |-------------------o    high row
@@ -19,17 +19,17 @@
 --                     o-------------------|    low row
 --
 -- A corner set (left, right; low, high) is that of a rectangle. A hexagon has both crossings as corners: it follows the
--- old circle, between the two crossings the new one, and then the old one again. With left on circle c, as here, it lies
--- right of both circles, and meets row w before row v on the way up from its low row. With right on circle c it lies
--- left of both, and meets row v first, and then the rows of L and row w.
+-- old circle, between the two crossings the new one, and then the old one again. With left on circle c, as here, it
+-- lies right of both circles, and meets row w before row v on the way up from its low row. With right on circle c it
+-- lies left of both, and meets row v first, and then the rows of L and row w.
 --
 --     crossing_row_back g c corner        v: the crossing row of the exchanged grid, for the same corner
 --     is_hexagonal g c w v r              r has the crossings in rows w and v among its corners, and is unmarked
 --     is_hexagon g c w v x y r            r is a hexagon from the state x to the state y, of these crossings
---     column_homotopy g c corner z        the states y for which the number of pairs of a state x in z and a hexagon from
---                                         x to y is odd
---     homotopy axis g c corner z          the same for columns; for rows the grid and z are transposed, and the homotopy
---                                         of that across columns is transposed back
+--     column_homotopy g c corner z        the states y for which the number of pairs of a state x in z and a hexagon
+--                                         from x to y is odd
+--     homotopy axis g c corner z          the same for columns; for rows the grid and z are transposed, and the
+--                                         homotopy of that across columns is transposed back
 --     return_image axis g c corner z      the image of z, and the image of that in the exchanged grid: back to the grid
 use Rattle.std.specs.Prelude.{ℕ, Bool, ◌&&◌, ◌||◌, ◌==◌, List}
 use Rattle.torus_geom.specs.Chains.{Chain, reached}

@@ -5,7 +5,7 @@ ghost use Rattle.state_rank.specs.Bijection.{IsBijection};
 ghost use Rattle.state_rank.specs.States.{IsState};
 ghost use Rattle.torus_geom.specs.Border.{Bounds, border};
 ghost use Rattle.torus_geom.specs.Chains.{Chain as States, IsChain, members, nothing, single, ◌⊕◌};
-ghost use Rattle.torus_geom.specs.Codes.{HasRanks, states_of};
+ghost use Rattle.torus_geom.specs.Codes.{HasIndices, states_of};
 ghost use Rattle.torus_geom.specs.Degrees.{maslov_o, alexander};
 ghost use Rattle.torus_geom.specs.Homology.{IsHomologyRank, IsHomologyTable, Row};
 ghost use Rattle.torus_geom.specs.Marks.{size};
@@ -62,7 +62,7 @@ pub fn hexagon_targets(
 /// The homotopy of `z` where columns (or rows) `c - 1` and `c` of `g` are exchanged: the states to which an odd
 /// number of hexagons lead from members of `z`.
 ///
-/// It is a chain of `g`. `z` and the answer hold ranks of states, each from 0 to n! - 1, where n is the size of `g`.
+/// It is a chain of `g`. `z` and the answer hold indices of states, each from 0 to n! - 1, where n is the size of `g`.
 ///
 /// # Errors
 ///
@@ -77,10 +77,10 @@ pub fn homotopy(
 ) -> Result<Chain, NoMemory>
     requires below { c < size g.now }
     requires commutes { IsTrue (are_commuting axis g.now c) }
-    requires ranks { HasRanks (size g.now) z.now }
+    requires indices { HasIndices (size g.now) z.now }
     ensures homotopy { IfOk result (λ y. states_of (size g.now) y
         ≡ homotopy_of axis g.now c corner (states_of (size g.now) z.now)) }
-    ensures ranks_again { IfOk result (HasRanks (size g.now)) }
+    ensures indices_again { IfOk result (HasIndices (size g.now)) }
 
     // A chain and its image there and back are together the border of its homotopy and the homotopy of its border,
     // whatever the call answers.

@@ -3,7 +3,7 @@ ghost use Rattle.std.specs.Prelude.{◌≡◌, ℕ, List, ◌<◌, length, map, 
 ghost use Rattle.std.specs.List.{All};
 ghost use Rattle.f2_algebra.specs.Chain.{codes as codes_of, ◌⊕◌};
 ghost use Rattle.state_rank.specs.States.{IsState, rank};
-ghost use Rattle.torus_geom.specs.Codes.{HasRanks, states_of};
+ghost use Rattle.torus_geom.specs.Codes.{HasIndices, states_of};
 ghost use Rattle.torus_geom.specs.Marks.{Marks, IsGrid, size};
 ghost use Rattle.grid_moves.specs.Moves.{are_commuting};
 ghost use Rattle.pentagon_map.specs.Pentagon.{crossing_row as crossing_row_of};
@@ -35,10 +35,10 @@ pub(crate) fn homotopy_sum(
 ) -> Result<Chain, NoMemory>
     requires below { c < size g.now }
     requires commutes { IsTrue (are_commuting axis g.now c) }
-    requires ranks { HasRanks (size g.now) z.now }
+    requires indices { HasIndices (size g.now) z.now }
     ensures homotopy { IfOk result (λ y. states_of (size g.now) y
         ≡ homotopy_of axis g.now c corner (states_of (size g.now) z.now)) }
-    ensures ranks_again { IfOk result (HasRanks (size g.now)) }
+    ensures indices_again { IfOk result (HasIndices (size g.now)) }
 {
     let n = g.size();
     let t = across(g, axis);

@@ -76,7 +76,11 @@ abbrev pub cycle_pair_tests : Marks → ℤ × ℤ → CyclePair → List CycleP
 cycle_pair_tests g d p others =
     (Degree, all_have g d p.cycle && all_have g d p.cocycle)
     ∷ (Cycle, length (members (size g) (border g p.cycle)) == 0) ∷ (Cocycle, is_cocycle g p.cocycle)
-    ∷ (Pairing, pairs_oddly (size g) p.cycle p.cocycle && list_all (λ (q : CyclePair). not (pairs_oddly (size g) q.cycle p.cocycle)) others)
+    ∷ (
+      Pairing,
+      pairs_oddly (size g) p.cycle p.cocycle
+          && list_all (λ (q : CyclePair). not (pairs_oddly (size g) q.cycle p.cocycle)) others,
+    )
     ∷ []
 
 abbrev pub cycle_entries : Marks → ℤ × ℤ → List CyclePair → List CyclePair → List (List (CertTest × Bool))

@@ -9,7 +9,8 @@
 --                                components
 --     IsComponentRank g m ds d   d is the dimension of cycles modulo boundaries in these degrees
 --     IsComponentTable g rows    the rows are all (m, ds, d) with such a rank d above 0, in the order of tables
---     added_rank rows m a        the ranks of the rows with Maslov degree m and degrees that add up to twice a, added up
+--     added_rank rows m a        the ranks of the rows with Maslov degree m and degrees that add up to twice a, added
+--                                up
 use Rattle.std.specs.Prelude.{◌≡◌, ◌↔◌, ℕ, ◌<◌, ◌&&◌, IsTrue, true, ℤ, pos, ◌+ℤ◌, ◌*ℤ◌, if◌then◌else◌, List}
 use Rattle.std.specs.List.{Contains, AllPairs, sum_by}
 use Rattle.std.specs.Ordering.{int_eq}

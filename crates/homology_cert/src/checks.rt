@@ -151,7 +151,7 @@ fn none_missing(c: &Cert) -> bool
     true
 }
 
-// Whether one of the cells is at the bidegree of the state of rank `code`.
+// Whether one of the cells is at the bidegree of the state of index `code`.
 fn has_cell(g: &Grid, cells: &[CertCell], code: u32) -> bool
     requires { code < factorial (size g.now) }
     ensures { result ≡ list_any (λ (cell : Cell). has_bidegree_of g.now cell.at code) cells.now }
@@ -347,7 +347,7 @@ fn pairs_evenly(chains: &[Chain], f: &Cochain) -> bool
     chains.iter().all(|z| !z.pair(f))
 }
 
-// The borders of all states of the grid, by rank.
+// The borders of all states of the grid, by index.
 fn borders_of_states(alloc: Global, g: &Grid) -> Result<Vec<Chain>, NoMemory>
     ensures { IfOk result (λ borders. AreBorders g.now borders.items) }
 {
@@ -378,7 +378,7 @@ fn all_have(g: &Grid, d: &Bidegree, z: &Chain) -> bool
     z.codes().iter().all(|code| has_bidegree(g, d, *code))
 }
 
-/// Whether the state of rank `code` has this bidegree.
+/// Whether the state of index `code` has this bidegree.
 pub(crate) fn has_bidegree(g: &Grid, d: &Bidegree, code: u32) -> bool
     requires { code < factorial (size g.now) }
     ensures { result ≡ has_bidegree_of g.now (d.now.m, d.now.a) code }

@@ -49,7 +49,8 @@ pub fn make_cert(alloc: Global, g: &Grid) -> Result<Cert, NoMemory>
     ensures short { IfOk result (λ c. length (certificate_text (states_certificate c)) < max_certificate) }
 
     // Whatever the call answers: each grid of this size has a certificate that passes.
-    ensures some_certificate { (h : Marks) → IsGrid h → size h ≤ max_certified_size → (c : Certificate) × IsCertificate c
+    ensures some_certificate { (h : Marks) → IsGrid h → size h ≤ max_certified_size
+        → (c : Certificate) × IsCertificate c
         × (c.grid ≡ h) × (verdict_of c ≡ CertVerdict.Yes) × (length (certificate_text c) < max_certificate) }
 
     // The limit is that of the definitions.

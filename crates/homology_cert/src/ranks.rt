@@ -1,18 +1,14 @@
-//! Ranks by bidegree.
-ghost use Rattle.std.specs.Prelude.{◌≡◌, ◌^◌, ◌<◌, ℤ, length, map, None, IfOk, OnOk, IfSome};
+//! Cells counted by their bidegrees.
+ghost use Rattle.std.specs.Prelude.{◌≡◌, ◌^◌, ◌<◌, ℤ, length, None, OnOk, IfSome};
 ghost use Rattle.std.specs.BTreeMap as tree;
 ghost use Rattle.gradings.specs.Degrees.{bidegree_cmp};
-ghost use Rattle.homology_cert.specs.Inner.Ranks.{key_of, row_of, AreCounted};
+ghost use Rattle.hat_division.specs.RankMaps.{key_of};
+ghost use Rattle.homology_cert.specs.Inner.Ranks.{AreCounted};
 
 use gradings::Bidegree;
 use grid_ports::NoMemory;
-use hat_division::TableRow;
+use hat_division::Ranks;
 use sparse_complex::Cell;
-use std::alloc::Global;
-use std::collections::BTreeMap;
-
-// Ranks by bidegree. A bidegree of rank 0 is left out.
-pub(crate) type Ranks = BTreeMap<Bidegree, u64>;
 
 // Counts the cells of an Alexander degree, by their Maslov degrees.
 pub(crate) fn count_cells(a: i32, cells: &[Cell], ranks: &mut Ranks) -> Result<(), NoMemory>
@@ -27,20 +23,4 @@ pub(crate) fn count_cells(a: i32, cells: &[Cell], ranks: &mut Ranks) -> Result<(
         ranks.insert(bidegree, count + 1)?;
     }
     Ok(())
-}
-
-// The rows of these ranks, in the order of a table.
-pub(crate) fn rows_of(alloc: Global, ranks: &Ranks) -> Result<Vec<TableRow>, NoMemory>
-    ensures rows { IfOk result (λ rows. rows.items ≡ map row_of ranks.now.entries) }
-    ensures ordered { tree.IsOrdered bidegree_cmp ranks.now }
-{
-    let mut rows = Vec::new(alloc);
-    for (bidegree, rank) in ranks.iter() {
-        rows.push(TableRow {
-            m: bidegree.m,
-            a: bidegree.a,
-            rank: *rank,
-        })?;
-    }
-    Ok(rows)
 }

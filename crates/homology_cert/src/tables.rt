@@ -8,9 +8,9 @@ ghost use Rattle.homology_cert.specs.Tables.{HasSmallDegrees, HasSmallRank};
 
 use crate::degrees::alexander_degrees;
 use crate::left_cells::cells_left;
-use crate::ranks::{Ranks, count_cells, rows_of};
+use crate::ranks::count_cells;
 use grid_ports::NoMemory;
-use hat_division::Table;
+use hat_division::{Ranks, Table, rows_of};
 use std::alloc::Global;
 use torus_geom::Grid;
 

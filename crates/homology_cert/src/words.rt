@@ -152,7 +152,7 @@ pub(crate) fn set_of(
     Ok(Some(set))
 }
 
-// The rank of the state of size `n` whose word stands first, after a space, and what follows it.
+// The index of the state of size `n` whose word stands first, after a space, and what follows it.
 fn first_code(n: u8, bytes: &[u8]) -> Option<(u32, &[u8])>
     requires { IsSize n }
     ensures some { IfSome result (λ p. (p.0 < factorial n) × (p.0 < 2 ^ 31)

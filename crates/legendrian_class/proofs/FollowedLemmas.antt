@@ -13,18 +13,18 @@ use Rattle.f2_algebra.proofs.Chains.Sets.{holds-nothing}
 use Rattle.std.proofs.lemmas.Bool.{false≢true}
 use Rattle.grid_symmetry.proofs.StateLaws.{IsBijection-symmetric_state, size-symmetric}
 use Rattle.grid_moves.proofs.Turned.CarriedChains.{AreInverse, AreInverse-back, moved-below, moved-undone, renamed-sum}
-use Rattle.grid_moves.proofs.Turned.CarriedStates.{AreRanks-carried}
+use Rattle.grid_moves.proofs.Turned.CarriedStates.{AreIndices-carried}
 use Rattle.grid_moves.proofs.Turned.TurnLemmas.{length-turned_rows}
 use Rattle.grid_moves.proofs.Turned.TurnedStates.{IsBijection-turned_state}
 use Rattle.grid_moves.specs.Inner.CodeCarried.{carried, moved, turned_chain}
 use Rattle.grid_moves.specs.Carried.{turned_state}
 use Rattle.grid_moves.specs.Moves.{turned}
 use Rattle.grid_moves.specs.declared.turns.Side.{Side}
-use Rattle.torus_geom.specs.Codes.{HasRanks}
-use Rattle.torus_geom.proofs.Chains.CodesLemmas.{All_from_ranks, ranks_from_All}
+use Rattle.torus_geom.specs.Codes.{HasIndices}
+use Rattle.torus_geom.proofs.Chains.CodesLemmas.{All_from_indices, indices_from_All}
 use Rattle.state_rank.specs.Bijection.{IsBijection}
 
--- the sum of the states that those of a list of ranks become by f, by their ranks
+-- the sum of the states that those of a list of indices become by f, by their indices
 abbrev pub sum_of_carried : (List ℕ → List ℕ) → ℕ → List ℕ → Chain
 sum_of_carried f n cs = total (map (λ k. single (moved n f k)) cs)
 
@@ -53,33 +53,33 @@ all_carried f b n there cs z e =
     (moved-undone n f b there) z)
 
 -- the carried chain has states
-pub HasRanks-carried : (f : List ℕ → List ℕ) (n : ℕ) → ((x : List ℕ) → IsBijection n x → IsBijection n (f x))
-    → (z : Chain) → HasRanks n z → HasRanks n (carried n f z)
-HasRanks-carried f n keeps z states =
-    All_from_ranks n (carried n f z) (AreRanks-carried n f keeps z (ranks_from_All n z states))
+pub HasIndices-carried : (f : List ℕ → List ℕ) (n : ℕ) → ((x : List ℕ) → IsBijection n x → IsBijection n (f x))
+    → (z : Chain) → HasIndices n z → HasIndices n (carried n f z)
+HasIndices-carried f n keeps z states =
+    All_from_indices n (carried n f z) (AreIndices-carried n f keeps z (indices_from_All n z states))
 
 -- the turned chain has states of the turned grid
-pub HasRanks-turned : (side : Side) (g : Marks) (z : Chain) → HasRanks (size g) z
-    → HasRanks (size (turned side g)) (turned_chain side (size g) z)
-HasRanks-turned side g z states =
-    subst (λ n. HasRanks n (turned_chain side (size g) z)) (sym (length-turned_rows side (size g) g.o))
-    (HasRanks-carried (turned_state side) (size g) (IsBijection-turned_state side (size g)) z states)
+pub HasIndices-turned : (side : Side) (g : Marks) (z : Chain) → HasIndices (size g) z
+    → HasIndices (size (turned side g)) (turned_chain side (size g) z)
+HasIndices-turned side g z states =
+    subst (λ n. HasIndices n (turned_chain side (size g) z)) (sym (length-turned_rows side (size g) g.o))
+    (HasIndices-carried (turned_state side) (size g) (IsBijection-turned_state side (size g)) z states)
 
 -- the same of a grid and a chain that are the turned ones
-pub HasRanks-after_turn : (side : Side) (g h : Marks) (n : ℕ) (z y : Chain) → HasRanks (size g) z → n ≡ size g
-    → h ≡ turned side g → y ≡ turned_chain side n z → HasRanks (size h) y
-HasRanks-after_turn side g h n z y states of_n of_h of_y =
-    subst (λ k. HasRanks (size k) y) (sym of_h)
-    (subst (HasRanks (size (turned side g))) (sym (of_y ∙ ap (λ m. turned_chain side m z) of_n))
-    (HasRanks-turned side g z states))
+pub HasIndices-after_turn : (side : Side) (g h : Marks) (n : ℕ) (z y : Chain) → HasIndices (size g) z → n ≡ size g
+    → h ≡ turned side g → y ≡ turned_chain side n z → HasIndices (size h) y
+HasIndices-after_turn side g h n z y states of_n of_h of_y =
+    subst (λ k. HasIndices (size k) y) (sym of_h)
+    (subst (HasIndices (size (turned side g))) (sym (of_y ∙ ap (λ m. turned_chain side m z) of_n))
+    (HasIndices-turned side g z states))
 
 -- the chain after a symmetry has states of the grid after it
-pub HasRanks-after_symmetry : (s : Symmetry) (g h : Marks) (n : ℕ) (z y : Chain) → IsGrid g → HasRanks (size g) z
-    → n ≡ size g → h ≡ symmetric s g → y ≡ codes_after s n z → HasRanks (size h) y
-HasRanks-after_symmetry s g h n z y grid states of_n of_h of_y =
-    subst (λ k. HasRanks k y) (sym (ap size of_h ∙ size-symmetric s g grid))
-    (subst (HasRanks (size g)) (sym (of_y ∙ ap (λ m. codes_after s m z) of_n)) (by s))
+pub HasIndices-after_symmetry : (s : Symmetry) (g h : Marks) (n : ℕ) (z y : Chain) → IsGrid g → HasIndices (size g) z
+    → n ≡ size g → h ≡ symmetric s g → y ≡ codes_after s n z → HasIndices (size h) y
+HasIndices-after_symmetry s g h n z y grid states of_n of_h of_y =
+    subst (λ k. HasIndices k y) (sym (ap size of_h ∙ size-symmetric s g grid))
+    (subst (HasIndices (size g)) (sym (of_y ∙ ap (λ m. codes_after s m z) of_n)) (by s))
   where
-    by : (s : Symmetry) → HasRanks (size g) (codes_after s (size g) z)
-    by Mirror = All_from_ranks (size g) nothing (λ c h. absurd (false≢true (sym (holds-nothing c) ∙ h)))
-    by s = HasRanks-carried (symmetric_state s) (size g) (IsBijection-symmetric_state s (size g)) z states
+    by : (s : Symmetry) → HasIndices (size g) (codes_after s (size g) z)
+    by Mirror = All_from_indices (size g) nothing (λ c h. absurd (false≢true (sym (holds-nothing c) ∙ h)))
+    by s = HasIndices-carried (symmetric_state s) (size g) (IsBijection-symmetric_state s (size g)) z states

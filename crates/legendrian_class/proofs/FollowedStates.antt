@@ -1,4 +1,4 @@
--- A grid and a set of ranks that are followed stand for the grid and the chain of states that are followed.
+-- A grid and a set of indices that are followed stand for the grid and the chain of states that are followed.
 use Rattle.torus_geom.specs.Chains.{IsChain}
 use Rattle.grid_moves.specs.Inner.CodeCarried.{carried as carried_codes, turned_chain as turned_codes}
 use Rattle.pentagon_map.specs.Pentagon.{image}
@@ -25,7 +25,7 @@ use Rattle.torus_geom.specs.Codes.{states_of}
 use Rattle.legendrian_class.specs.FollowedCodes.{FollowedCodes, followed_of}
 use Rattle.legendrian_class.specs.Followed.{listed, at_start, after_turn, after_commutation, after_symmetry}
 use Rattle.torus_geom.proofs.Chains.StateTests.{is_same-is, is_same-true, any-member, member_of_any}
-use Rattle.torus_geom.proofs.Chains.CodesLemmas.{AreRanks, is_states_of, states_of-nothing}
+use Rattle.torus_geom.proofs.Chains.CodesLemmas.{AreIndices, is_states_of, states_of-nothing}
 use Rattle.grid_moves.proofs.Exchanged.SwappedTwice.{size-swapped}
 use Rattle.grid_moves.proofs.Turned.CarriedStates.{states_of-carried, states_of-turned}
 use Rattle.grid_symmetry.specs.Symmetries.{symmetric, symmetric_state}
@@ -35,7 +35,7 @@ use Rattle.grid_symmetry.proofs.StateLaws.{IsBijection-symmetric_state, size-sym
 use Rattle.pentagon_map.proofs.States.StateImages.{states_of-image}
 use Rattle.f2_algebra.proofs.Chains.Tables.{same_test}
 
--- a set of the ranks of listed states stands for the chain of the list
+-- a set of the indices of listed states stands for the chain of the list
 pub states_of-listed : (n : ℕ) (xs : List (List ℕ)) → ((x : List ℕ) → Contains xs x → IsBijection n x)
     → states_of n (of_codes (map rank xs)) ≡ listed xs
 states_of-listed n xs all =
@@ -60,7 +60,7 @@ pub followed_of-start : (g : Marks) → followed_of (over_codes.at_start g) ≡ 
 followed_of-start g = ap (λ z. record { grid = g; chain = z }) (states_of-nothing (size g))
 
 -- A turn of the codes is a turn of the states.
-pub followed_of-turn : (side : Side) (p : FollowedCodes) → AreRanks (size p.grid) p.chain
+pub followed_of-turn : (side : Side) (p : FollowedCodes) → AreIndices (size p.grid) p.chain
     → followed_of (over_codes.after_turn side p) ≡ after_turn side (followed_of p)
 followed_of-turn side p below = ap (λ z. record { grid = turned side p.grid; chain = z })
     (ap (λ n. states_of n (over_codes.after_turn side p).chain) (length-turned_rows side (size p.grid) p.grid.o)
@@ -68,7 +68,7 @@ followed_of-turn side p below = ap (λ z. record { grid = turned side p.grid; ch
 
 -- And so is a commutation.
 pub followed_of-commutation : (axis : Axis) (c : ℕ) (corner : Corner) (p : FollowedCodes) → IsGrid p.grid
-    → AreRanks (size p.grid) p.chain
+    → AreIndices (size p.grid) p.chain
     → followed_of (over_codes.after_commutation axis c corner p) ≡ after_commutation axis c corner (followed_of p)
 followed_of-commutation axis c corner p s below = ap (λ z. record { grid = swapped axis p.grid c; chain = z })
     (ap (λ n. states_of n (over_codes.after_commutation axis c corner p).chain) (size-swapped axis p.grid c)
@@ -85,7 +85,8 @@ followed_of-exchanged axis c corner p q of_grid of_chain = λ i. record {
 }
 
 -- and after a turn
-pub followed_of-turned : (side : Side) (n : ℕ) (p q : FollowedCodes) → n ≡ size p.grid → AreRanks (size p.grid) p.chain
+pub followed_of-turned : (side : Side) (n : ℕ) (p q : FollowedCodes) → n ≡ size p.grid
+    → AreIndices (size p.grid) p.chain
     → q.grid ≡ turned side p.grid → q.chain ≡ turned_codes side n p.chain
     → followed_of q ≡ after_turn side (followed_of p)
 followed_of-turned side n p q same below of_grid of_chain =
@@ -101,7 +102,7 @@ IsChain-listed n xs all y h =
 
 -- What the code has after a symmetry stands for what follows.
 pub followed_of-symmetry : (s : Symmetry) (n : ℕ) (p q : FollowedCodes) → IsGrid p.grid → n ≡ size p.grid
-    → AreRanks (size p.grid) p.chain → q.grid ≡ symmetric s p.grid → q.chain ≡ over_codes.codes_after s n p.chain
+    → AreIndices (size p.grid) p.chain → q.grid ≡ symmetric s p.grid → q.chain ≡ over_codes.codes_after s n p.chain
     → followed_of q ≡ after_symmetry s (followed_of p)
 followed_of-symmetry s n p q grid same below of_grid of_chain =
     (λ i. record { grid = of_grid i; chain = states_of (ap size of_grid i) (of_chain i) })

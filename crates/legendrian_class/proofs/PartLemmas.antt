@@ -24,7 +24,7 @@ use Rattle.torus_geom.specs.Marks.{Marks, size, IsGrid}
 use Rattle.torus_geom.specs.Inner.GridComplex.{grid_complex}
 use Rattle.rectangles.proofs.Law.GridComplexLemmas.{grid_complex_rules}
 use Rattle.sparse_complex.proofs.GridPartLemmas.{part_rules, degree-cell, degree-other}
-use Rattle.torus_geom.specs.Codes.{HasRanks}
+use Rattle.torus_geom.specs.Codes.{HasIndices}
 use Rattle.legendrian_class.specs.Inner.CodeVerdicts.{alexander_at}
 use Rattle.legendrian_class.specs.Inner.Parts.{has_alexander, IsNullBut}
 use Rattle.legendrian_class.proofs.ChainLemmas.{fewer-where}
@@ -69,7 +69,7 @@ module _ (g : Marks) (a : ℤ) where
         (sym is_not ∙ (Decides-int_eq (alexander_at g s) a).1 e))) ∙ sym is_not
   ]
 
-  module _ (grid : IsGrid g) (z : Chain) (states : HasRanks (size g) z) where
+  module _ (grid : IsGrid g) (z : Chain) (states : HasIndices (size g) z) where
     below_at : (s : ℕ) → holds z s ≡ true → s < factorial (size g)
     below_at s h = each_code (λ code. code < factorial (size g)) z states s h
 
@@ -166,7 +166,7 @@ pub null-end : (g : Marks) (z left bound : Chain) → left ≡ nothing → IsNul
 null-end g z left bound none but =
     subst (λ c. IsNullBy (grid_complex g) c bound) (ap (λ l. z ⊕ l) none ∙ add-nothing z) but.null
 
-module _ (g : Marks) (grid : IsGrid g) (z : Chain) (states : HasRanks (size g) z) (a : ℤ) (part : Chain)
+module _ (g : Marks) (grid : IsGrid g) (z : Chain) (states : HasIndices (size g) z) (a : ℤ) (part : Chain)
     (is_part : part ≡ where_code (has_alexander g a) z) where
   in_part : (s : ℕ) → holds part s ≡ (holds z s && has_alexander g a s)
   in_part s = ap (λ c. holds c s) is_part ∙ holds-where_code (has_alexander g a) z s
@@ -175,7 +175,8 @@ module _ (g : Marks) (grid : IsGrid g) (z : Chain) (states : HasRanks (size g) z
   part_in_z s h = and_parts (holds z s) (has_alexander g a s) (sym (in_part s) ∙ h)
 
   -- a part that is alive keeps the whole alive
-  pub alive-whole : border (grid_complex g) z ≡ nothing → (f : Chain) → IsAliveBy (at_alexander a (grid_complex g)) part f
+  pub alive-whole : border (grid_complex g) z ≡ nothing → (f : Chain)
+      → IsAliveBy (at_alexander a (grid_complex g)) part f
       → IsAliveBy (grid_complex g) z f
   alive-whole cycle f alive =
       let C = grid_complex g in
@@ -229,7 +230,8 @@ module _ (g : Marks) (grid : IsGrid g) (z : Chain) (states : HasRanks (size g) z
               subst (λ c. IsNullBy C c (bound ⊕ b)) (add_assoc z left part)
               (null_sum C (z ⊕ left) part bound b
               (λ s h p. in_both z left s (part_in_z s p).0 (part_in_left s p) h)
-              but.null (null_of_part C (with_second a) (at_alexander a C) (at_alexander_IsPartOf a C refl) part b null));
+              but.null (null_of_part C (with_second a) (at_alexander a C)
+              (at_alexander_IsPartOf a C refl) part b null));
         }
 
     -- and less is left

@@ -35,10 +35,12 @@ module _ (side : Side) (g : Marks) (s : IsGrid g) where
       ↔ Bounds (turned side g) (single (minus_state (turned side g)))
   minus_state_bounds_turned =
       let h = turned side g in
-      states_bound_alike g h (minus_state g) (minus_state h) s.x (IsGrid-turned side g s).x (minus_bounds_turned side g s)
+      states_bound_alike g h (minus_state g) (minus_state h) s.x (IsGrid-turned side g s).x
+      (minus_bounds_turned side g s)
 
 -- Across a commutation both follow from what holds of every cycle.
-module _ (axis : Axis) (g : Marks) (s : IsGrid g) (c : ℕ) (l : c < size g) (commutes : are_commuting axis g c ≡ true) where
+module _ (axis : Axis) (g : Marks) (s : IsGrid g) (c : ℕ) (l : c < size g)
+    (commutes : are_commuting axis g c ≡ true) where
   state_bounds_alike : (corner : Corner) (x y : List ℕ) → IsBijection (size g) x → border g (single x) ≡ nothing
       → image axis g c corner (single x) ≡ single y → Bounds g (single x) ↔ Bounds (swapped axis g c) (single y)
   state_bounds_alike corner x y sx cycle carried =

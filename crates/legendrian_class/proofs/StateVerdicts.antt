@@ -1,5 +1,5 @@
--- The verdicts of a set of ranks are those of its chain of states, with the evidence in states; so each chain of states
--- has a verdict, and no two.
+-- The verdicts of a set of indices are those of its chain of states, with the evidence in states; so each chain of
+-- states has a verdict, and no two.
 use Rattle.std.proofs.Common.{◌≡◌, ◌↔◌, ℕ, ◌<◌, pos, ◌+ℤ◌, List, sym, ap, subst, ◌∙◌, arith, inl, inr}
 use Rattle.std.proofs.Math.Path.{subst₂}
 use Rattle.std.proofs.lemmas.Bool.{cases_lt, false_from_ne_true, false≢true}
@@ -22,15 +22,15 @@ use Rattle.torus_geom.specs.Chains.{Chain, IsChain, single, pairs_oddly}
 use Rattle.torus_geom.specs.Border.{border, IsBorderOf, Bounds}
 use Rattle.torus_geom.specs.Codes.{states_of}
 use Rattle.torus_geom.specs.Inner.CodeBorder.{codes_of}
-use Rattle.legendrian_class.specs.VerdictCodes.{HasVerdictRanks, verdict_of}
+use Rattle.legendrian_class.specs.VerdictCodes.{HasVerdictIndices, verdict_of}
 use Rattle.legendrian_class.specs.Verdicts.Verdict.{NotCycle, Null, Alive}
 use Rattle.legendrian_class.specs.Verdicts.{Verdict, IsNotCycle, IsNull, IsAlive, IsVerdict, HasVerdict, HasOneVerdict}
-use Rattle.torus_geom.proofs.Chains.CodesLemmas.{AreRanks, by_ranks, ranks_from_All, All_from_ranks, states_of-unrank, in_states_of, IsChain-states_of, AreRanks-codes_of, states_of-codes_of, states_of-single, AreRanks-single, states_of_one_to_one, states_of-nothing, nothing_from_states_of, pairs_oddly-states_of}
+use Rattle.torus_geom.proofs.Chains.CodesLemmas.{AreIndices, by_indices, indices_from_All, All_from_indices, states_of-unrank, in_states_of, IsChain-states_of, AreIndices-codes_of, states_of-codes_of, states_of-single, AreIndices-single, states_of_one_to_one, states_of-nothing, nothing_from_states_of, pairs_oddly-states_of}
 use Rattle.rectangles.proofs.Homology.BorderLaws.{border-border}
 use Rattle.torus_geom.proofs.Chains.ReachedLemmas.{states_of-border_of_state, states_of-border, IsChain-border}
 
 -- ---- no cycle
-pub IsNotCycle-states : (g : Marks) (z : Codes) (s : ℕ) → AreRanks (size g) z → verdicts.IsNotCycle g z s
+pub IsNotCycle-states : (g : Marks) (z : Codes) (s : ℕ) → AreIndices (size g) z → verdicts.IsNotCycle g z s
     → IsNotCycle g (states_of (size g) z) (unrank (size g) s)
 IsNotCycle-states g z s below v =
     let n = size g in
@@ -47,7 +47,7 @@ IsNotCycle-states g z s below v =
           absurd (omega arith));
     }
 
-pub IsNotCycle-codes : (g : Marks) (z : Codes) (s : ℕ) → AreRanks (size g) z → s < factorial (size g)
+pub IsNotCycle-codes : (g : Marks) (z : Codes) (s : ℕ) → AreIndices (size g) z → s < factorial (size g)
     → IsNotCycle g (states_of (size g) z) (unrank (size g) s) → verdicts.IsNotCycle g z s
 IsNotCycle-codes g z s below l v =
     let n = size g in
@@ -65,7 +65,7 @@ IsNotCycle-codes g z s below l v =
     }
 
 -- ---- null
--- the degrees of states are those of their ranks
+-- the degrees of states are those of their indices
 above_states : (g : Marks) (x y : List ℕ) → IsBijection (size g) x → IsBijection (size g) y
     → verdicts.IsOneAbove g (rank x) (rank y) → bidegree g x ≡ up_m (bidegree g y)
 above_states g x y sx sy up =
@@ -83,27 +83,27 @@ pub IsBorderOf-states : (g : Marks) (b z : Codes) → verdicts.IsBorderOf g b z
     → IsBorderOf g (states_of (size g) b) (states_of (size g) z)
 IsBorderOf-states g b z is = record {
   states = IsChain-states_of (size g) b;
-  is_border = sym (states_of-border g b (ranks_from_All (size g) b is.states)) ∙ ap (states_of (size g)) is.is_border;
+  is_border = sym (states_of-border g b (indices_from_All (size g) b is.states)) ∙ ap (states_of (size g)) is.is_border;
 }
 
-pub IsBorderOf-codes : (g : Marks) (b z : Codes) → AreRanks (size g) b → AreRanks (size g) z
+pub IsBorderOf-codes : (g : Marks) (b z : Codes) → AreIndices (size g) b → AreIndices (size g) z
     → IsBorderOf g (states_of (size g) b) (states_of (size g) z) → verdicts.IsBorderOf g b z
 IsBorderOf-codes g b z below_b below_z is = record {
-  states = All_from_ranks (size g) b below_b;
+  states = All_from_indices (size g) b below_b;
   is_border =
       states_of_one_to_one (size g) (code_border.border g b) z (border-below g b) below_z
       (states_of-border g b below_b ∙ is.is_border);
 }
 
--- a set of ranks bounds where its chain of states does
-pub Bounds-states : (g : Marks) (z : Codes) → AreRanks (size g) z
+-- a set of indices bounds where its chain of states does
+pub Bounds-states : (g : Marks) (z : Codes) → AreIndices (size g) z
     → verdicts.Bounds g z ↔ Bounds g (states_of (size g) z)
 Bounds-states g z below =
     let n = size g in (
       λ (b, is). (states_of n b, IsBorderOf-states g b z is),
       λ (b, is). (
         codes_of n b,
-        IsBorderOf-codes g (codes_of n b) z (AreRanks-codes_of n b) below
+        IsBorderOf-codes g (codes_of n b) z (AreIndices-codes_of n b) below
             (subst (λ w. IsBorderOf g w (states_of n z)) (sym (states_of-codes_of n b is.states)) is),
       ),
     )
@@ -112,7 +112,7 @@ pub IsNull-states : (g : Marks) (z b : Codes) → verdicts.IsNull g z b
     → IsNull g (states_of (size g) z) (states_of (size g) b)
 IsNull-states g z b null =
     let n = size g in
-    let below_z : AreRanks n z =
+    let below_z : AreIndices n z =
     λ s h. border-below g b s (ap (λ w. holds w s) null.bounds.is_border ∙ h) in
     record {
       bounds = IsBorderOf-states g b z null.bounds;
@@ -128,7 +128,7 @@ IsNull-states g z b null =
           );
     }
 
-pub IsNull-codes : (g : Marks) (z b : Codes) → AreRanks (size g) z → AreRanks (size g) b
+pub IsNull-codes : (g : Marks) (z b : Codes) → AreIndices (size g) z → AreIndices (size g) b
     → IsNull g (states_of (size g) z) (states_of (size g) b) → verdicts.IsNull g z b
 IsNull-codes g z b below_z below_b null = record {
   bounds = IsBorderOf-codes g b z below_b below_z null.bounds;
@@ -140,7 +140,7 @@ IsNull-codes g z b below_z below_b null = record {
 }
 
 -- ---- alive
--- a state's border pairs with a chain as its ranks do
+-- a state's border pairs with a chain as its indices do
 pub even-state : (g : Marks) (f : Codes) (x : List ℕ) → IsBijection (size g) x
     → pairs_oddly (size g) (border g (single x)) (states_of (size g) f) ≡ over_codes.pairs_oddly (border_of_state g x) f
 even-state g f x sx =
@@ -153,7 +153,7 @@ degree_states g x y sx sy one =
     ap (bidegree g) (sym (unrank-rank (size g) x sx)) ∙ (λ i. (one.maslov i, one.alexander i))
     ∙ ap (bidegree g) (unrank-rank (size g) y sy)
 
-pub IsAlive-states : (g : Marks) (z f : Codes) → AreRanks (size g) z → verdicts.IsAlive g z f
+pub IsAlive-states : (g : Marks) (z f : Codes) → AreIndices (size g) z → verdicts.IsAlive g z f
     → IsAlive g (states_of (size g) z) (states_of (size g) f)
 IsAlive-states g z f below alive =
     let n = size g in
@@ -175,14 +175,14 @@ IsAlive-states g z f below alive =
       );
     }
 
-pub IsAlive-codes : (g : Marks) (z f : Codes) → AreRanks (size g) z → AreRanks (size g) f
+pub IsAlive-codes : (g : Marks) (z f : Codes) → AreIndices (size g) z → AreIndices (size g) f
     → IsAlive g (states_of (size g) z) (states_of (size g) f) → verdicts.IsAlive g z f
 IsAlive-codes g z f below below_f alive =
     let n = size g in
     let (y, in_z, one) = alive.degrees in
     let (sy, held) = in_states_of n z y in_z in
     record {
-      states = All_from_ranks n f below_f;
+      states = All_from_indices n f below_f;
       cycle =
           nothing_from_states_of n (code_border.border g z) (border-below g z)
           (states_of-border g z below ∙ alive.cycle);
@@ -200,15 +200,15 @@ IsAlive-codes g z f below below_f alive =
     }
 
 -- ---- verdicts
--- A verdict of a set of ranks is one of its chain of states.
-pub IsVerdict-states : (g : Marks) (z : Codes) → AreRanks (size g) z → (v : ClassVerdict) → verdicts.IsVerdict g z v
+-- A verdict of a set of indices is one of its chain of states.
+pub IsVerdict-states : (g : Marks) (z : Codes) → AreIndices (size g) z → (v : ClassVerdict) → verdicts.IsVerdict g z v
     → IsVerdict g (states_of (size g) z) (verdict_of (size g) v)
 IsVerdict-states g z below (answers.NotCycle s) v = IsNotCycle-states g z s below v
 IsVerdict-states g z below (answers.Null b) v = IsNull-states g z b v
 IsVerdict-states g z below (answers.Alive f) v = IsAlive-states g z f below v
 
--- And each verdict of its chain of states is that of a verdict of the set, with the ranks of the evidence.
-pub IsVerdict-codes : (g : Marks) (z : Codes) → AreRanks (size g) z → (v : Verdict)
+-- And each verdict of its chain of states is that of a verdict of the set, with the indices of the evidence.
+pub IsVerdict-codes : (g : Marks) (z : Codes) → AreIndices (size g) z → (v : Verdict)
     → IsVerdict g (states_of (size g) z) v
     → (w : ClassVerdict) × verdicts.IsVerdict g z w × (verdict_of (size g) w ≡ v)
 IsVerdict-codes g z below (NotCycle x) v =
@@ -223,22 +223,22 @@ IsVerdict-codes g z below (Null b) v =
     let n = size g in
     let e = states_of-codes_of n b v.bounds.states in (
       answers.Null (codes_of n b),
-      IsNull-codes g z (codes_of n b) below (AreRanks-codes_of n b) (subst (IsNull g (states_of n z)) (sym e) v),
+      IsNull-codes g z (codes_of n b) below (AreIndices-codes_of n b) (subst (IsNull g (states_of n z)) (sym e) v),
       ap Null e,
     )
 IsVerdict-codes g z below (Alive f) v =
     let n = size g in
     let e = states_of-codes_of n f v.states in (
       answers.Alive (codes_of n f),
-      IsAlive-codes g z (codes_of n f) below (AreRanks-codes_of n f) (subst (IsAlive g (states_of n z)) (sym e) v),
+      IsAlive-codes g z (codes_of n f) below (AreIndices-codes_of n f) (subst (IsAlive g (states_of n z)) (sym e) v),
       ap Alive e,
     )
 
 -- Each chain of states has a verdict, with some evidence.
 pub HasVerdict-states : (g : Marks) → IsGrid g → (z : Chain) → IsChain (size g) z → HasVerdict g z
 HasVerdict-states g s z sz =
-    by_ranks (size g) (HasVerdict g) (λ w below.
-    let (v, is) = some_verdict g s w (All_from_ranks (size g) w below) in
+    by_indices (size g) (HasVerdict g) (λ w below.
+    let (v, is) = some_verdict g s w (All_from_indices (size g) w below) in
     (verdict_of (size g) v, IsVerdict-states g w below v is)) z sz
 
 -- and no two
@@ -254,39 +254,39 @@ HasOneVerdict-states g s z = record {
       let same_b = states_of-codes_of n b bounds.states in
       let same_f = states_of-codes_of n f alive.states in
       (one_verdict g s (codes_of n z)).border_or_alive (codes_of n b) (codes_of n f)
-      (IsBorderOf-codes g (codes_of n b) (codes_of n z) (AreRanks-codes_of n b) (AreRanks-codes_of n z)
+      (IsBorderOf-codes g (codes_of n b) (codes_of n z) (AreIndices-codes_of n b) (AreIndices-codes_of n z)
       (subst₂ (IsBorderOf g) (sym same_b) (sym same_z) bounds))
-      (IsAlive-codes g (codes_of n z) (codes_of n f) (AreRanks-codes_of n z) (AreRanks-codes_of n f)
+      (IsAlive-codes g (codes_of n z) (codes_of n f) (AreIndices-codes_of n z) (AreIndices-codes_of n f)
       (subst₂ (IsAlive g) (sym same_z) (sym same_f) alive));
 }
 
 -- ---- what the call answers
--- a verdict of a set of ranks has ranks for its evidence
-pub HasVerdictRanks-verdict : (g : Marks) (z : Codes) → AreRanks (size g) z → (v : ClassVerdict)
-    → verdicts.IsVerdict g z v → HasVerdictRanks (size g) v
-HasVerdictRanks-verdict g z below (answers.NotCycle s) is = border-below g z s is.held
-HasVerdictRanks-verdict g z below (answers.Null b) is = is.bounds.states
-HasVerdictRanks-verdict g z below (answers.Alive f) is = is.states
+-- a verdict of a set of indices has indices for its evidence
+pub HasVerdictIndices-verdict : (g : Marks) (z : Codes) → AreIndices (size g) z → (v : ClassVerdict)
+    → verdicts.IsVerdict g z v → HasVerdictIndices (size g) v
+HasVerdictIndices-verdict g z below (answers.NotCycle s) is = border-below g z s is.held
+HasVerdictIndices-verdict g z below (answers.Null b) is = is.bounds.states
+HasVerdictIndices-verdict g z below (answers.Alive f) is = is.states
 
 -- and a verdict of the chain of states is one of the set
-pub verdict_codes : (g : Marks) (z : Codes) → AreRanks (size g) z → (v : ClassVerdict) → HasVerdictRanks (size g) v
+pub verdict_codes : (g : Marks) (z : Codes) → AreIndices (size g) z → (v : ClassVerdict) → HasVerdictIndices (size g) v
     → IsVerdict g (states_of (size g) z) (verdict_of (size g) v) → verdicts.IsVerdict g z v
 verdict_codes g z below (answers.NotCycle s) ranks is = IsNotCycle-codes g z s below ranks is
-verdict_codes g z below (answers.Null b) ranks is = IsNull-codes g z b below (ranks_from_All (size g) b ranks) is
-verdict_codes g z below (answers.Alive f) ranks is = IsAlive-codes g z f below (ranks_from_All (size g) f ranks) is
+verdict_codes g z below (answers.Null b) ranks is = IsNull-codes g z b below (indices_from_All (size g) b ranks) is
+verdict_codes g z below (answers.Alive f) ranks is = IsAlive-codes g z f below (indices_from_All (size g) f ranks) is
 
 -- ---- x+ and x-
--- a state bounds where the set of its rank does
+-- a state bounds where the set of its index does
 pub state_bounds : (g : Marks) (x : List ℕ) → IsBijection (size g) x
     → verdicts.Bounds g (one_code (rank x)) ↔ Bounds g (single x)
 state_bounds g x sx =
-    let (there, back) = Bounds-states g (one_code (rank x)) (AreRanks-single (size g) x sx) in
+    let (there, back) = Bounds-states g (one_code (rank x)) (AreIndices-single (size g) x sx) in
     let same = states_of-single (size g) x sx in (
       λ b. subst (Bounds g) same (there b),
       λ b. back (subst (Bounds g) (sym same) b),
     )
 
--- where the sets of the ranks of two states bound alike, so do the states
+-- where the sets of the indices of two states bound alike, so do the states
 pub states_bound_alike : (g h : Marks) (x y : List ℕ) → IsBijection (size g) x → IsBijection (size h) y
     → verdicts.Bounds g (one_code (rank x)) ↔ verdicts.Bounds h (one_code (rank y))
     → Bounds g (single x) ↔ Bounds h (single y)

@@ -22,7 +22,7 @@ use Rattle.grid_moves.specs.Inner.CodeCarried.{turned_chain}
 use Rattle.grid_moves.specs.Moves.{moved_row, turned, turned_rows}
 use Rattle.grid_moves.specs.declared.turns.Side.{Side}
 use Rattle.pentagon_map.proofs.FrontStates.PlusState.{IsBijection-plus_state, length-plus_state, plus_state-at}
-use Rattle.legendrian_class.proofs.FollowedLemmas.{HasRanks-turned}
+use Rattle.legendrian_class.proofs.FollowedLemmas.{HasIndices-turned}
 use Rattle.legendrian_class.specs.Inner.CodeVerdicts.{Bounds, minus_chain, plus_chain}
 
 module _ (side : Side) (g : Marks) (s : IsGrid g) where
@@ -87,7 +87,7 @@ module _ (class : Marks → Chain)
   there side g s (b, is) = (
     turned_chain side (size g) b,
     record {
-      states = HasRanks-turned side g b is.states;
+      states = HasIndices-turned side g b is.states;
       is_border = border-turned side g s b ∙ ap (turned_chain side (size g)) is.is_border ∙ carried side g s;
     },
   )

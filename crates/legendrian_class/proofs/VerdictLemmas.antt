@@ -17,7 +17,7 @@ use Rattle.torus_geom.specs.Inner.GridComplex.{grid_complex}
 use Rattle.rectangles.proofs.Square.BorderLemmas.{border-border, border-grid_complex, border-below}
 use Rattle.rectangles.proofs.Law.GridComplexLemmas.{grid_complex_rules}
 use Rattle.legendrian_class.specs.declared.verdicts.ClassVerdict.TheVariants as verdict
-use Rattle.torus_geom.specs.Codes.{HasRanks}
+use Rattle.torus_geom.specs.Codes.{HasIndices}
 use Rattle.legendrian_class.specs.Inner.CodeVerdicts.{IsNotCycle, IsNull, IsAlive, HasVerdict, HasOneVerdict}
 use Rattle.rectangles.proofs.Homology.CorankLemmas.{targets-below}
 use Rattle.rectangles.proofs.Homology.HomologyLemmas.{degree_is}
@@ -108,13 +108,13 @@ cell_below : (g : Marks) (s : ℕ) (b : Bool) → is_some (if b then Some (bideg
 cell_below g s true h = refl
 cell_below g s false h = h
 
-cells_of : (g : Marks) (z : Chain) → HasRanks (size g) z → AllCells (grid_complex g) z
+cells_of : (g : Marks) (z : Chain) → HasIndices (size g) z → AllCells (grid_complex g) z
 cells_of g z states s h =
     ap (λ b. is_some (if b then Some (bidegree g (unrank (size g) s)) else None))
     (lt-ltb s (factorial (size g)) (each_code (λ code. code < factorial (size g)) z states s h))
 
 -- each chain of states has a verdict, with some evidence
-pub some_verdict : (g : Marks) → IsGrid g → (z : Chain) → HasRanks (size g) z → HasVerdict g z
+pub some_verdict : (g : Marks) → IsGrid g → (z : Chain) → HasIndices (size g) z → HasVerdict g z
 some_verdict g grid z states =
     let C = grid_complex g in
     elim (exists_verdict C (grid_complex_rules g grid) (codes_below (factorial (size g)))

@@ -12,7 +12,7 @@ ghost use Rattle.grid_symmetry.specs.Symmetries.{half_turned, symmetric, symmetr
 ghost use Rattle.legendrian_class.specs.Followed.{after_commutation, after_symmetry, after_turn, at_start};
 ghost use Rattle.legendrian_class.specs.FollowedCodes.{followed_of};
 ghost use Rattle.legendrian_class.specs.Inner.CodeFollowed.{codes_after};
-ghost use Rattle.torus_geom.specs.Codes.{HasRanks};
+ghost use Rattle.torus_geom.specs.Codes.{HasIndices};
 
 use f2_chain::{Builder, Chain, CodeSet};
 use grid_moves::{Axis, Side, swap, turn_state};
@@ -32,7 +32,7 @@ pub struct Follower {
 }
 
 impl Model for Follower {
-    ghost use Rattle.torus_geom.specs.Codes.{HasRanks};
+    ghost use Rattle.torus_geom.specs.Codes.{HasIndices};
     ghost use Rattle.torus_geom.specs.Marks.{size as size_of};
     ghost use Rattle.legendrian_class.specs.FollowedCodes.{FollowedCodes, followed_code};
 
@@ -42,7 +42,7 @@ impl Model for Follower {
 
     ghost view = { λ f. record { grid = f.grid; chain = f.chain } };
 
-    ghost invariant = { λ f. HasRanks (size_of f.grid) f.chain };
+    ghost invariant = { λ f. HasIndices (size_of f.grid) f.chain };
 }
 
 impl Follower {
@@ -58,7 +58,7 @@ impl Follower {
 
     /// Puts the chain `z` in the place of the chain.
     pub fn set(&mut self, z: Chain)
-        requires ranks { HasRanks (size self.old.grid) z }
+        requires indices { HasIndices (size self.old.grid) z }
         ensures grid { self.new.grid ≡ self.old.grid }
         ensures chain { self.new.chain ≡ z }
     {
@@ -75,7 +75,7 @@ impl Follower {
     /// The chain.
     pub fn chain(&self) -> &Chain
         ensures chain { result.now ≡ self.now.chain }
-        ensures ranks { HasRanks (size self.now.grid) self.now.chain }
+        ensures indices { HasIndices (size self.now.grid) self.now.chain }
     {
         &self.chain
     }
@@ -185,7 +185,7 @@ impl Follower {
 // The chain of what the states of `z`, of size `n`, become by the symmetry; none after the mirror image.
 fn chain_after(alloc: Global, n: u8, s: Symmetry, z: &Chain) -> Result<Chain, NoMemory>
     requires is_size { IsSize n }
-    requires ranks { HasRanks n z.now }
+    requires indices { HasIndices n z.now }
     ensures { IfOk result (λ y. y ≡ codes_after s n z.now) }
 {
     match s {
@@ -197,7 +197,7 @@ fn chain_after(alloc: Global, n: u8, s: Symmetry, z: &Chain) -> Result<Chain, No
 // The chain of what the states of `z`, of size `n`, become by the symmetry.
 fn carried_states(alloc: Global, n: u8, s: Symmetry, z: &Chain) -> Result<Chain, NoMemory>
     requires is_size { IsSize n }
-    requires ranks { HasRanks n z.now }
+    requires indices { HasIndices n z.now }
     ensures { IfOk result (λ y. y ≡ carried n (symmetric_state s) z.now) }
 {
     let mut carried = Builder::new(alloc);
@@ -210,7 +210,7 @@ fn carried_states(alloc: Global, n: u8, s: Symmetry, z: &Chain) -> Result<Chain,
 // The chain of the turned states of `z`, of size `n`.
 fn turned_states(alloc: Global, n: u8, side: Side, z: &Chain) -> Result<Chain, NoMemory>
     requires is_size { IsSize n }
-    requires ranks { HasRanks n z.now }
+    requires indices { HasIndices n z.now }
     ensures { IfOk result (λ y. y ≡ turned_chain side n z.now) }
 {
     let mut turned = Builder::new(alloc);

@@ -7,7 +7,7 @@ ghost use Rattle.state_rank.specs.Bijection.{IsSize};
 ghost use Rattle.state_rank.specs.States.{factorial};
 ghost use Rattle.torus_geom.specs.Marks.{size};
 ghost use Rattle.torus_geom.specs.Inner.GridComplex.{grid_complex};
-ghost use Rattle.torus_geom.specs.Codes.{HasRanks};
+ghost use Rattle.torus_geom.specs.Codes.{HasIndices};
 ghost use Rattle.legendrian_class.specs.Inner.Parts.{IsLeast, has_alexander, IsPartVerdict};
 
 use bumpalo::Bump;
@@ -35,7 +35,7 @@ pub(crate) fn first_code(z: &Chain) -> Option<u32>
     z.codes().first().copied()
 }
 
-// The part of `z` at the Alexander degree `a`, which the state of rank `first` has.
+// The part of `z` at the Alexander degree `a`, which the state of index `first` has.
 pub(crate) fn part_at(
     alloc: Global,
     tables: &DegreeTables,
@@ -46,7 +46,7 @@ pub(crate) fn part_at(
 ) -> Result<Chain, NoMemory>
     requires size { n ≡ size tables.now }
     requires is_size { IsSize n }
-    requires ranks { HasRanks (size tables.now) z.now }
+    requires indices { HasIndices (size tables.now) z.now }
     requires first { has_alexander tables.now a first ≡ true }
     ensures { IfOk result (λ part. part ≡ where_code (has_alexander tables.now a) z.now) }
 {
@@ -59,7 +59,7 @@ pub(crate) fn part_at(
     part.finish()
 }
 
-// Whether the state of rank `code` has the Alexander degree `a`, which that of rank `first` has.
+// Whether the state of index `code` has the Alexander degree `a`, which that of index `first` has.
 fn is_at(tables: &DegreeTables, n: u8, a: i32, first: u32, code: u32) -> bool
     requires size { n ≡ size tables.now }
     requires is_size { IsSize n }

@@ -2,11 +2,11 @@
 ghost use Rattle.std.specs.Prelude.{◌≡◌, IfOk};
 ghost use Rattle.f2_algebra.specs.Chain.{nothing};
 ghost use Rattle.torus_geom.specs.Chains.{Chain as States, IsChain};
-ghost use Rattle.torus_geom.specs.Codes.{HasRanks, states_of};
+ghost use Rattle.torus_geom.specs.Codes.{HasIndices, states_of};
 ghost use Rattle.torus_geom.specs.Inner.CodeBorder.{border as border_codes};
 ghost use Rattle.torus_geom.specs.Marks.{size};
 ghost use Rattle.legendrian_class.specs.Verdicts.{IsVerdict, HasVerdict, HasOneVerdict};
-ghost use Rattle.legendrian_class.specs.VerdictCodes.{HasVerdictRanks, verdict_of as states_verdict};
+ghost use Rattle.legendrian_class.specs.VerdictCodes.{HasVerdictIndices, verdict_of as states_verdict};
 ghost use Rattle.legendrian_class.specs.Inner.CodeVerdicts.{IsVerdict as IsCodeVerdict};
 
 use crate::parts::{PartVerdict, first_code, part_at, part_verdict};
@@ -30,7 +30,7 @@ pub enum ClassVerdict {
     Alive { cocycle: Cochain },
 }
 
-/// The verdict of the chain `z` of states of `g`, by their ranks.
+/// The verdict of the chain `z` of states of `g`, by their indices.
 ///
 /// For the chain of x+ or x- alone it is that of the Legendrian class of the link that the grid gives
 /// (Ozsváth, Stipsicz and Szabó, "Grid Homology for Knots and Links", chapter 12), in the fully blocked
@@ -41,9 +41,10 @@ pub enum ClassVerdict {
 ///
 /// `NoMemory` if the allocator refuses.
 pub fn verdict(alloc: Global, g: &Grid, z: &Chain) -> Result<ClassVerdict, NoMemory>
-    requires ranks { HasRanks (size g.now) z.now }
-    ensures verdict { IfOk result (λ v. IsVerdict g.now (states_of (size g.now) z.now) (states_verdict (size g.now) v)) }
-    ensures evidence { IfOk result (HasVerdictRanks (size g.now)) }
+    requires indices { HasIndices (size g.now) z.now }
+    ensures verdict { IfOk result (λ v.
+        IsVerdict g.now (states_of (size g.now) z.now) (states_verdict (size g.now) v)) }
+    ensures evidence { IfOk result (HasVerdictIndices (size g.now)) }
 
     // Whatever the call answers: each chain of states has a verdict with some evidence, and no two.
     ensures some_verdict { (y : States) → IsChain (size g.now) y → HasVerdict g.now y }
@@ -55,7 +56,7 @@ pub fn verdict(alloc: Global, g: &Grid, z: &Chain) -> Result<ClassVerdict, NoMem
 
 // The verdict of a chain.
 fn verdict_of(alloc: Global, g: &Grid, z: &Chain) -> Result<ClassVerdict, NoMemory>
-    requires ranks { HasRanks (size g.now) z.now }
+    requires indices { HasIndices (size g.now) z.now }
     ensures { IfOk result (IsCodeVerdict g.now z.now) }
 {
     match first_code(&border(alloc, g, z)?) {
@@ -67,7 +68,7 @@ fn verdict_of(alloc: Global, g: &Grid, z: &Chain) -> Result<ClassVerdict, NoMemo
 // The verdict of a cycle. Its parts at each Alexander degree are cycles; it is null where each of them is,
 // and alive by the cocycle of any that is alive. `left` is the sum of the parts that are ahead.
 fn cycle_verdict(alloc: Global, g: &Grid, z: &Chain) -> Result<ClassVerdict, NoMemory>
-    requires ranks { HasRanks (size g.now) z.now }
+    requires indices { HasIndices (size g.now) z.now }
     requires cycle { border_codes g.now z.now ≡ nothing }
     ensures { IfOk result (IsCodeVerdict g.now z.now) }
 {

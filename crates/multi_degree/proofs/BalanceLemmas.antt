@@ -59,10 +59,12 @@ pub around-marks : (n : ℕ) (y o : List ℕ) (d : ℕ)
     → around n (mark y) (mark o d) ≡ marks_around n (slice_index y) d (slice_index o d)
 around-marks n y o d =
     ap₂ (λ u v. u +ℤ v)
-    (sum_below_same n (λ c. one_if (ltb (2 * c + 1) (2 * d + 1) && ltb (2 * slice_index y c + 1) (2 * slice_index o d + 1)))
+    (sum_below_same n (λ c. one_if
+    (ltb (2 * c + 1) (2 * d + 1) && ltb (2 * slice_index y c + 1) (2 * slice_index o d + 1)))
     (λ c. one_if (ltb c d && ltb (slice_index y c) (slice_index o d)))
     (λ c l. λ i. one_if (odd-odd c d i && odd-odd (slice_index y c) (slice_index o d) i)))
-    (sum_below_same n (λ c. one_if (ltb (2 * d + 1) (2 * c + 1) && ltb (2 * slice_index o d + 1) (2 * slice_index y c + 1)))
+    (sum_below_same n (λ c. one_if
+    (ltb (2 * d + 1) (2 * c + 1) && ltb (2 * slice_index o d + 1) (2 * slice_index y c + 1)))
     (λ c. one_if (ltb d c && ltb (slice_index o d) (slice_index y c)))
     (λ c l. λ i. one_if (odd-odd d c i && odd-odd (slice_index o d) (slice_index y c) i)))
 

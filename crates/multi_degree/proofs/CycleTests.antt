@@ -90,7 +90,8 @@ module _ (g : Marks) (grid : IsGrid g) where
       (λ f. sum_below (size g) (λ d. cond (is_first g f && is_on_cycle g f d) (F d) (pos 0)))
       (λ f l. guarded (size g) (is_first g f) (is_on_cycle g f))
       ∙ sum_below_swap (size g) (size g) (λ f d. cond (is_first g f && is_on_cycle g f d) (F d) (pos 0))
-      ∙ sum_below_same (size g) (λ d. sum_below (size g) (λ f. cond (is_first g f && is_on_cycle g f d) (F d) (pos 0))) F
+      ∙ sum_below_same (size g) (λ d. sum_below (size g)
+      (λ f. cond (is_first g f && is_on_cycle g f d) (F d) (pos 0))) F
       (λ d l.
       sum_below_same (size g) (λ f. cond (is_first g f && is_on_cycle g f d) (F d) (pos 0))
       (at_only (first_of d l).0 (λ f. F d)) (λ f lf. ap (λ b. cond b (F d) (pos 0)) (one_first d l f lf))

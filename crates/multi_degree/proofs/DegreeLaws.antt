@@ -70,7 +70,8 @@ module _ (g : Marks) (grid : IsGrid g) where
   -- ---- a set of columns that the walk keeps
   module _ (here : ℕ → Bool) (keeps : (c : ℕ) → c < size g → here (column_after g c) ≡ here c) where
     -- the balances of all marks add up to an even number
-    pub mark_balances-even : (half : ℤ) × (pair_balance g here (mark g.x) +ℤ pair_balance g here (mark g.o) ≡ half +ℤ half)
+    pub mark_balances-even : (half : ℤ)
+        × (pair_balance g here (mark g.x) +ℤ pair_balance g here (mark g.o) ≡ half +ℤ half)
     mark_balances-even =
         let even = balances_even (size g) here (slice_index g.o) (slice_index g.x) (column_after g)
         (column_after_one g grid) o_one x_one keeps row_after grid.apart in

@@ -95,7 +95,11 @@ one_if-left a b p = let e : ltb b a ≡ not (ltb a b) = grind arith in
     by false = refl
 
 itself : (a : ℕ) → (one_if (leb a a) ≡ pos 1) × (one_if (ltb a a) ≡ pos 0)
-itself a = (ap one_if (let e : leb a a ≡ true = grind arith in e), ap one_if (let e : ltb a a ≡ false = grind arith in e))
+itself a = (
+  ap one_if (let e : leb a a ≡ true = grind arith in e),
+  ap one_if
+      (let e : ltb a a ≡ false = grind arith in e),
+)
 
 module _ (n : ℕ) (here : ℕ → Bool) (O X after : ℕ → ℕ) (one : IsOneToOne n after) (one_o : IsOneToOne n O)
     (one_x : IsOneToOne n X) (keeps : (c : ℕ) → c < n → here (after c) ≡ here c)

@@ -7,7 +7,7 @@ ghost use Rattle.state_rank.specs.Bijection.{IsBijection};
 ghost use Rattle.state_rank.specs.States.{IsState, rank};
 ghost use Rattle.torus_geom.specs.Border.{border};
 ghost use Rattle.torus_geom.specs.Chains.{Chain as States, IsChain, members, single};
-ghost use Rattle.torus_geom.specs.Codes.{HasRanks, states_of};
+ghost use Rattle.torus_geom.specs.Codes.{HasIndices, states_of};
 ghost use Rattle.torus_geom.specs.Degrees.{maslov_o, alexander};
 ghost use Rattle.torus_geom.specs.Front.{plus_state, minus_state};
 ghost use Rattle.torus_geom.specs.Marks.{Marks, IsGrid, size};
@@ -65,7 +65,7 @@ pub fn pentagon_targets(
 /// The image of `z` where columns (or rows) `c - 1` and `c` of `g` are exchanged: the states to which an odd
 /// number of pentagons lead from members of `z`.
 ///
-/// It is a chain of the exchanged grid. `z` and the answer hold ranks of states, each from 0 to n! - 1, where
+/// It is a chain of the exchanged grid. `z` and the answer hold indices of states, each from 0 to n! - 1, where
 /// n is the size of `g`.
 ///
 /// # Errors
@@ -81,10 +81,10 @@ pub fn image(
 ) -> Result<Chain, NoMemory>
     requires below { c < size g.now }
     requires commutes { IsTrue (are_commuting axis g.now c) }
-    requires ranks { HasRanks (size g.now) z.now }
+    requires indices { HasIndices (size g.now) z.now }
     ensures image { IfOk result (λ y. states_of (size g.now) y
         ≡ image_of axis g.now c corner (states_of (size g.now) z.now)) }
-    ensures ranks_again { IfOk result (HasRanks (size g.now)) }
+    ensures indices_again { IfOk result (HasIndices (size g.now)) }
 
     // The image of the border of any chain is the border, in the exchanged grid, of its image, whatever the
     // call answers.
@@ -93,7 +93,8 @@ pub fn image(
 
     // A turn carries the image of any chain to the image of the turned chain, at the turned place.
     ensures turns { (side : Side) (y : States) → IsChain (size g.now) y
-        → image_of axis (turned side g.now) (turned_place axis side (size g.now) c) corner (turned_chain side (size g.now) y)
+        → image_of axis (turned side g.now) (turned_place axis side (size g.now) c) corner
+        (turned_chain side (size g.now) y)
         ≡ turned_chain side (size g.now) (image_of axis g.now c corner y) }
 
     // Each state of the image of a state has, in the exchanged grid, the Maslov degree of that state.
@@ -128,10 +129,10 @@ fn image_sum(
     z: &Chain,
 ) -> Result<Chain, NoMemory>
     requires below { c < size g.now }
-    requires ranks { HasRanks (size g.now) z.now }
+    requires indices { HasIndices (size g.now) z.now }
     ensures image { IfOk result (λ y. states_of (size g.now) y
         ≡ image_of axis g.now c corner (states_of (size g.now) z.now)) }
-    ensures ranks_again { IfOk result (HasRanks (size g.now)) }
+    ensures indices_again { IfOk result (HasIndices (size g.now)) }
 {
     let n = g.size();
     let t = across(g, axis);

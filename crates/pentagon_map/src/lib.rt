@@ -2,7 +2,7 @@
 //! rows side by side.
 //!
 //! Read `image` first, and specs/Pentagon.antt, which has a picture. `pentagon_targets` is the image of one
-//! state and asks for no memory. Contracts see a chain as a set of states by their ranks. Stands on
+//! state and asks for no memory. Contracts see a chain as a set of states by their indices. Stands on
 //! `rectangles`, `grid_moves`, `f2_chain` and what these stand on.
 //!
 //! Example: in the grid with its O in rows 0 1 2 3 and its X in rows 2 0 3 1, columns 1 and 2 commute, and

@@ -5,7 +5,7 @@ ghost use Rattle.torus_geom.specs.Marks.{size};
 ghost use Rattle.torus_geom.specs.Degrees.{maslov_o, alexander};
 ghost use Rattle.torus_geom.specs.Border.{border as border_of};
 ghost use Rattle.torus_geom.specs.Chains.{Chain as States, nothing, single};
-ghost use Rattle.torus_geom.specs.Codes.{HasRanks, states_of};
+ghost use Rattle.torus_geom.specs.Codes.{HasIndices, states_of};
 ghost use Rattle.torus_geom.specs.Inner.CodeBorder.{border_of_state as border_codes};
 
 use crate::first_marks::FirstMarks;
@@ -17,7 +17,7 @@ use std::alloc::Global;
 use torus_geom::Grid;
 
 /// The border of the state `x`: the states to which an odd number of empty unmarked rectangles of `g`
-/// lead from `x`, by their ranks.
+/// lead from `x`, by their indices.
 ///
 /// `g` and `x` have one size.
 ///
@@ -27,7 +27,7 @@ use torus_geom::Grid;
 pub fn border_of_state(alloc: Global, g: &Grid, x: &State) -> Result<Chain, NoMemory>
     requires size { length x.now ≡ size g.now }
     ensures border { IfOk result (λ z. states_of (size g.now) z ≡ border_of g.now (single x.now)) }
-    ensures ranks { IfOk result (HasRanks (size g.now)) }
+    ensures indices { IfOk result (HasIndices (size g.now)) }
 
     // Each state of the border has a Maslov degree one lower than `x`, whatever the call answers.
     ensures lowers_maslov { (y : List ℕ) → border_of g.now (single x.now) y ≡ true
@@ -49,16 +49,16 @@ pub fn border_of_state(alloc: Global, g: &Grid, x: &State) -> Result<Chain, NoMe
 /// members of `z`.
 ///
 /// It is the differential of the fully blocked grid complex over F2 (Ozsváth, Stipsicz and Szabó,
-/// "Grid Homology for Knots and Links", chapter 4). `z` and the answer hold ranks of states, each
+/// "Grid Homology for Knots and Links", chapter 4). `z` and the answer hold indices of states, each
 /// from 0 to n! - 1, where n is the size of `g`.
 ///
 /// # Errors
 ///
 /// `NoMemory` if the allocator refuses.
 pub fn border(alloc: Global, g: &Grid, z: &Chain) -> Result<Chain, NoMemory>
-    requires ranks { HasRanks (size g.now) z.now }
+    requires indices { HasIndices (size g.now) z.now }
     ensures border { IfOk result (λ y. states_of (size g.now) y ≡ border_of g.now (states_of (size g.now) z.now)) }
-    ensures ranks_again { IfOk result (HasRanks (size g.now)) }
+    ensures indices_again { IfOk result (HasIndices (size g.now)) }
 
     // The border of the border of any chain is empty, whatever the call answers.
     ensures square { (y : States) → border_of g.now (border_of g.now y) ≡ nothing }

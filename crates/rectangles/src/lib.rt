@@ -2,7 +2,7 @@
 //!
 //! Read `border` first. Its contract says that the answer is the border, and that the border of a
 //! border is empty (proofs/Square/BorderLemmas.antt). `targets` lists the states of the border of one state,
-//! in order, and asks for no memory. Contracts see a chain as a set of states by their ranks. Stands on
+//! in order, and asks for no memory. Contracts see a chain as a set of states by their indices. Stands on
 //! `torus_geom`, `state_rank` and `f2_chain`.
 //!
 //! Example: in the grid with its O in rows 2 1 0 and its X in rows 1 0 2, `border(alloc, &g, &z)?` of the chain

@@ -51,7 +51,8 @@ pub same_before_more : (rows others : List TableRow) (k : ℕ) (d : TableRow) �
 same_before_more rows others k d within long here before j e l = elim (cases_eq j k) [
   | inl at ↦
       ap (λ i. same_row (get_or rows i e) (get_or others i e)) at
-      ∙ ap₂ same_row (get_or_default rows k e d within) (get_or_default others k e d (omega (arith, within, long))) ∙ here
+      ∙ ap₂ same_row (get_or_default rows k e d within)
+      (get_or_default others k e d (omega (arith, within, long))) ∙ here
   | inr other ↦ before j e (omega arith)
 ]
 

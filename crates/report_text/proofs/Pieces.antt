@@ -22,9 +22,16 @@ pub row_line-pieces : (l m a d : List ℕ)
     ≡ l ++ line (codes "rank " ++ m ++ 32 ∷ a ++ 32 ∷ d)
 row_line-pieces l m a d = simp append_assoc
 
+-- so do those of a row of a table by component
+pub multi_row_line-pieces : (l m ds d : List ℕ)
+    → (((((l ++ codes "rank ") ++ m) ++ ds) ++ 32 ∷ []) ++ d) ++ 10 ∷ []
+    ≡ l ++ line (codes "rank " ++ m ++ ds ++ 32 ∷ d)
+multi_row_line-pieces l m ds d = simp append_assoc
+
 -- the pieces of the line of a class make one line
 pub class_line-pieces : (s x m a v : List ℕ)
-    → (((((((((codes "class " ++ s) ++ 32 ∷ []) ++ x) ++ codes " at ") ++ m) ++ 32 ∷ []) ++ a) ++ 32 ∷ []) ++ v) ++ 10 ∷ []
+    → (((((((((codes "class " ++ s) ++ 32 ∷ []) ++ x) ++ codes " at ") ++ m) ++ 32 ∷ []) ++ a) ++ 32 ∷ [])
+    ++ v) ++ 10 ∷ []
     ≡ line (codes "class " ++ s ++ 32 ∷ x ++ codes " at " ++ m ++ 32 ∷ a ++ 32 ∷ v)
 class_line-pieces s x m a v = simp append_assoc
 

@@ -11,6 +11,14 @@
 --     corank_lines rows          the same of a table of coranks
 --     hat_lines exponent hat     the exponent, the number of rows and a line for each row of a hat, or that there is
 --                                none
+--     component_degree_text d    the degree at a component, after a space
+--     multi_row_line row         the line of a row of a table by component: its Maslov degree, its degrees at the
+--                                components and its rank
+--     multi_lines rows           the number of rows of such a table, and a line for each row
+--     exponent_text e            an exponent, after a space
+--     multi_hat_lines exponents hat
+--                                the exponents, the number of rows and a line for each row of a hat by component, or
+--                                that there is none
 --     refused_line word number   the word of a fault, and the number of its line
 --     euler_line row             the line of an Euler number: its Alexander degree, and the number
 --     euler_lines rows           how many Euler numbers are not 0, and a line for each of them
@@ -20,6 +28,7 @@ use Rattle.std.specs.Fmt.{decimal, signed_decimal}
 use Rattle.state_rank.specs.States.{state_word}
 use Rattle.text_lines.specs.Lines.{line}
 use Rattle.hat_division.specs.declared.tables.TableRow.{TableRow}
+use Rattle.hat_division.specs.declared.multi_tables.MultiRow.{MultiRow}
 use Rattle.grid_euler.specs.declared.tables.EulerRow.{EulerRow}
 use Rattle.grid_text.specs.Commands.{sign_word}
 use Rattle.grid_text.specs.declared.commands.Sign.{Sign}
@@ -48,6 +57,25 @@ abbrev pub hat_lines : ℕ → Option (List TableRow) → List ℕ
 hat_lines exponent None = line (codes "hat none")
 hat_lines exponent (Some rows) = line
     (codes "hat exponent " ++ decimal exponent ++ codes " rows " ++ decimal (length rows)) ++ flat_map row_line rows
+
+abbrev pub component_degree_text : ℤ → List ℕ
+component_degree_text d = 32 ∷ signed_decimal d
+
+abbrev pub multi_row_line : MultiRow → List ℕ
+multi_row_line row = line
+    (codes "rank " ++ signed_decimal row.m ++ flat_map component_degree_text row.d ++ 32 ∷ decimal row.rank)
+
+abbrev pub multi_lines : List MultiRow → List ℕ
+multi_lines rows = line (codes "ranks " ++ decimal (length rows)) ++ flat_map multi_row_line rows
+
+abbrev pub exponent_text : ℕ → List ℕ
+exponent_text e = 32 ∷ decimal e
+
+abbrev pub multi_hat_lines : List ℕ → Option (List MultiRow) → List ℕ
+multi_hat_lines exponents None = line (codes "hat none")
+multi_hat_lines exponents (Some rows) = line
+    (codes "hat exponents" ++ flat_map exponent_text exponents ++ codes " rows " ++ decimal (length rows))
+    ++ flat_map multi_row_line rows
 
 abbrev pub refused_line : List ℕ → ℕ → List ℕ
 refused_line word number = line (codes "refused " ++ word ++ codes " line " ++ decimal number)

@@ -6,7 +6,7 @@ ghost use Rattle.state_rank.specs.Bijection.{IsSize};
 ghost use Rattle.grid_text.specs.Commands.{sign_word};
 ghost use Rattle.report_text.specs.Lines.{front_line as front_line_of, class_line as class_line_of, verdict_word as verdict_word_of, row_line, table_lines as table_lines_of, corank_lines as corank_lines_of, hat_lines as hat_lines_of, refused_line as refused_line_of, euler_line, euler_lines as euler_lines_of};
 ghost use Rattle.text_lines.specs.Lines.{line, chain_line};
-ghost use Rattle.torus_geom.specs.Codes.{HasRanks, states_of};
+ghost use Rattle.torus_geom.specs.Codes.{HasIndices, states_of};
 
 use f2_chain::Chain;
 use front_data::FrontNumbers;
@@ -123,7 +123,7 @@ pub fn hat_lines(alloc: Global, exponent: u8, q: Option<&Table>) -> Result<Vec<u
     }
 }
 
-/// The line of a set of states: `word`, then the states of size `n` whose ranks are in `z`, in ascending
+/// The line of a set of states: `word`, then the states of size `n` whose indices are in `z`, in ascending
 /// order. An empty set adds nothing to the word, which may be any, as `bound` or `bounds notcycle`.
 ///
 /// # Errors
@@ -131,7 +131,7 @@ pub fn hat_lines(alloc: Global, exponent: u8, q: Option<&Table>) -> Result<Vec<u
 /// `NoMemory` if the allocator refuses.
 pub fn set_line(alloc: Global, word: &str, n: u8, z: &Chain) -> Result<Vec<u8>, NoMemory>
     requires size { IsSize n }
-    requires ranks { HasRanks n z.now }
+    requires indices { HasIndices n z.now }
     ensures { IfOk result (λ text. text.items ≡ line (chain_line word.now n (states_of n z.now))) }
 {
     let mut text = Vec::new(alloc);

@@ -90,7 +90,8 @@ module _ (g : Marks) (grid : IsGrid g) (a : ℤ) (b : Branch) (s : IsBranch g a 
       where
         by : (back : List ℕ) → t.back ≡ back → (r : ℕ) × (later : List ℕ) × (t.back ≡ r ∷ later)
         by [] e =
-            let all = ap length t.parted.split ∙ length-append t.front t.back ∙ ap (λ xs. length t.front + length xs) e in
+            let all = ap length t.parted.split ∙ length-append t.front t.back
+            ∙ ap (λ xs. length t.front + length xs) e in
             let rows = rows_left in let passed = t.passed in absurd (omega arith)
         by (r ∷ later) e = (r, later, e)
 
@@ -119,7 +120,8 @@ module _ (g : Marks) (grid : IsGrid g) (a : ℤ) (b : Branch) (s : IsBranch g a 
     row_is : slice_index first b.column ≡ one_more.0
     row_is =
         ap (λ z. slice_index z b.column) first_is
-        ∙ get_or-append_right (take b.column b.first) (one_more.0 ∷ (t.front ++ one_more.1)) b.column b.column 0 length-p
+        ∙ get_or-append_right (take b.column b.first) (one_more.0 ∷ (t.front ++ one_more.1)) b.column
+        b.column 0 length-p
         (omega arith)
         ∙ ap (λ k. slice_index (one_more.0 ∷ (t.front ++ one_more.1)) k) (none b.column)
       where
@@ -142,7 +144,8 @@ module _ (g : Marks) (grid : IsGrid g) (a : ℤ) (b : Branch) (s : IsBranch g a 
         (λ i. drop (sym length-begun i) (first_begins i))
         ∙ drop-append_seam (take b.column b.first ++ one_more.0 ∷ []) (t.front ++ one_more.1) in
         subst (λ (e : List ℕ × List ℕ). IsBlock (size g) e.0 e.1 base) (λ i. (sym begun i, sym rest i))
-        (IsBlock-part (size g) (take b.column b.first) (drop b.column b.first) t.front one_more.0 one_more.1 base parted)
+        (IsBlock-part (size g) (take b.column b.first) (drop b.column b.first) t.front one_more.0
+        one_more.1 base parted)
 
     -- the next part is a branch
     pub IsBranch-part : (row used : ℕ) (w left : ℤ) → row ≡ slice_index first b.column
@@ -166,7 +169,8 @@ module _ (g : Marks) (grid : IsGrid g) (a : ℤ) (b : Branch) (s : IsBranch g a 
               ∙ ap (λ c. rows_used c first) (sym one);
           left =
               let same = sum_before-alike g b.column b.first first alike in
-              let weighs : w ≡ weight g b.column (slice_index first b.column) = w_is ∙ ap (weight g b.column) row_read in
+              let weighs : w ≡ weight g b.column (slice_index first b.column) =
+              w_is ∙ ap (weight g b.column) row_read in
               let next_sum : sum_before g (b.column + 1) first
               ≡ weight g b.column (slice_index first b.column) +ℤ sum_before g b.column first =
               ap (λ c. sum_before g c first) one in
@@ -200,7 +204,8 @@ module _ (g : Marks) (grid : IsGrid g) (a : ℤ) (b : Branch) (s : IsBranch g a 
           first_is = λ q rest e. new_is ∙ swapped q rest e;
           state =
               subst (IsBijection (size g)) (sym new_is)
-              (IsBijection-swap (size g) first b.column (min next (size g - 1)) some (min_below next (size g) (omega arith))
+              (IsBijection-swap (size g) first b.column (min next (size g - 1)) some
+              (min_below next (size g) (omega arith))
               t.state);
           base_is = base_added b.base (length t.front) count base (length (t.front ++ one_more.0 ∷ [])) is front_long;
           cells_below = below;
@@ -236,8 +241,9 @@ module _ (g : Marks) (grid : IsGrid g) (a : ℤ) (b : Branch) (s : IsBranch g a 
           before : (n m : ℕ) → suc m ≡ n → n - 1 ≡ m
           before n m e = omega arith
 
-  -- so the ranks of a part are below those of all states
-  pub part_within : (next base : ℕ) (first : List ℕ) (cells : List Cell) → IsGoneThrough g a b count next base first cells
+  -- so the indices of a part are below those of all states
+  pub part_within : (next base : ℕ) (first : List ℕ) (cells : List Cell)
+      → IsGoneThrough g a b count next base first cells
       → next < size g + 1 → base + count ≤ factorial (size g)
   part_within next base first cells t more =
       let all = branch-within g grid a b s in

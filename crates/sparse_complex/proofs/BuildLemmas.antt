@@ -34,7 +34,8 @@ count-head : (c : ℕ) (x : Cell) (cells : List Cell) → eqb x.code c ≡ true
     → count_of c (x ∷ cells) ≡ suc (count_of c cells)
 count-head c x cells e = count_of-cons c x cells ∙ ap (λ b. cond b 1 0 + count_of c cells) e ∙ omega arith
 
-pub count_of-other : (c : ℕ) (x : Cell) (cells : List Cell) → eqb x.code c ≡ false → count_of c (x ∷ cells) ≡ count_of c cells
+pub count_of-other : (c : ℕ) (x : Cell) (cells : List Cell) → eqb x.code c ≡ false
+    → count_of c (x ∷ cells) ≡ count_of c cells
 count_of-other c x cells e = count_of-cons c x cells ∙ ap (λ b. cond b 1 0 + count_of c cells) e ∙ omega arith
 
 count-more : (c : ℕ) (x : Cell) (cells : List Cell) → count_of c cells ≤ count_of c (x ∷ cells)
@@ -185,7 +186,8 @@ module _ (D : Complex ℤ) (n : ℕ) (cells : List Cell) (s : AreCells D n cells
   }
 
 -- each has a code below n
-pub cell-below : (D : Complex ℤ) (n : ℕ) (cells : List Cell) → AreCells D n cells → (k : ℕ) (d : Cell) → k < length cells
+pub cell-below : (D : Complex ℤ) (n : ℕ) (cells : List Cell) → AreCells D n cells → (k : ℕ) (d : Cell)
+    → k < length cells
     → (get_or cells k d).code < n
 unfolding code_at
 cell-below D n cells s k d l =

@@ -98,7 +98,8 @@ module _ (keys : List ℕ) (cells : List Cell) (links : Links) (s : IsStoredByKe
       (λ h. eq-eqb (code_at cells k) c (ap (code_at cells) (eqb-true k (key_of keys c) h) ∙ (s.keyed c l).1))
 
   -- codes are equal where their keys are
-  pub key-test : (c d : ℕ) → is_live keys c ≡ true → is_live keys d ≡ true → eqb (key_of keys c) (key_of keys d) ≡ eqb c d
+  pub key-test : (c d : ℕ) → is_live keys c ≡ true → is_live keys d ≡ true
+      → eqb (key_of keys c) (key_of keys d) ≡ eqb c d
   key-test c d l m = same_test _ _
       (λ h. eq-eqb c d (same_key keys cells links s c d l m (eqb-true (key_of keys c) (key_of keys d) h)))
       (λ h. eq-eqb (key_of keys c) (key_of keys d) (ap (key_of keys) (eqb-true c d h)))

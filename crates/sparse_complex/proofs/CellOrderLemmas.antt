@@ -57,6 +57,7 @@ ascending-sorted D n xs ys first cells sorted stable k d l =
       | inl e ↦ absurd (cells-apart D n ys cells k (k + 1) d (omega arith) l e)
       | inr o ↦ elim o [
         | inl low ↦ low
-        | inr high ↦ absurd (false≢true (sym h ∙ lt-ltb (slice_index_or ys (k + 1) d).code (slice_index_or ys k d).code high))
+        | inr high ↦ absurd (false≢true
+            (sym h ∙ lt-ltb (slice_index_or ys (k + 1) d).code (slice_index_or ys k d).code high))
       ]
     ]

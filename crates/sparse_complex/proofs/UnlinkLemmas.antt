@@ -191,6 +191,7 @@ module _ (nodes : Nodes) (heads : List Head) (t : AreInLists nodes heads) (id : 
     ids = ids';
     out_lists = AreLists-lists _ _ _ _ _ _ _ _ _ (sym length-unlinked) outs-unlinked out_lists';
     in_lists = AreLists-lists _ _ _ _ _ _ _ _ _ (sym length-unlinked) ins-unlinked in_lists';
-    simple = λ i j l m p q. t.simple i j (was_node i l).0 (was_node j m).0 (sym (from-unlinked i l) ∙ p ∙ from-unlinked j m)
+    simple = λ i j l m p q. t.simple i j (was_node i l).0 (was_node j m).0
+        (sym (from-unlinked i l) ∙ p ∙ from-unlinked j m)
         (sym (to-unlinked i l) ∙ q ∙ to-unlinked j m);
   }

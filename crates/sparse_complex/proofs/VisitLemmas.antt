@@ -103,7 +103,7 @@ module _ (g : Marks) (grid : IsGrid g) (a : ℤ) (b : Branch) (s : IsBranch g a 
   pub length-left : length (drop b.column b.first) ≡ size g - b.column
   length-left = length-drop b.column b.first ∙ ap (λ n. n - b.column) s.state.long
 
-  -- its states have ranks
+  -- its states have indices
   pub branch-within : b.base + b.count ≤ factorial (size g)
   branch-within =
       let all = sym (length-states (size g)) ∙ ap length s.block.parts

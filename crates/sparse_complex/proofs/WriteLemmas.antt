@@ -179,7 +179,8 @@ can_link nodes heads t id p q h g e f =
 
 pub linked_nodes-is : (nodes : Nodes) (heads : List Head) (id p q : ℕ) (h g : Head) → head_at heads p ≡ h
     → head_at heads q ≡ g
-    → with_prev_in (with_prev_out (put_in nodes id h g p q) h.first_out id) g.first_in id ≡ linked_nodes nodes heads id p q
+    → with_prev_in (with_prev_out (put_in nodes id h g p q) h.first_out id) g.first_in id
+    ≡ linked_nodes nodes heads id p q
 unfolding linked_nodes
 linked_nodes-is nodes heads id p q h g e f =
     λ i. with_prev_in (with_prev_out (put_in nodes id (sym e i) (sym f i) p q) (sym e i).first_out id)

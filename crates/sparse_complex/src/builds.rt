@@ -21,7 +21,7 @@ use torus_geom::Grid;
 impl AlexSlice {
     /// The part of the grid complex of `g` at the Alexander degree `a`.
     ///
-    /// Live are the ranks of the states of this Alexander degree, each with its Maslov degree by the O;
+    /// Live are the indices of the states of this Alexander degree, each with its Maslov degree by the O;
     /// a state has arrows to the states of its border, all of which have the same Alexander degree
     /// (Ozsváth, Stipsicz and Szabó, "Grid Homology for Knots and Links", chapter 4). Where no state has
     /// the degree, no code is live. The states are visited depth first over their rows, only where the degree can
@@ -41,7 +41,7 @@ impl AlexSlice {
     }
 }
 
-// The states that begin as `first` does on the columns before `column`: `count` of them, of the ranks from `base` on,
+// The states that begin as `first` does on the columns before `column`: `count` of them, of the indices from `base` on,
 // of which `first` is the first. `used` has their rows on these columns as bits. They have the degree that is looked
 // for if their weights from `column` on add up to `left`.
 #[derive(Drop)]
@@ -118,7 +118,7 @@ fn visit(
     Ok(())
 }
 
-// Appends the cell of `x`, the state of rank `code`, if its Alexander degree is `a`.
+// Appends the cell of `x`, the state of index `code`, if its Alexander degree is `a`.
 fn push_cell(
     tables: &DegreeTables,
     a: i32,

@@ -51,7 +51,8 @@ open_apart n O X f a b e =
     ap (λ t. not t && (is_clear_of n f a b (f a) (f b) && unmarked n O X a b (f a) (f b))) (eq-eqb a b e)
 
 -- ---- the lower left square empty
-module _ (m c r : ℕ) (O X f : ℕ → ℕ) (lc : c + 1 < m) (one : IsOneToOne m f) (x_c : X c ≡ r + 1) (x_next : X (c + 1) ≡ r)
+module _ (m c r : ℕ) (O X f : ℕ → ℕ) (lc : c + 1 < m) (one : IsOneToOne m f) (x_c : X c ≡ r + 1)
+    (x_next : X (c + 1) ≡ r)
     (o_next : O (c + 1) ≡ r + 1) (o_c : O c ≢ r) (f_c : f c ≡ r) (f_next : f (c + 1) ≡ r + 1)
     (others : (t : ℕ) → t < m → t ≢ c → t ≢ c + 1 → f t ≡ X t) where
   open_sw : is_open m O X f c (c + 1) ≡ true

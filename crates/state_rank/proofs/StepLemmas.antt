@@ -39,7 +39,8 @@ pub record FirstDiffer (x y : List ℕ) (q : ℕ) : Type 0 where
   pub up : slice_index x q < slice_index y q
 
 -- the first place in which a state and a later one differ
-pub first_difference : (x y : List ℕ) → length x ≡ length y → is_before x y ≡ true → (q : ℕ) × (q < length x) × FirstDiffer x y q
+pub first_difference : (x y : List ℕ) → length x ≡ length y → is_before x y ≡ true
+    → (q : ℕ) × (q < length x) × FirstDiffer x y q
 first_difference [] y e h = absurd (true≢false (sym h))
 first_difference (r ∷ x) [] e h = absurd (omega arith)
 first_difference (r ∷ x) (s ∷ y) e h = elim (cases_order r s) [

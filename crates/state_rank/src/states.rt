@@ -100,7 +100,8 @@ impl State {
         ensures below { result < factorial (length self.now) }
 
         // Exactly so many states of this size come before this one.
-        ensures before { HasExactly (λ y. (IsState y × (length y ≡ length self.now)) × IsTrue (is_before y self.now)) result }
+        ensures before { HasExactly (λ y. (IsState y × (length y ≡ length self.now)) × IsTrue (is_before y self.now))
+            result }
 
         // `unrank` gives each state back from its rank.
         ensures unranked { (x : List ℕ) → IsState x → unrank (length x) (rank x) ≡ x }

@@ -4,7 +4,7 @@
 //! `first_part` cuts a list of bytes at the first that ends a part.
 //! Stands on `f2_chain` and `state_rank`, whose sets and states it prints.
 //!
-//! Example: `push_set_line` with the word `bound`, size 3 and the set of the ranks 0 and 3 appends the line
+//! Example: `push_set_line` with the word `bound`, size 3 and the set of the indices 0 and 3 appends the line
 //! `bound 012 120` with its line feed.
 #![tactic(auto)]
 

@@ -270,7 +270,8 @@ module _ {G : Type 0} (C : Complex G) (laws : IsComplex C) (e : Entry) (fits : I
       ∙ sym (ap (lift_of_one e) (border-free z free)
       ∙ lift-rest (border C z)
       ∙ ap (λ c. (border C z ⊕ cond (holds (border C z) e.y) (C.targets e.x) nothing) ⊕ c)
-      (ap (λ b. cond b (single e.x) nothing) (ap (λ c. holds c e.y) (complex_border-border C laws z) ∙ holds-nothing e.y))
+      (ap (λ b. cond b (single e.x) nothing)
+      (ap (λ c. holds c e.y) (complex_border-border C laws z) ∙ holds-nothing e.y))
       ∙ add-nothing _)
 
   only_x : (a b : Bool) → (a && not (a || b)) ≡ false

@@ -27,7 +27,8 @@ cardinality-two z x y ends_differ =
     ∙ sym (holds-where_code _ w q ∙ ap (λ b. b && not (eqb q y)) (holds-where_code _ z q)))
     in
     let y_in : holds w y ≡ holds z y =
-    holds-where_code _ z y ∙ ap (λ b. holds z y && not b) (ne_eqb y x (λ s. ends_differ (sym s))) ∙ and-true (holds z y) in
+    holds-where_code _ z y ∙ ap (λ b. holds z y && not b) (ne_eqb y x (λ s. ends_differ (sym s)))
+    ∙ and-true (holds z y) in
     cardinality-without z x
     ∙ ap (λ n. n + cond (holds z x) 1 0)
     (cardinality-without w y ∙ ap₂ (λ c b. cardinality c + cond b 1 0) (sym both) y_in) ∙ omega arith

@@ -142,11 +142,13 @@ module _ {G : Type 0} (C : Complex G) (laws : IsComplex C) (m : G) (cells : Chai
   every_cycle = Every-All (λ (q : CyclePair). IsCycle C m q.cycle) cycles cp.cycles
 
   every_cocycle : Every (λ (q : CyclePair). (s : ℕ) → pairs_oddly (C.targets s) q.cocycle ≡ false) cycles
-  every_cocycle = Every-All (λ (q : CyclePair). (s : ℕ) → pairs_oddly (C.targets s) q.cocycle ≡ false) cycles cp.cocycles
+  every_cocycle =
+      Every-All (λ (q : CyclePair). (s : ℕ) → pairs_oddly (C.targets s) q.cocycle ≡ false) cycles cp.cocycles
 
   tri_cycles : IsTriangular (map cycle_row cycles)
   tri_cycles =
-      IsTriangular-map cycle_row cycles (Every-All (λ (p : CyclePair). pairs_oddly p.cycle p.cocycle ≡ true) cycles cp.own)
+      IsTriangular-map cycle_row cycles
+      (Every-All (λ (p : CyclePair). pairs_oddly p.cycle p.cocycle ≡ true) cycles cp.own)
       (λ i j d l k. (cp.others i j d l k).1)
 
   tri_boundaries : (m' : G) (xs : List StepPair) → AreStepPairs C m' xs → IsTriangular (map (boundary_row C) xs)
@@ -216,7 +218,8 @@ module _ {G : Type 0} (C : Complex G) (laws : IsComplex C) (m : G) (cells : Chai
       → border C (pick ps (vectors (map cycle_row xs))) ≡ nothing
   closed_pick xs h [] = border-nothing C
   closed_pick [] h (p ∷ ps) = border-nothing C
-  closed_pick (x ∷ xs) h (true ∷ ps) = complex_border-add C x.cycle _ ∙ ap₂ ◌⊕◌ h.0.1 (closed_pick xs h.1 ps) ∙ add_self nothing
+  closed_pick (x ∷ xs) h (true ∷ ps) =
+      complex_border-add C x.cycle _ ∙ ap₂ ◌⊕◌ h.0.1 (closed_pick xs h.1 ps) ∙ add_self nothing
   closed_pick (x ∷ xs) h (false ∷ ps) = closed_pick xs h.1 ps
 
   cancel : (z st h b : Chain) → z ≡ st ⊕ (h ⊕ b) → st ≡ nothing → z ⊕ h ≡ b

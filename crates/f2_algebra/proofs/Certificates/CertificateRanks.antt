@@ -73,7 +73,8 @@ module _ {G : Type 0} (eq : G → G → Bool) (eq_is : (m n : G) → (eq m n ≡
       → IsRank C c.at (length c.cycles)
   rank_of_cell cert passes c is =
       let (cells, all, _, count) = is.count in
-      let above = steps_at_pass cert (cell_steps cert cert (Every-All (IsCertCell eq C cert) cert passes.0)) (C.up c.at) in
+      let above = steps_at_pass cert
+      (cell_steps cert cert (Every-All (IsCertCell eq C cert) cert passes.0)) (C.up c.at) in
       rank_of_certificate C laws c.at cells all c.cycles c.steps
       (steps_at eq cert (C.up c.at)) is.cycle_pairs is.step_pairs above (omega (arith, count))
 

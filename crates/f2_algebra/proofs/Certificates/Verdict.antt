@@ -22,7 +22,8 @@ even_with_borders C f even w = pairs_oddly-weight (border C w) f ∙ weight-sum_
 pub not_cycle-null : {G : Type 0} (C : Complex G) → IsComplex C → (z : Chain) (s : ℕ) (b : Chain) → IsNotCycleBy C z s
     → IsNullBy C z b → ⊥
 not_cycle-null C laws z s b a n =
-    false≢true (sym (holds-nothing s) ∙ ap (λ c. holds c s) (sym (ap (border C) (sym n.0) ∙ complex_border-border C laws b))
+    false≢true (sym (holds-nothing s)
+    ∙ ap (λ c. holds c s) (sym (ap (border C) (sym n.0) ∙ complex_border-border C laws b))
     ∙ a.0)
 
 -- a chain that is alive is a cycle

@@ -124,7 +124,8 @@ module _ {G H : Type 0} (C : Complex G) (flip : G → H) (D : Complex H) (dual :
       let probes =
       reversed-every (λ (p : StepPair). (s : ℕ) → holds p.probe s ≡ true
       → (i : G) × (C.degree s ≡ Some i) × (C.up i ≡ n)) ps
-      (Every-All (λ (p : StepPair). (s : ℕ) → holds p.probe s ≡ true → (i : G) × (C.degree s ≡ Some i) × (C.up i ≡ n)) ps
+      (Every-All (λ (p : StepPair). (s : ℕ) → holds p.probe s ≡ true
+      → (i : G) × (C.degree s ≡ Some i) × (C.up i ≡ n)) ps
       a.probe_degrees) in
       let own =
       reversed-every (λ (p : StepPair). pairs_oddly (border C p.step) p.probe ≡ true) ps

@@ -88,7 +88,8 @@ when_in true b m h = ap (λ c. c && b) (h refl)
 when_in false b true h = refl
 when_in false b false h = refl
 
-entry_fits : {G : Type 0} (C : Complex G) → IsComplex C → (xs : List ℕ) → HasAllCells C xs → (x y : ℕ) → arrow C x y ≡ true
+entry_fits : {G : Type 0} (C : Complex G) → IsComplex C → (xs : List ℕ) → HasAllCells C xs → (x y : ℕ)
+    → arrow C x y ≡ true
     → IsEntry C (entry_of C xs x y)
 entry_fits C laws xs in_xs x y a = record {
   arrows = a;
@@ -179,5 +180,6 @@ module _ {G : Type 0} (eq : G → G → Bool) (eq_is : (m n : G) → (eq m n ≡
   exists_rank C laws xs in_xs m =
       let (log, stands, bare) = reduce C laws xs in_xs in
       let D = after C log in
-      let in_D : HasAllCells D xs = λ s live. in_xs s (sym (ap is_some (live_at_first C laws log stands s live)) ∙ live) in
+      let in_D : HasAllCells D xs =
+      λ s live. in_xs s (sym (ap is_some (live_at_first C laws log stands s live)) ∙ live) in
       (_, rank_of_log C laws log stands bare m (cells_of D xs m) (cells_of-all D xs in_D m))

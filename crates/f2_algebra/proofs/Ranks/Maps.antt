@@ -33,8 +33,11 @@ module _ {G : Type 0} (C D : Complex G) (f : ℕ → Chain) (is : IsChainMap C D
 
   -- the image of a cycle is a cycle
   pub extended_cycle : (m : G) (z : Chain) → IsCycle C m z → IsCycle D m (extended f z)
-  extended_cycle m z c =
-      (extended_degree m z c.0, sym (extended_border m z c.0) ∙ ap (extended f) c.1 ∙ linear-nothing (extended f) (extended-linear f))
+  extended_cycle m z c = (
+    extended_degree m z c.0,
+    sym (extended_border m z c.0) ∙ ap (extended f) c.1
+        ∙ linear-nothing (extended f) (extended-linear f),
+  )
 
   -- the image of a boundary is a boundary
   pub extended_boundary : (m : G) (z : Chain) → IsBoundary C m z → IsBoundary D m (extended f z)
@@ -68,7 +71,8 @@ module _ {G : Type 0} (C : Complex G) (f g h : ℕ → Chain) (is : IsHomotopy C
 
 boundary-add : {G : Type 0} (C : Complex G) (m : G) (z w : Chain) → IsBoundary C m z → IsBoundary C m w
     → IsBoundary C m (z ⊕ w)
-boundary-add C m z w a b = (a.0 ⊕ b.0, degree-add C (C.up m) a.0 b.0 a.1 b.1, complex_border-add C a.0 b.0 ∙ ap₂ ◌⊕◌ a.2 b.2)
+boundary-add C m z w a b =
+    (a.0 ⊕ b.0, degree-add C (C.up m) a.0 b.0 a.1 b.1, complex_border-add C a.0 b.0 ∙ ap₂ ◌⊕◌ a.2 b.2)
 
 boundary-same : {G : Type 0} (C : Complex G) (m : G) (z w : Chain) → z ≡ w → IsBoundary C m z → IsBoundary C m w
 boundary-same C m z w e b = (b.0, b.1, b.2 ∙ e)
@@ -94,7 +98,8 @@ module _ {G : Type 0} (C D : Complex G) (f g h k : ℕ → Chain) (are : AreInve
   to w c ps b =
       boundary-same D m _ _
       (ap (λ u. (w ⊕ extended f (extended g w)) ⊕ u)
-      (extended-linear f (extended g w) _ ∙ ap (λ u. extended f (extended g w) ⊕ u) (extended_picked f ps hs)) ∙ add_assoc w _ _
+      (extended-linear f (extended g w) _ ∙ ap (λ u. extended f (extended g w) ⊕ u) (extended_picked f ps hs))
+      ∙ add_assoc w _ _
       ∙ ap (λ u. w ⊕ u) (add_back (extended f (extended g w)) _))
       (boundary-add D m _ _ (there_and_back D g f k are.on_second m w c) (extended_boundary C D f are.there m _ b))
 

@@ -46,7 +46,8 @@ cycle-picked C m (false ∷ ps) (h ∷ hs) all = cycle-picked C m ps hs (All-tai
 boundary-swap : {G : Type 0} (C : Complex G) (m : G) (z w : Chain) → IsBoundary C m (z ⊕ w) → IsBoundary C m (w ⊕ z)
 boundary-swap C m z w b = (b.0, b.1, b.2 ∙ add_comm z w)
 
-module _ {G : Type 0} (C : Complex G) (m : G) (hs gs : List Chain) (h : IsBasis chain_sums (IsCycle C m) (IsBoundary C m) hs) (g : IsBasis chain_sums (IsCycle C m) (IsBoundary C m) gs) where
+module _ {G : Type 0} (C : Complex G) (m : G) (hs gs : List Chain) (h : IsBasis chain_sums (IsCycle C m)
+    (IsBoundary C m) hs) (g : IsBasis chain_sums (IsCycle C m) (IsBoundary C m) gs) where
   sum_of : List Chain → List Bool → Chain
   sum_of fs ps = total (items_where_true ps fs)
 
@@ -62,7 +63,8 @@ module _ {G : Type 0} (C : Complex G) (m : G) (hs gs : List Chain) (h : IsBasis 
   partner-fills ps = (g.one_subset (sum_of hs ps) (cycle_h ps)).1
 
   -- what the partner's sum is filled by
-  back : (ps qs : List Bool) → length ps ≡ length hs → partner ps ≡ qs → Represents chain_sums (IsBoundary C m) hs (sum_of gs qs) ps
+  back : (ps qs : List Bool) → length ps ≡ length hs → partner ps ≡ qs
+      → Represents chain_sums (IsBoundary C m) hs (sum_of gs qs) ps
   unfolding sum_of
   back ps qs l same = (
     l,
@@ -239,7 +241,8 @@ module _ {G : Type 0} (C : Complex G) (laws : IsComplex C) (log : List Entry) (s
   chosen_cells : (ps : List Bool) → AllCells (after C log) (chosen ps (codes cells))
   chosen_cells ps q h = ap is_some (is_cell q (chosen-in ps (codes cells) q h))
 
-  unique : (z : Chain) → IsCycle C m z → (ps : List Bool) → Represents chain_sums (IsBoundary C m) (map lifted (codes cells)) z ps
+  unique : (z : Chain) → IsCycle C m z → (ps : List Bool)
+      → Represents chain_sums (IsBoundary C m) (map lifted (codes cells)) z ps
       → ps ≡ picks_of z
   unfolding picks_of
   unique z c ps (l, (w, _, bounds)) =

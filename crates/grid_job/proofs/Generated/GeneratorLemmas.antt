@@ -230,8 +230,9 @@ made_commands = Front ∷ Hat ∷ Class Plus ∷ Class Minus ∷ []
 
 pub IsMadeScript-from : (n seed number : ℕ) (cs rs : List ℕ) (g : Marks) (s : GridScript) → cs ≡ shuffled n seed
     → number ≡ number_after (n - 1) seed → rs ≡ shuffled n number
-    → IsGridThrough cs rs g → s.grid ≡ g → s.commands ≡ made_commands → IsMadeScript n seed s
-IsMadeScript-from n seed number cs rs g s in_cs goes_on in_rs through grid commands = record {
+    → IsGridThrough cs rs g → s.version ≡ 1 → s.grid ≡ g → s.commands ≡ made_commands → IsMadeScript n seed s
+IsMadeScript-from n seed number cs rs g s in_cs goes_on in_rs through version grid commands = record {
+  version = version;
   grid = subst (λ h. IsGridThrough (shuffled n seed) (shuffled n (number_after (n - 1) seed)) h) (sym grid)
       (subst (λ ys. IsGridThrough (shuffled n seed) ys g) (in_rs ∙ ap (shuffled n) goes_on)
       (subst (λ xs. IsGridThrough xs rs g) in_cs through));
@@ -239,10 +240,10 @@ IsMadeScript-from n seed number cs rs g s in_cs goes_on in_rs through grid comma
 }
 
 -- the four commands are appended to the script of the grid
-pub four_commands : (g : Marks) (s p q r t : GridScript) → s ≡ record { grid = g; commands = [] }
+pub four_commands : (g : Marks) (s p q r t : GridScript) → s ≡ record { version = 1; grid = g; commands = [] }
     → p ≡ with_command s Front → q ≡ with_command p Hat → r ≡ with_command q (Class Plus)
     → t ≡ with_command r (Class Minus)
-    → t ≡ record { grid = g; commands = made_commands }
+    → t ≡ record { version = 1; grid = g; commands = made_commands }
 four_commands g s p q r t none first second third fourth =
     fourth ∙ ap (λ u. with_command u (Class Minus))
     (third ∙ ap (λ u. with_command u (Class Plus))
@@ -279,8 +280,9 @@ exists_script n seed size =
     let in_o = IsFilled-tabulate fo n size.greatest in
     let in_x = IsFilled-tabulate fx n size.greatest in
     let grid : Marks = record { o = take n (tabulate 10 fo); x = take n (tabulate 10 fx) } in (
-      record { grid = grid; commands = made_commands },
+      record { version = 1; grid = grid; commands = made_commands },
       record {
+        version = refl;
         grid =
             IsGridThrough-put cs rs places (tabulate 10 fo) (tabulate 10 fx) n size in_cs in_rs in_places back in_o in_x;
         commands = refl;

@@ -219,7 +219,8 @@ some_report text = some_refusal Run text (λ answer refusal. refusal) reported
     reported : length text ≤ max_text → (s : GridScript) → IsDocument text s → SomeOutcome Run text
     reported within s document =
         let script = is_script text s document in
-        let report = exists_answers (at_start s.grid) s.commands script.grid (IsChain-nothing (size s.grid)) script.allowed
+        let report = exists_answers s.version script.version (at_start s.grid) s.commands script.grid
+        (IsChain-nothing (size s.grid)) script.allowed
         in
         (Done, report.0, record { within = within; script = s; document = document; report = report.1 })
 

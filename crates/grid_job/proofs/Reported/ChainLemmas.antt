@@ -26,7 +26,7 @@ use Rattle.grid_symmetry.specs.declared.symmetries.Symmetry.TheVariants.{Mirror}
 use Rattle.grid_symmetry.proofs.StateLaws.{IsBijection-symmetric_state, size-symmetric}
 use Rattle.grid_moves.proofs.Turned.CarriedStates.{IsChain-carried}
 use Rattle.legendrian_class.specs.Followed.{chain_after_symmetry}
-use Rattle.torus_geom.specs.Codes.{HasRanks, states_of}
+use Rattle.torus_geom.specs.Codes.{HasIndices, states_of}
 use Rattle.grid_moves.specs.Carried.{turned_chain}
 use Rattle.grid_moves.proofs.Exchanged.SwappedTwice.{size-swapped}
 use Rattle.grid_moves.proofs.Turned.CarriedStates.{IsChain-turned}
@@ -116,7 +116,7 @@ any-below n (c ∷ cs) q below held = elim (cases_Bool (eqb q c)) [
 ]
 
 -- the set of their ranks has ranks
-pub ranks-below : (g : Marks) (xs : List (List ℕ)) → All (IsStateOf g) xs → HasRanks (size g) (of_codes (map rank xs))
+pub ranks-below : (g : Marks) (xs : List (List ℕ)) → All (IsStateOf g) xs → HasIndices (size g) (of_codes (map rank xs))
 ranks-below g xs states =
     let n = factorial (size g) in
     let ranks = All-map (λ c. c < n) rank xs

@@ -2,7 +2,7 @@
 -- verdict.
 use Rattle.legendrian_class.specs.declared.verdicts.ClassVerdict.{ClassVerdict}
 use Rattle.legendrian_class.specs.VerdictCodes.{verdict_of}
-use Rattle.torus_geom.specs.Codes.{HasRanks, states_of}
+use Rattle.torus_geom.specs.Codes.{HasIndices, states_of}
 use Rattle.state_rank.proofs.RankLemmas.{rank-unrank, IsBijection-unrank}
 use Rattle.state_rank.specs.States.{factorial, rank, unrank}
 use Rattle.f2_algebra.specs.Chain.{Chain as Codes, single as one_code}
@@ -12,7 +12,7 @@ use Rattle.state_rank.specs.Bijection.{IsBijection}
 use Rattle.torus_geom.specs.Border.{border}
 use Rattle.torus_geom.specs.Chains.{Chain, IsChain, nothing, single}
 use Rattle.torus_geom.specs.Marks.{Marks, size, IsGrid}
-use Rattle.torus_geom.proofs.Chains.CodesLemmas.{IsChain-single, All_from_ranks, AreRanks-single, states_of-single}
+use Rattle.torus_geom.proofs.Chains.CodesLemmas.{IsChain-single, All_from_indices, AreIndices-single, states_of-single}
 use Rattle.front_data.proofs.FrontLemmas.{plus_state-state, border-plus_state, border-minus_state}
 use Rattle.grid_text.specs.declared.commands.Sign.{Sign}
 use Rattle.grid_text.specs.declared.commands.Sign.TheVariants.{Plus, Minus}
@@ -62,10 +62,10 @@ exists_bounds_text g grid z states =
 
 -- ---- what the code keeps
 -- a set of one rank has ranks
-pub HasRanks-single : (n s : ℕ) → s < factorial n → HasRanks n (one_code s)
-HasRanks-single n s l =
-    subst (λ k. HasRanks n (one_code k)) (rank-unrank n s l)
-    (All_from_ranks n (one_code (rank (unrank n s))) (AreRanks-single n (unrank n s) (IsBijection-unrank n s l)))
+pub HasIndices-single : (n s : ℕ) → s < factorial n → HasIndices n (one_code s)
+HasIndices-single n s l =
+    subst (λ k. HasIndices n (one_code k)) (rank-unrank n s l)
+    (All_from_indices n (one_code (rank (unrank n s))) (AreIndices-single n (unrank n s) (IsBijection-unrank n s l)))
 
 -- and stands for the chain of its state
 pub states_of-code : (n s : ℕ) → s < factorial n → states_of n (one_code s) ≡ single (unrank n s)
@@ -75,10 +75,10 @@ states_of-code n s l =
 
 module _ (g : Marks) (grid : IsGrid g) (sign : Sign) (z : Codes) (is : z ≡ one_code (rank (class_state g sign))) where
   -- the set of the rank of x+ or x- has ranks
-  pub HasRanks-class : HasRanks (size g) z
-  HasRanks-class =
-      subst (HasRanks (size g)) (sym is)
-      (All_from_ranks (size g) _ (AreRanks-single (size g) (class_state g sign) (class_state-state g grid sign)))
+  pub HasIndices-class : HasIndices (size g) z
+  HasIndices-class =
+      subst (HasIndices (size g)) (sym is)
+      (All_from_indices (size g) _ (AreIndices-single (size g) (class_state g sign) (class_state-state g grid sign)))
 
   -- and stands for the class
   pub states_of-class : states_of (size g) z ≡ class_chain g sign

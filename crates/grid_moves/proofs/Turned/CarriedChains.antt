@@ -2,7 +2,7 @@
 -- chains; and where f carries the states that F gives of a state to those that G gives, the sum of G over the
 -- carried chain is the carried sum of F. F and G are borders of states, or images.
 --
--- Route: a code moves to the rank of the image of its state, and a number that is the rank of no state stays,
+-- Route: a code moves to the index of the image of its state, and a number that is the index of no state stays,
 -- so that the map of codes has an inverse on all numbers; such a map may be taken into each sum.
 use Rattle.std.proofs.Common.{Bool, List, [], ap, ap₂, arith, cond, eqb, false, inl, inr, map, refl, sym, true, ℕ, ◌<◌, ◌||◌, ◌∙◌, ◌∷◌, ◌≡◌, ◌≤◌}
 use Rattle.std.proofs.lemmas.Bool.{cases_lt, false_from_ne_true, le-ltb, lt-ltb}
@@ -58,15 +58,15 @@ pub AreInverse-back : (n : ℕ) (f b : List ℕ → List ℕ) → AreInverse n f
 AreInverse-back n f b is = record { kept = is.kept_back; kept_back = is.kept; undone = is.redone; redone = is.undone }
 
 module _ (n : ℕ) (f : List ℕ → List ℕ) where
-  -- the rank of a state moves
+  -- the index of a state moves
   pub moved-below : (c : ℕ) → c < factorial n → moved n f c ≡ rank (f (unrank n c))
   moved-below c l = ap (λ b. cond b (rank (f (unrank n c))) c) (lt-ltb c (factorial n) l)
 
-  -- a number that is the rank of no state stays
+  -- a number that is the index of no state stays
   pub moved-past : (c : ℕ) → factorial n ≤ c → moved n f c ≡ c
   moved-past c l = ap (λ b. cond b (rank (f (unrank n c))) c) (le-ltb c (factorial n) l)
 
-  -- the rank of x moves to that of f x
+  -- the index of x moves to that of f x
   pub moved-rank : (x : List ℕ) → IsBijection n x → moved n f (rank x) ≡ rank (f x)
   moved-rank x sx = moved-below (rank x) (rank-below n x sx) ∙ ap (λ y. rank (f y)) (unrank-rank n x sx)
 

@@ -1,5 +1,5 @@
--- A set of ranks that is carried along a map of states stands for the carried chain of states; so do the turned and the
--- transposed chain. A turn carries borders of chains of states.
+-- A set of indices that is carried along a map of states stands for the carried chain of states; so do the turned and
+-- the transposed chain. A turn carries borders of chains of states.
 -- Route: the two are compared state by state.
 use Rattle.std.proofs.Common.{◌≡◌, ℕ, ◌<◌, List, map, sym, ap, subst, ◌∙◌}
 use Rattle.std.specs.List.{Contains, list_any}
@@ -19,7 +19,7 @@ use Rattle.torus_geom.specs.Chains.{Chain, IsChain, members, carried}
 use Rattle.torus_geom.specs.Codes.{states_of}
 use Rattle.torus_geom.proofs.Chains.StateTests.{is_same-is, is_same-true, any-member, member_of_any, Contains-codes, holds-member}
 use Rattle.torus_geom.proofs.Chains.ChainLemmas.{Contains-members, member_of_members}
-use Rattle.torus_geom.proofs.Chains.CodesLemmas.{AreRanks, states_of-at, in_states_of, is_states_of}
+use Rattle.torus_geom.proofs.Chains.CodesLemmas.{AreIndices, states_of-at, in_states_of, is_states_of}
 use Rattle.grid_moves.specs.Carried.{turned_state, turned_chain, transposed_chain}
 use Rattle.grid_moves.specs.Inner.CodeCarried as over_codes
 use Rattle.grid_moves.specs.Inner.CodeCarried.{moved}
@@ -35,13 +35,13 @@ use Rattle.torus_geom.specs.Inner.CodeBorder as code_border
 use Rattle.torus_geom.specs.Rectangle.{is_same}
 use Rattle.torus_geom.proofs.Chains.StateTests.{is_same-is, is_same-true, any-member, member_of_any, Contains-codes, holds-member}
 use Rattle.torus_geom.proofs.Chains.ChainLemmas.{Contains-members, member_of_members}
-use Rattle.torus_geom.proofs.Chains.CodesLemmas.{AreRanks, by_ranks, states_of-at, in_states_of, is_states_of}
-use Rattle.torus_geom.proofs.Chains.ReachedLemmas.{AreRanks-border, states_of-border, states_of-border_at}
+use Rattle.torus_geom.proofs.Chains.CodesLemmas.{AreIndices, by_indices, states_of-at, in_states_of, is_states_of}
+use Rattle.torus_geom.proofs.Chains.ReachedLemmas.{AreIndices-border, states_of-border, states_of-border_at}
 use Rattle.f2_algebra.proofs.Chains.Tables.{same_test}
 
 -- ---- chains carried along a map of states
 module _ (n : ℕ) (f : List ℕ → List ℕ) (keeps : (x : List ℕ) → IsBijection n x → IsBijection n (f x)) where
-  pub states_of-carried : (z : Codes) → AreRanks n z
+  pub states_of-carried : (z : Codes) → AreIndices n z
       → states_of n (over_codes.carried n f z) ≡ carried n f (states_of n z)
   unfolding over_codes.carried carried
   states_of-carried z below =
@@ -73,9 +73,9 @@ module _ (n : ℕ) (f : List ℕ → List ℕ) (keeps : (x : List ℕ) → IsBij
       let (sx, passes) = member_of_members n (states_of n z) x in_members in
       other (subst (IsBijection n) (is_same-true (f x) y is) (keeps x sx))))
 
-  pub AreRanks-carried : (z : Codes) → AreRanks n z → AreRanks n (over_codes.carried n f z)
+  pub AreIndices-carried : (z : Codes) → AreIndices n z → AreIndices n (over_codes.carried n f z)
   unfolding over_codes.carried
-  AreRanks-carried z below q h =
+  AreIndices-carried z below q h =
       let (s, in_codes, is) =
       member_of_map (moved n f) (codes z) q
       (Contains-from_any (λ a b. eqb-true a b) q (map (moved n f) (codes z))
@@ -92,12 +92,12 @@ module _ (n : ℕ) (f : List ℕ → List ℕ) (keeps : (x : List ℕ) → IsBij
       subst (IsBijection n) (is_same-true (f x) y is) (keeps x sx)
 
 -- Transposed chains.
-pub states_of-transposed : (n : ℕ) (z : Codes) → AreRanks n z
+pub states_of-transposed : (n : ℕ) (z : Codes) → AreIndices n z
     → states_of n (over_codes.transposed_chain n z) ≡ transposed_chain n (states_of n z)
 states_of-transposed n z below = states_of-carried n transpose (IsBijection-transposed n) z below
 
 -- Turned chains.
-pub states_of-turned : (side : Side) (n : ℕ) (z : Codes) → AreRanks n z
+pub states_of-turned : (side : Side) (n : ℕ) (z : Codes) → AreIndices n z
     → states_of n (over_codes.turned_chain side n z) ≡ turned_chain side n (states_of n z)
 states_of-turned side n z below =
     states_of-carried n (turned_state side) (IsBijection-turned_state side n) z below
@@ -111,10 +111,10 @@ pub border-turned : (side : Side) (g : Marks) → IsGrid g → (z : Chain) → I
 border-turned side g s =
     let n = size g in
     let h = turned side g in
-    by_ranks n (λ z. border h (turned_chain side n z) ≡ turned_chain side n (border g z)) (λ z below.
+    by_indices n (λ z. border h (turned_chain side n z) ≡ turned_chain side n (border g z)) (λ z below.
     ap (border h) (sym (states_of-turned side n z below))
     ∙ sym (states_of-border_at h n (length-turned_rows side n g.o) (over_codes.turned_chain side n z)
-    (AreRanks-carried n (turned_state side) (IsBijection-turned_state side n) z below))
+    (AreIndices-carried n (turned_state side) (IsBijection-turned_state side n) z below))
     ∙ ap (states_of n) (code_laws.border-turned side g s z)
-    ∙ states_of-turned side n (code_border.border g z) (AreRanks-border g z)
+    ∙ states_of-turned side n (code_border.border g z) (AreIndices-border g z)
     ∙ ap (turned_chain side n) (states_of-border g z below))

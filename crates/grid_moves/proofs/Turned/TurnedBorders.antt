@@ -20,7 +20,7 @@ use Rattle.grid_moves.specs.Carried.{turned_state}
 use Rattle.grid_moves.specs.Moves.{turned}
 use Rattle.grid_moves.specs.declared.turns.Side.{Side}
 
--- the border of a state has ranks of states, and the empty list has none
+-- the border of a state has indices of states, and the empty list has none
 pub border_IsOfStates : (h : Marks) (n : ℕ) → size h ≡ n → IsOfStates n (border_of_state h)
 unfolding border_of_state
 border_IsOfStates h n e = record {

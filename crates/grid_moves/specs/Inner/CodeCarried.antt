@@ -1,9 +1,9 @@
 -- Sets of codes carried along a map of states: turned with the grid, or transposed with it.
---     moved n f code          the rank of f x, if `code` is the rank of the state x of size n; a number that is the
---                             rank of no state stays
+--     moved n f code          the index of f x, if `code` is the index of the state x of size n; a number that is the
+--                             index of no state stays
 --     carried n f z           the codes of z, each moved
---     turned_chain side n z   the ranks of the turned states
---     transposed_chain n z    the ranks of the transposed states
+--     turned_chain side n z   the indices of the turned states
+--     transposed_chain n z    the indices of the transposed states
 use Rattle.std.specs.Prelude.{ℕ, List, map, nat_lt, if◌then◌else◌}
 use Rattle.f2_algebra.specs.Chain.{Chain, codes, of_codes}
 use Rattle.state_rank.specs.States.{rank, unrank, factorial, transpose}

@@ -1,7 +1,7 @@
 -- Scripts with one more command, and the grids in force. Each command that may stand where it does makes a grid of a
 -- grid, of any size; so the grid in force after commands that may stand there is a grid, and a script with one more
 -- command is a script.
-use Rattle.std.proofs.Common.{◌≡◌, ◌<◌, List, [], ◌∷◌, ◌++◌, length, refl, ap, subst, ◌∙◌, sym, arith, length-append}
+use Rattle.std.proofs.Common.{◌≡◌, ℕ, ◌<◌, List, [], ◌∷◌, ◌++◌, length, refl, ap, subst, ◌∙◌, sym, arith, length-append}
 use Rattle.torus_geom.specs.Marks.{Marks, IsGrid}
 use Rattle.grid_moves.proofs.Turned.TurnLemmas.{IsGrid-turned}
 use Rattle.grid_moves.proofs.Exchanged.SwappedTwice.{IsGrid-swapped}
@@ -9,7 +9,7 @@ use Rattle.grid_symmetry.proofs.StateLaws.{IsGrid-symmetric}
 use Rattle.stabilise.proofs.StabilisedGrids.{IsGrid-stabilised}
 use Rattle.stabilise.proofs.BlockLemmas.{IsGrid-destabilised}
 use Rattle.grid_text.specs.Commands.{IsAllowed, grid_after}
-use Rattle.grid_text.specs.Script.{GridScript, IsScript, AreAllowed, grid_after_all, grid_in_force, with_command}
+use Rattle.grid_text.specs.Script.{GridScript, IsVersion, IsScript, AreAllowed, grid_after_all, grid_in_force, with_command}
 use Rattle.grid_text.specs.declared.commands.Command.{Command}
 use Rattle.grid_text.specs.declared.commands.Command.TheVariants as command
 use Rattle.grid_text.specs.Limits.{max_commands}
@@ -52,24 +52,26 @@ IsGrid-grid_in_force s h = IsGrid-grid_after_all s.grid s.commands h.grid h.allo
 pub IsScript-with_command : (s : GridScript) (c : Command) → IsScript s → length s.commands < max_commands
     → IsAllowed (grid_in_force s) c → IsScript (with_command s c)
 IsScript-with_command s c h few allowed = record {
+  version = h.version;
   grid = h.grid;
   few = omega (arith, length-append s.commands (c ∷ []));
   allowed = AreAllowed-push s.grid s.commands c h.allowed allowed;
 }
 
 -- a script without commands
-pub IsScript-no_command : (g : Marks) → IsGrid g → IsScript (record { grid = g; commands = [] })
-IsScript-no_command g h = record { grid = h; few = omega arith; allowed = tt }
+pub IsScript-no_command : (v : ℕ) (g : Marks) → IsVersion v → IsGrid g
+    → IsScript (record { version = v; grid = g; commands = [] })
+IsScript-no_command v g is h = record { version = is; grid = h; few = omega arith; allowed = tt }
 
 -- what is kept of a script is kept of it with one more command
-pub with_command-stored : (g : Marks) (commands more : List Command) (now next : Marks) (c : Command)
-    → IsScript (record { grid = g; commands = commands }) → now ≡ grid_after_all g commands
+pub with_command-stored : (v : ℕ) (g : Marks) (commands more : List Command) (now next : Marks) (c : Command)
+    → IsScript (record { version = v; grid = g; commands = commands }) → now ≡ grid_after_all g commands
     → more ≡ commands ++ c ∷ [] → next ≡ grid_after now c
     → length commands < max_commands → IsAllowed (grid_after_all g commands) c
-    → IsScript (record { grid = g; commands = more }) × (next ≡ grid_after_all g more)
-with_command-stored g commands more now next c h in_force appended after few allowed = (
-  subst (λ cs. IsScript (record { grid = g; commands = cs })) (sym appended)
-      (IsScript-with_command (record { grid = g; commands = commands }) c h few allowed),
+    → IsScript (record { version = v; grid = g; commands = more }) × (next ≡ grid_after_all g more)
+with_command-stored v g commands more now next c h in_force appended after few allowed = (
+  subst (λ cs. IsScript (record { version = v; grid = g; commands = cs })) (sym appended)
+      (IsScript-with_command (record { version = v; grid = g; commands = commands }) c h few allowed),
   after ∙ ap (λ f. grid_after f c) in_force ∙ sym (grid_after_all-push g commands c)
       ∙ ap (grid_after_all g) (sym appended),
 )

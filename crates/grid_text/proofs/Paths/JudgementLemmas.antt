@@ -50,17 +50,17 @@ HasRead-none text = record {
 -- no line leads on to the head
 below_row-head : (n : ℕ) (o x : List ℕ) → head ≡ below_row n o x → ⊥
 below_row-head n o x e = elim (cases_Bool (length o == n)) [
-  | inl all ↦ let at : head ≡ body_of (grid_of_rows o x) =
-      e ∙ ap (λ b. cond b (body_of (grid_of_rows o x)) (picture n o x)) all in cc
+  | inl all ↦ let at : head ≡ body_of 1 (grid_of_rows o x) =
+      e ∙ ap (λ b. cond b (body_of 1 (grid_of_rows o x)) (picture n o x)) all in cc
   | inr more ↦ let at : head ≡ picture n o x =
-      e ∙ ap (λ b. cond b (body_of (grid_of_rows o x)) (picture n o x)) more in cc
+      e ∙ ap (λ b. cond b (body_of 1 (grid_of_rows o x)) (picture n o x)) more in cc
 ]
 
 leads_on-head : (p : Place) (words : List Word) → LeadsOn p words head → ⊥
-leads_on-head head words (n, small, inl l) = let e = l.1 in cc
+leads_on-head head words (n, small, inl l) = let e = l.3 in cc
 leads_on-head head words (n, small, inr l) = let e = l.1 in cc
-leads_on-head (o_line n) words l = let e = l.3 in cc
-leads_on-head (x_line n o) words l = let e = l.4 in cc
+leads_on-head (o_line v n) words l = let e = l.3 in cc
+leads_on-head (x_line v n o) words l = let e = l.4 in cc
 leads_on-head (picture n o x) words l = below_row-head n (l.0 ∷ o) (l.1 ∷ x) l.4
 leads_on-head (body s) words (inl l) = let e = l.1 in cc
 leads_on-head (body s) words (inr l) = let e = l.4 in cc
@@ -210,8 +210,8 @@ one_end p q r (words ∷ lines) h path other =
 ended_script : GridScript → Place → GridScript
 ended_script s (ended t) = t
 ended_script s head = s
-ended_script s (o_line n) = s
-ended_script s (x_line n o) = s
+ended_script s (o_line v n) = s
+ended_script s (x_line v n o) = s
 ended_script s (picture n o x) = s
 ended_script s (body t) = s
 

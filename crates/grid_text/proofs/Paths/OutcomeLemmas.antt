@@ -34,8 +34,8 @@ no_end lines p path open_end =
 at_the_end : (lines : List (List Word)) (p : Place) → Path head lines p → Outcome lines
 at_the_end lines (ended s) path = inl (s, path)
 at_the_end lines head path = no_end lines head path refl
-at_the_end lines (o_line n) path = no_end lines (o_line n) path refl
-at_the_end lines (x_line n o) path = no_end lines (x_line n o) path refl
+at_the_end lines (o_line v n) path = no_end lines (o_line v n) path refl
+at_the_end lines (x_line v n o) path = no_end lines (x_line v n o) path refl
 at_the_end lines (picture n o x) path = no_end lines (picture n o x) path refl
 at_the_end lines (body s) path = no_end lines (body s) path refl
 

@@ -91,11 +91,11 @@ IsGrid-last_row n o x c d h fits all =
     IsGrid-rows n (c ∷ o) (d ∷ x) h.0 (IsPartOfPicture-more n o x c d h.1 fits) all
 
 -- the place after the last row, and after another
-pub below_row-last : (n : ℕ) (o x : List ℕ) → length o ≡ n → below_row n o x ≡ body_of (grid_of_rows o x)
-below_row-last n o x all = ap (λ b. cond b (body_of (grid_of_rows o x)) (picture n o x)) (eq-eqb (length o) n all)
+pub below_row-last : (n : ℕ) (o x : List ℕ) → length o ≡ n → below_row n o x ≡ body_of 1 (grid_of_rows o x)
+below_row-last n o x all = ap (λ b. cond b (body_of 1 (grid_of_rows o x)) (picture n o x)) (eq-eqb (length o) n all)
 
 pub below_row-more : (n : ℕ) (o x : List ℕ) → length o ≢ n → below_row n o x ≡ picture n o x
-below_row-more n o x more = ap (λ b. cond b (body_of (grid_of_rows o x)) (picture n o x)) (ne_eqb (length o) n more)
+below_row-more n o x more = ap (λ b. cond b (body_of 1 (grid_of_rows o x)) (picture n o x)) (ne_eqb (length o) n more)
 
 -- the place after a row is right
 pub IsPlace-below_row : (n : ℕ) (o x : List ℕ) → IsSize n → IsPartOfPicture n o x → length o ≤ n
@@ -103,7 +103,7 @@ pub IsPlace-below_row : (n : ℕ) (o x : List ℕ) → IsSize n → IsPartOfPict
 IsPlace-below_row n o x small h few = elim (cases_eq (length o) n) [
   | inl all ↦
       subst IsPlace (sym (below_row-last n o x all))
-      (IsScript-no_command (grid_of_rows o x)
+      (IsScript-no_command 1 (grid_of_rows o x) (inl refl)
       (IsGrid-transposed (record { o = o; x = x }) (IsGrid-rows n o x small h all)))
   | inr more ↦ subst IsPlace (sym (below_row-more n o x more)) (small, h, omega (arith, few, more))
 ]

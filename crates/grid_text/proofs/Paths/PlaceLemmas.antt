@@ -12,8 +12,8 @@ use Rattle.state_rank.specs.Bijection.{IsSize, IsBijection}
 use Rattle.state_rank.proofs.MemberLemmas.{member_head, member_tail}
 use Rattle.torus_geom.specs.Marks.{IsGrid}
 use Rattle.grid_text.specs.Words.{Word, symbols, is_word, is_blank}
-use Rattle.grid_text.specs.Script.{with_command}
-use Rattle.grid_text.specs.Document.{Place, head, o_line, x_line, picture, body, below_row, ended, LeadsOn, Leads, Path, grid_word, o_word, x_word, picture_word}
+use Rattle.grid_text.specs.Script.{IsVersion, with_command}
+use Rattle.grid_text.specs.Document.{Place, head, o_line, x_line, picture, body, body_of, below_row, ended, LeadsOn, Leads, Path, grid_word, o_word, x_word, picture_word}
 use Rattle.grid_text.specs.Faults.{fault_in_table, line_fault}
 use Rattle.grid_text.specs.Inner.Reading.{IsPlace}
 use Rattle.grid_text.specs.Limits.{max_commands}
@@ -25,7 +25,7 @@ use Rattle.grid_text.proofs.States.RepeatedLemmas.{below-IsBijection}
 use Rattle.grid_text.proofs.Lines.CommandLemmas.{faultless, fault_in_table-faultless, fault_in_table-end, command-not_end, command-filled, one_command}
 use Rattle.grid_text.proofs.Lines.FaultLemmas.{fault_in_table-ended}
 use Rattle.grid_text.proofs.Lines.WordLemmas.{is_word-same}
-use Rattle.grid_text.proofs.Paths.HeadLemmas.{head-right, head-cases}
+use Rattle.grid_text.proofs.Paths.HeadLemmas.{head-known, head-right, head-cases}
 use Rattle.grid_text.proofs.Paths.PictureLemmas.{IsPartOfPicture-none, IsPartOfPicture-more, IsPlace-below_row, picture-right, picture-read, filled-row}
 use Rattle.grid_text.proofs.Paths.MarkLemmas.{one_row}
 use Rattle.grid_text.proofs.Paths.RowLemmas.{o_line-right, o_line-read, x_line-right, x_line-read}
@@ -44,13 +44,13 @@ IsGrid-from_lines n o x small bijection_o bijection_x apart =
 
 -- a place that a form leads on to from a right one is right
 IsPlace-leads_on : (p q : Place) (words : List Word) → IsPlace p → LeadsOn p words q → IsPlace q
-IsPlace-leads_on head q words h (n, small, inl l) = subst IsPlace (sym l.1) small
+IsPlace-leads_on head q words h (n, small, inl l) = subst IsPlace (sym l.3) (l.1, small)
 IsPlace-leads_on head q words h (n, small, inr l) =
     subst IsPlace (sym l.1) (small, IsPartOfPicture-none n, omega (arith, small.least))
-IsPlace-leads_on (o_line n) q words h l = subst IsPlace (sym l.3) (h, l.1)
-IsPlace-leads_on (x_line n o) q words h l =
-    subst IsPlace (sym l.4) (IsScript-no_command (record { o = o; x = l.0 })
-    (IsGrid-from_lines n o l.0 h.0 h.1 l.1 l.2))
+IsPlace-leads_on (o_line v n) q words h l = subst IsPlace (sym l.3) (h.0, h.1, l.1)
+IsPlace-leads_on (x_line v n o) q words h l =
+    subst IsPlace (sym l.4) (IsScript-no_command v (record { o = o; x = l.0 }) h.0
+    (IsGrid-from_lines n o l.0 h.1 h.2 l.1 l.2))
 IsPlace-leads_on (picture n o x) q words h l =
     subst IsPlace (sym l.4) (IsPlace-below_row n (l.0 ∷ o) (l.1 ∷ x) h.0
     (IsPartOfPicture-more n o x l.0 l.1 h.1 l.2) (omega (arith, h.2)))
@@ -64,11 +64,12 @@ few-last n few = lt-leb max_commands n few
 
 -- a line of a form that is allowed has no fault in the table
 fault_in_table-leads_on : (p q : Place) (words : List Word) → IsPlace p → LeadsOn p words q → fault_in_table p words ≡ None
-fault_in_table-leads_on head q words h (n, small, inl l) = ap (fault_in_table head) l.0 ∙ head-right grid_word refl n small
+fault_in_table-leads_on head q words h (n, small, inl l) =
+    ap (fault_in_table head) l.2 ∙ head-right (grid_word l.0) (head-known l.0 l.1) n small
 fault_in_table-leads_on head q words h (n, small, inr l) =
     ap (fault_in_table head) l.0 ∙ head-right picture_word refl n small
-fault_in_table-leads_on (o_line n) q words h l = o_line-right n l.0 words h l.1 l.2
-fault_in_table-leads_on (x_line n o) q words h l = x_line-right n o l.0 words h.0 h.1 l.1 l.2 l.3
+fault_in_table-leads_on (o_line v n) q words h l = o_line-right v n l.0 words h.1 l.1 l.2
+fault_in_table-leads_on (x_line v n o) q words h l = x_line-right v n o l.0 words h.1 h.2 l.1 l.2 l.3
 fault_in_table-leads_on (picture n o x) q words h l =
     picture-right n o x words l.0 l.1 h.1 l.2 l.3 (filled-row n words l.0 l.1 (omega (arith, h.2)) l.3)
 fault_in_table-leads_on (body s) q words h (inl l) = fault_in_table-end s words l.0
@@ -82,14 +83,14 @@ leads_on-no_fault : (p : Place) (words : List Word) → IsPlace p → is_blank w
     → (q : Place) × LeadsOn p words q
 leads_on-no_fault head words h filled none =
     let r = head-cases words none in elim r.1.1 [
-      | inl grid ↦ (o_line r.0, (r.0, r.1.0, inl (grid, refl)))
+      | inl grid ↦ (o_line grid.0 r.0, (r.0, r.1.0, inl (grid.0, grid.1, grid.2, refl)))
       | inr drawn ↦ (picture r.0 [] [], (r.0, r.1.0, inr (drawn, refl)))
     ]
-leads_on-no_fault (o_line n) words h filled none =
-    let r = o_line-read n words h none in (x_line n r.0, (r.0, r.1.0, r.1.1, refl))
-leads_on-no_fault (x_line n o) words h filled none =
-    let r = x_line-read n o words h.0 h.1 none in
-    (body (record { grid = record { o = o; x = r.0 }; commands = [] }), (r.0, r.1.0, r.1.1, r.1.2, refl))
+leads_on-no_fault (o_line v n) words h filled none =
+    let r = o_line-read v n words h.1 none in (x_line v n r.0, (r.0, r.1.0, r.1.1, refl))
+leads_on-no_fault (x_line v n o) words h filled none =
+    let r = x_line-read v n o words h.1 h.2 none in
+    (body_of v (record { o = o; x = r.0 }), (r.0, r.1.0, r.1.1, r.1.2, refl))
 leads_on-no_fault (picture n o x) words h filled none =
     let r = picture-read n o x words filled none in
     (below_row n (r.0 ∷ o) (r.1.0 ∷ x), (r.0, r.1.0, r.1.1.0, r.1.1.1, refl))
@@ -129,29 +130,49 @@ one_size word n k small small_k whole =
     decimal_injective n k (omega arith) (omega arith) forms
 
 -- and one first word
-two_words : (n k : ℕ) → grid_word ∷ decimal n ∷ [] ≡ picture_word ∷ decimal k ∷ [] → ⊥
-two_words n k whole =
-    let first : grid_word ≡ picture_word = cc in
-    true≢false (sym (is_word-same grid_word) ∙ ap (is_word grid_word) first)
+other_words : (v w : Word) (n k : ℕ) → is_word v w ≡ false → v ∷ decimal n ∷ [] ≡ w ∷ decimal k ∷ [] → ⊥
+other_words v w n k other whole =
+    let first : v ≡ w = cc in
+    true≢false (sym (is_word-same v) ∙ ap (is_word v) first ∙ other)
+
+no_picture : (v n k : ℕ) → IsVersion v → grid_word v ∷ decimal n ∷ [] ≡ picture_word ∷ decimal k ∷ [] → ⊥
+no_picture v n k is whole = other_words (grid_word v) picture_word n k (other is) whole
+  where
+    other : IsVersion v → is_word (grid_word v) picture_word ≡ false
+    other (inl one) = ap (λ u. is_word (grid_word u) picture_word) one
+    other (inr two) = ap (λ u. is_word (grid_word u) picture_word) two
+
+-- so one version
+one_version : (v w n k : ℕ) → IsVersion v → IsVersion w
+    → grid_word v ∷ decimal n ∷ [] ≡ grid_word w ∷ decimal k ∷ [] → v ≡ w
+one_version v w n k (inl a) (inl b) whole = a ∙ sym b
+one_version v w n k (inr a) (inr b) whole = a ∙ sym b
+one_version v w n k (inl a) (inr b) whole =
+    absurd (other_words (grid_word v) (grid_word w) n k (λ i. is_word (grid_word (a i)) (grid_word (b i))) whole)
+one_version v w n k (inr a) (inl b) whole =
+    absurd (other_words (grid_word v) (grid_word w) n k (λ i. is_word (grid_word (a i)) (grid_word (b i))) whole)
 
 -- the form of a line leads on to one place
 one_place_on : (p q r : Place) (words : List Word) → IsPlace p → LeadsOn p words q → LeadsOn p words r → q ≡ r
 one_place_on head q r words h (n, small, inl l) (k, small_k, inl m) =
-    l.1 ∙ ap o_line (one_size grid_word n k small small_k (sym l.0 ∙ m.0)) ∙ sym m.1
-one_place_on head q r words h (n, small, inl l) (k, small_k, inr m) = absurd (two_words n k (sym l.0 ∙ m.0))
-one_place_on head q r words h (n, small, inr l) (k, small_k, inl m) = absurd (two_words k n (sym m.0 ∙ l.0))
+    let version = one_version l.0 m.0 n k l.1 m.1 (sym l.2 ∙ m.2) in
+    let size = one_size (grid_word m.0) n k small small_k
+    (ap (λ v. grid_word v ∷ decimal n ∷ []) (sym version) ∙ sym l.2 ∙ m.2) in
+    l.3 ∙ (λ i. o_line (version i) (size i)) ∙ sym m.3
+one_place_on head q r words h (n, small, inl l) (k, small_k, inr m) = absurd (no_picture l.0 n k l.1 (sym l.2 ∙ m.0))
+one_place_on head q r words h (n, small, inr l) (k, small_k, inl m) = absurd (no_picture m.0 k n m.1 (sym m.2 ∙ l.0))
 one_place_on head q r words h (n, small, inr l) (k, small_k, inr m) =
     l.1 ∙ ap (λ i. picture i [] []) (one_size picture_word n k small small_k (sym l.0 ∙ m.0)) ∙ sym m.1
-one_place_on (o_line n) q r words h l m =
-    let small = h.greatest in
+one_place_on (o_line v n) q r words h l m =
+    let small = h.1.greatest in
     let same = same_rows n l.0 m.0 (omega arith) (below-IsBijection n l.0 l.1) (below-IsBijection n m.0 m.1)
     (tails_of o_word (map decimal l.0) (map decimal m.0) (sym l.2 ∙ m.2)) in
-    l.3 ∙ ap (x_line n) same ∙ sym m.3
-one_place_on (x_line n o) q r words h l m =
-    let small = h.0.greatest in
+    l.3 ∙ ap (x_line v n) same ∙ sym m.3
+one_place_on (x_line v n o) q r words h l m =
+    let small = h.1.greatest in
     let same = same_rows n l.0 m.0 (omega arith) (below-IsBijection n l.0 l.1) (below-IsBijection n m.0 m.1)
     (tails_of x_word (map decimal l.0) (map decimal m.0) (sym l.3 ∙ m.3)) in
-    l.4 ∙ ap (λ x. body (record { grid = record { o = o; x = x }; commands = [] })) same ∙ sym m.4
+    l.4 ∙ ap (λ x. body_of v (record { o = o; x = x })) same ∙ sym m.4
 one_place_on (picture n o x) q r words h l m =
     l.4 ∙ one_row n o x l.0 l.1 m.0 m.1 (symbols words) l.2 l.3 m.3 ∙ sym m.4
 one_place_on (body s) q r words h (inl l) (inl m) = l.1 ∙ sym m.1
@@ -174,10 +195,13 @@ line_fault-filled p words filled = ap (λ b. cond b None (fault_in_table p words
 
 -- a line of a form is not blank
 pub filled-leads_on : (p q : Place) (words : List Word) → IsPlace p → LeadsOn p words q → is_blank words ≡ false
-filled-leads_on head q words h (n, small, inl l) = ap is_blank l.0
+filled-leads_on head q words h (n, small, inl (v, inl one, e, led)) =
+    ap is_blank e ∙ ap (λ u. is_blank (grid_word u ∷ decimal n ∷ [])) one
+filled-leads_on head q words h (n, small, inl (v, inr two, e, led)) =
+    ap is_blank e ∙ ap (λ u. is_blank (grid_word u ∷ decimal n ∷ [])) two
 filled-leads_on head q words h (n, small, inr l) = ap is_blank l.0
-filled-leads_on (o_line n) q words h l = ap is_blank l.2
-filled-leads_on (x_line n o) q words h l = ap is_blank l.3
+filled-leads_on (o_line v n) q words h l = ap is_blank l.2
+filled-leads_on (x_line v n o) q words h l = ap is_blank l.3
 filled-leads_on (picture n o x) q words h l = filled-row n words l.0 l.1 (omega (arith, h.2)) l.3
 filled-leads_on (body s) q words h (inl l) = ap is_blank l.0
 filled-leads_on (body s) q words h (inr l) = command-filled words l.0 l.1

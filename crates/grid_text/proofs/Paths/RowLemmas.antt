@@ -205,11 +205,11 @@ module _ (n : ℕ) (rows : List ℕ) (words : List Word) (h : AreNumerals n rows
 -- ---- the X line
 
 -- the places of O and X lines
-pub IsRowPlace-o_line : (n : ℕ) → IsRowPlace o_word n (o_line n)
-IsRowPlace-o_line n = record { not_ended = refl; form = λ w. refl; arguments = λ w a. refl; permutation = λ a. refl }
+pub IsRowPlace-o_line : (v n : ℕ) → IsRowPlace o_word n (o_line v n)
+IsRowPlace-o_line v n = record { not_ended = refl; form = λ w. refl; arguments = λ w a. refl; permutation = λ a. refl }
 
-pub IsRowPlace-x_line : (n : ℕ) (o : List ℕ) → IsRowPlace x_word n (x_line n o)
-IsRowPlace-x_line n o = record { not_ended = refl; form = λ w. refl; arguments = λ w a. refl; permutation = λ a. refl }
+pub IsRowPlace-x_line : (v n : ℕ) (o : List ℕ) → IsRowPlace x_word n (x_line v n o)
+IsRowPlace-x_line v n o = record { not_ended = refl; form = λ w. refl; arguments = λ w a. refl; permutation = λ a. refl }
 
 -- no O is in the square of an X
 pub squares-apart : (o x : List ℕ) → length o ≡ length x
@@ -248,13 +248,13 @@ pub apart-squares : (o x : List ℕ) → length o ≡ length x
 apart-squares o x same none c within e = true≢false (sym (squares-shared o x same c within e) ∙ none)
 
 -- the fault of an X line whose rows are right but for a square
-pub square-read : (o x : List ℕ) (words : List Word) → IsState o → IsBijection (length o) x
+pub square-read : (v : ℕ) (o x : List ℕ) (words : List Word) → IsState o → IsBijection (length o) x
     → words ≡ x_word ∷ map decimal x → SharesSquare (record { o = o; x = x })
-    → fault_in_table (x_line (length o) o) words ≡ Some fault.SameSquare
-square-read o x words state_o bijection e shares =
+    → fault_in_table (x_line v (length o) o) words ≡ Some fault.SameSquare
+square-read v o x words state_o bijection e shares =
     let small = state_o.size.greatest in
     let same : length o ≡ length x = sym bijection.long in
-    row-square (x_line (length o) o) x_word (length o) (IsRowPlace-x_line (length o) o) words (map decimal x) e
+    row-square (x_line v (length o) o) x_word (length o) (IsRowPlace-x_line v (length o) o) words (map decimal x) e
     (length-map x decimal ∙ bijection.long) (rows-good (length o) x (omega arith)
     (below-IsBijection (length o) x bijection))
     (has_repeated-bijection (length o) x (omega arith) bijection) (squares-shared o x same shares.0 shares.1 shares.2)
@@ -329,39 +329,39 @@ module _ (p : Place) (letter : Word) (n : ℕ) (place : IsRowPlace letter n p) w
       }
 
 -- O lines
-pub o_line-right : (n : ℕ) (o : List ℕ) (words : List Word) → IsSize n → IsBijection n o
-    → words ≡ o_word ∷ map decimal o → fault_in_table (o_line n) words ≡ None
-o_line-right n o words small bijection e =
-    ap (fault_in_table (o_line n)) e
-    ∙ fault_in_table-last (o_line n) (row_form n) (o_word ∷ map decimal o) (map decimal o) refl
-    (row-known (o_line n) o_word n (IsRowPlace-o_line n)) refl
-    (row-right (o_line n) o_word n (IsRowPlace-o_line n) small o bijection refl refl refl refl)
+pub o_line-right : (v n : ℕ) (o : List ℕ) (words : List Word) → IsSize n → IsBijection n o
+    → words ≡ o_word ∷ map decimal o → fault_in_table (o_line v n) words ≡ None
+o_line-right v n o words small bijection e =
+    ap (fault_in_table (o_line v n)) e
+    ∙ fault_in_table-last (o_line v n) (row_form n) (o_word ∷ map decimal o) (map decimal o) refl
+    (row-known (o_line v n) o_word n (IsRowPlace-o_line v n)) refl
+    (row-right (o_line v n) o_word n (IsRowPlace-o_line v n) small o bijection refl refl refl refl)
 
-pub o_line-read : (n : ℕ) (words : List Word) → IsSize n → fault_in_table (o_line n) words ≡ None
+pub o_line-read : (v n : ℕ) (words : List Word) → IsSize n → fault_in_table (o_line v n) words ≡ None
     → (o : List ℕ) × (IsBijection n o × (words ≡ o_word ∷ map decimal o))
-o_line-read n words small none =
-    let r = row-read (o_line n) o_word n (IsRowPlace-o_line n) small words none in (r.0, (r.1.0, r.1.1))
+o_line-read v n words small none =
+    let r = row-read (o_line v n) o_word n (IsRowPlace-o_line v n) small words none in (r.0, (r.1.0, r.1.1))
 
 -- X lines
-pub x_line-right : (n : ℕ) (o x : List ℕ) (words : List Word) → IsSize n → IsBijection n o → IsBijection n x
+pub x_line-right : (v n : ℕ) (o x : List ℕ) (words : List Word) → IsSize n → IsBijection n o → IsBijection n x
     → ((c : ℕ) → c < n → slice_index o c ≢ slice_index x c) → words ≡ x_word ∷ map decimal x
-    → fault_in_table (x_line n o) words ≡ None
-x_line-right n o x words small bijection_o bijection apart e =
+    → fault_in_table (x_line v n o) words ≡ None
+x_line-right v n o x words small bijection_o bijection apart e =
     let most = small.greatest in
     let long = bijection_o.long in
-    ap (fault_in_table (x_line n o)) e
-    ∙ fault_in_table-last (x_line n o) (row_form n) (x_word ∷ map decimal x) (map decimal x) refl
-    (row-known (x_line n o) x_word n (IsRowPlace-x_line n o)) refl
-    (row-right (x_line n o) x_word n (IsRowPlace-x_line n o) small x bijection
+    ap (fault_in_table (x_line v n o)) e
+    ∙ fault_in_table-last (x_line v n o) (row_form n) (x_word ∷ map decimal x) (map decimal x) refl
+    (row-known (x_line v n o) x_word n (IsRowPlace-x_line v n o)) refl
+    (row-right (x_line v n o) x_word n (IsRowPlace-x_line v n o) small x bijection
     (squares-apart o x (bijection_o.long ∙ sym bijection.long) (λ c l. apart c (omega arith))
     (λ r m. let b = below-IsBijection n o bijection_o r m in omega arith)
     (λ r m. let b = below-IsBijection n x bijection r m in omega arith)) refl refl refl)
 
-pub x_line-read : (n : ℕ) (o : List ℕ) (words : List Word) → IsSize n → IsBijection n o
-    → fault_in_table (x_line n o) words ≡ None
+pub x_line-read : (v n : ℕ) (o : List ℕ) (words : List Word) → IsSize n → IsBijection n o
+    → fault_in_table (x_line v n o) words ≡ None
     → (x : List ℕ) × (IsBijection n x × ((c : ℕ) → c < n → slice_index o c ≢ slice_index x c)
     × (words ≡ x_word ∷ map decimal x))
-x_line-read n o words small bijection_o none =
-    let r = row-read (x_line n o) x_word n (IsRowPlace-x_line n o) small words none in
+x_line-read v n o words small bijection_o none =
+    let r = row-read (x_line v n o) x_word n (IsRowPlace-x_line v n o) small words none in
     let long = bijection_o.long in
     (r.0, (r.1.0, (λ c l. apart-squares o r.0 (bijection_o.long ∙ sym r.1.0.long) r.1.2 c (omega arith)), r.1.1))

@@ -28,7 +28,7 @@ use Rattle.grid_text.specs.declared.commands.Sign.{Sign}
 use Rattle.grid_text.specs.declared.commands.Sign.TheVariants.{Plus, Minus}
 use Rattle.grid_text.specs.declared.commands.Command.TheVariants as command
 use Rattle.grid_text.specs.Limits.{max_commands}
-use Rattle.grid_text.specs.Script.{GridScript, IsScript, AreAllowed, grid_after_all}
+use Rattle.grid_text.specs.Script.{GridScript, IsVersion, IsScript, AreAllowed, grid_after_all}
 use Rattle.grid_text.specs.Document.{head, o_line, x_line, body, ended, end_word, Path, IsDocument, grid_word, o_word, x_word}
 use Rattle.grid_text.proofs.Lines.PartLemmas.{is_space, parts-byte}
 use Rattle.grid_text.proofs.Lines.KindLemmas.{IsGood, AreGood}
@@ -222,19 +222,19 @@ line-written (command.Chain z) = (z, IsPermutation-refl z, refl)
 line-written c = refl
 
 -- the lines of the commands and `end` lead on from the commands before them
-commands-path : (g : Marks) (done later : List Command) → IsScript (record { grid = g; commands = done })
+commands-path : (v : ℕ) (g : Marks) (done later : List Command) → IsScript (record { version = v; grid = g; commands = done })
     → AreAllowed (grid_after_all g done) later → length done + length later ≤ max_commands
-    → Path (body (record { grid = g; commands = done }))
+    → Path (body (record { version = v; grid = g; commands = done }))
     (map words_of (lines_of (flat_map command_line later ++ line_of (end_word ∷ []))))
-    (ended (record { grid = g; commands = done ++ later }))
-commands-path g done [] h all few = (
-  ended (record { grid = g; commands = done }),
+    (ended (record { version = v; grid = g; commands = done ++ later }))
+commands-path v g done [] h all few = (
+  ended (record { version = v; grid = g; commands = done }),
   inr (inl (refl, refl)),
   ap
-      (λ cs. ended (record { grid = g; commands = cs })) (sym (append-nil done)),
+      (λ cs. ended (record { version = v; grid = g; commands = cs })) (sym (append-nil done)),
 )
-commands-path g done (c ∷ later) h all few =
-    let s : GridScript = record { grid = g; commands = done } in
+commands-path v g done (c ∷ later) h all few =
+    let s : GridScript = record { version = v; grid = g; commands = done } in
     let in_force = IsGrid-grid_in_force s h in
     let most = in_force.is_size.greatest in
     let words = map argument_word (command_row c).1 in
@@ -242,20 +242,25 @@ commands-path g done (c ∷ later) h all few =
     let plain = plain_arguments (size (grid_after_all g done)) (command_row c).1 (omega arith) (omega arith)
     (arguments-allowed (grid_after_all g done) c all.0) in
     let room : length done < max_commands = omega arith in
-    let rest = commands-path g (done ++ c ∷ []) later (IsScript-with_command s c h room all.0)
+    let rest = commands-path v g (done ++ c ∷ []) later (IsScript-with_command s c h room all.0)
     (subst (λ f. AreAllowed f later) (sym (grid_after_all-push g done c)) all.1)
     (omega (arith, length-append done (c ∷ []))) in
     let lines = ap (λ t. map words_of (lines_of t))
     (append_assoc (command_line c) (flat_map command_line later) (line_of (end_word ∷ [])))
     ∙ lines-plain (command_row c).0 words (flat_map command_line later ++ line_of (end_word ∷ []))
     (plain_first c) plain in
-    subst (λ ls. Path (body s) ls (ended (record { grid = g; commands = done ++ c ∷ later }))) (sym lines) (
-      body (record { grid = g; commands = done ++ c ∷ [] }),
+    subst (λ ls. Path (body s) ls (ended (record { version = v; grid = g; commands = done ++ c ∷ later }))) (sym lines) (
+      body (record { version = v; grid = g; commands = done ++ c ∷ [] }),
       inr (inr (c, line-written c, all.0, room, refl)),
-      subst (λ cs. Path (body (record { grid = g; commands = done ++ c ∷ [] }))
+      subst (λ cs. Path (body (record { version = v; grid = g; commands = done ++ c ∷ [] }))
           (map words_of (lines_of (flat_map command_line later ++ line_of (end_word ∷ []))))
-          (ended (record { grid = g; commands = cs }))) (append_assoc done (c ∷ []) later) rest,
+          (ended (record { version = v; grid = g; commands = cs }))) (append_assoc done (c ∷ []) later) rest,
     )
+
+-- the word of a version
+plain_version : (v : ℕ) → IsVersion v → IsPlainWord (grid_word v)
+plain_version v (inl one) = subst (λ u. IsPlainWord (grid_word u)) (sym one) (closed (codes "grid") refl (omega arith))
+plain_version v (inr two) = subst (λ u. IsPlainWord (grid_word u)) (sym two) (closed (codes "grid2") refl (omega arith))
 
 -- the word of a size
 plain_size : (n : ℕ) → n ≤ 10 → IsPlainWord (decimal n)
@@ -276,7 +281,8 @@ IsDocument-plain_form s h =
     let o = s.grid.o in
     let x = s.grid.x in
     let tail = flat_map command_line s.commands ++ line_of (end_word ∷ []) in
-    let l1 = line_of (grid_word ∷ decimal n ∷ []) in
+    let v = s.version in
+    let l1 = line_of (grid_word v ∷ decimal n ∷ []) in
     let l2 = line_of (o_word ∷ map decimal o) in
     let l3 = line_of (x_word ∷ map decimal x) in
     let whole : plain_form s ≡ l1 ++ (l2 ++ (l3 ++ tail)) =
@@ -285,22 +291,22 @@ IsDocument-plain_form s h =
     let plain_o = plain_decimals o (λ r m. let b = below-IsBijection n o h.grid.o r m in omega arith) in
     let plain_x = plain_decimals x (λ r m. let b = below-IsBijection n x h.grid.x r m in omega arith) in
     let lines = ap (λ t. map words_of (lines_of t)) whole
-    ∙ lines-plain grid_word (decimal n ∷ []) (l2 ++ (l3 ++ tail)) (closed grid_word refl (omega arith))
+    ∙ lines-plain (grid_word v) (decimal n ∷ []) (l2 ++ (l3 ++ tail)) (plain_version v h.version)
     (plain_size n h.grid.is_size.greatest, tt)
-    ∙ ap (λ ls. (grid_word ∷ decimal n ∷ []) ∷ ls)
+    ∙ ap (λ ls. (grid_word v ∷ decimal n ∷ []) ∷ ls)
     (lines-plain o_word (map decimal o) (l3 ++ tail) (closed o_word refl (omega arith)) plain_o
     ∙ ap (λ ls. (o_word ∷ map decimal o) ∷ ls)
     (lines-plain x_word (map decimal x) tail (closed x_word refl (omega arith)) plain_x)) in
     subst (λ ls. Path head ls (ended s)) (sym lines) (
-      o_line n,
-      inr (n, h.grid.is_size, inl (refl, refl)),
+      o_line v n,
+      inr (n, h.grid.is_size, inl (v, h.version, refl, refl)),
       (
-        x_line n o,
+        x_line v n o,
         inr (o, h.grid.o, refl, refl),
         (
-          body (record { grid = s.grid; commands = [] }),
+          body (record { version = s.version; grid = s.grid; commands = [] }),
           inr (x, h.grid.x, h.grid.apart, refl, refl),
-          commands-path s.grid [] s.commands (IsScript-no_command s.grid h.grid) h.allowed (omega (arith, h.few)),
+          commands-path v s.grid [] s.commands (IsScript-no_command v s.grid h.version h.grid) h.allowed (omega (arith, h.few)),
         ),
       ),
     )

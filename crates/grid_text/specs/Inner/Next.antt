@@ -17,8 +17,8 @@ use Rattle.grid_text.specs.declared.places.Place.TheVariants as stored
 
 abbrev pub place_of : StoredPlace → Place
 place_of stored.Head = head
-place_of (stored.OLine n) = o_line n
-place_of (stored.XLine o) = x_line (length o) o
+place_of (stored.OLine v n) = o_line v n
+place_of (stored.XLine v o) = x_line v (length o) o
 place_of (stored.Picture p) = picture p.size p.o.items p.x.items
 place_of (stored.Body s) = body s
 place_of (stored.Ended s) = ended s

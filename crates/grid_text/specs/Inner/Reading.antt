@@ -21,7 +21,7 @@ use Rattle.std.specs.declared.result.Result.TheVariants.{Ok, Err}
 use Rattle.state_rank.specs.Bijection.{IsSize, IsBijection}
 use Rattle.grid_text.specs.Words.{Word}
 use Rattle.grid_text.specs.Commands.{command_row, IsLineOf, IsAllowed}
-use Rattle.grid_text.specs.Script.{GridScript, IsScript, grid_in_force}
+use Rattle.grid_text.specs.Script.{GridScript, IsVersion, IsScript, grid_in_force}
 use Rattle.grid_text.specs.Document.{Place, head, o_line, x_line, picture, body, ended, end_word}
 use Rattle.grid_text.specs.Faults.{Form, exactly, form_of, is_after_end, form_at, form_among, row_form, arguments_at, is_not_permutation, has_repeated, fault_in_table}
 use Rattle.grid_text.specs.Inner.Pictures.{IsPartOfPicture}
@@ -75,8 +75,8 @@ stands_alone k = is_empty_form (keyword_form 0 k)
 
 abbrev pub IsPlace : Place → Type 0
 IsPlace head = Unit {0}
-IsPlace (o_line n) = IsSize n
-IsPlace (x_line n o) = IsSize n × IsBijection n o
+IsPlace (o_line v n) = IsVersion v × IsSize n
+IsPlace (x_line v n o) = IsVersion v × IsSize n × IsBijection n o
 IsPlace (picture n o x) = IsSize n × IsPartOfPicture n o x × (length o < n)
 IsPlace (body s) = IsScript s
 IsPlace (ended s) = IsScript s

@@ -1,4 +1,4 @@
--- How a script is stored: beside its grid and its commands, the grid in force after them.
+-- How a script is stored: beside its version, its grid and its commands, the grid in force after them.
 --     script s      the script that is seen
 --     IsStored s    the parts are those of a script
 use Rattle.std.specs.Prelude.{◌≡◌}
@@ -6,7 +6,7 @@ use Rattle.grid_text.specs.Script.{GridScript, IsScript, grid_in_force}
 use Rattle.grid_text.specs.declared.scripts.Script.TheInside.{Inside}
 
 abbrev pub script : Inside → GridScript
-script s = record { grid = s.grid; commands = s.commands.items }
+script s = record { version = s.version; grid = s.grid; commands = s.commands.items }
 
 pub record IsStored (s : Inside) : Type 0 where
   pub is_script : IsScript (script s)

@@ -1,5 +1,5 @@
 -- Rows of a table by bidegree while they are divided by a factor 1 + q^-1 t^-1.
-use Rattle.std.proofs.Common.{◌≡◌, ℕ, suc, ◌+◌, ◌<◌, ◌≤◌, ℤ, pos, ◌+ℤ◌, ◌≤ℤ◌, neg_ℤ, true, List, [], ◌∷◌, length, get_or, All, Contains, sym, ap, subst, ◌∙◌, arith}
+use Rattle.std.proofs.Common.{◌≡◌, ℕ, ◌≤◌, ℤ, pos, ◌≤ℤ◌, neg_ℤ, true, List, get_or, All, Contains, sym, ap, subst, ◌∙◌, arith}
 use Rattle.std.specs.Prelude.{◌-ℤ◌}
 use Rattle.std.proofs.lemmas.Int.{ints}
 use Rattle.std.proofs.lemmas.List.Elements.{Contains-get_or}
@@ -12,7 +12,7 @@ use Rattle.hat_division.specs.declared.tables.TableRow.{TableRow}
 use Rattle.hat_division.proofs.Factors.BigradedTables.{bigraded_shape, bidegree_up, bidegree_up_IsStepUp, rank_at-ranks_of, quotient-is}
 use Rattle.hat_division.proofs.Factors.FactorQuotients.{quotient-le, quotient_none}
 use Rattle.hat_division.proofs.Factors.QuotientSteps.{IsCandidateFor, ranks_of-row}
-use Rattle.hat_division.proofs.Factors.RowSteps.{row_among, all_among, quotient_found, no_quotient}
+use Rattle.hat_division.proofs.Factors.RowSteps.{row_among, quotient_found, no_quotient}
 use Rattle.hat_division.proofs.Factors.TableShapes as shapes
 use Rattle.hat_division.proofs.Factors.TableShapes.{ranks_of}
 
@@ -32,7 +32,8 @@ module _ (rows : List TableRow) (positive : ArePositive rows) (c : List TableRow
   pub end_found : All (λ row. 1 ≤ rank_at rows (row.m -ℤ pos 1) (row.a -ℤ pos 1)) c → IsQuotient 1 rows c
   end_found lower =
       (quotient-is 1 rows c).1
-      (quotient_found bigraded_shape bidegree_up bidegree_up_IsStepUp rows (general rows positive) bidegree_up-before c all
+      (quotient_found bigraded_shape bidegree_up bidegree_up_IsStepUp rows (general rows positive)
+      bidegree_up-before c all
       (λ k d l. subst (λ n. 1 ≤ n)
       (rank_at-ranks_of rows ((get_or c k d).m -ℤ pos 1) ((get_or c k d).a -ℤ pos 1)) (lower k d l)))
 
@@ -46,12 +47,14 @@ module _ (rows : List TableRow) (positive : ArePositive rows) (c : List TableRow
 
 -- ---- degrees and ranks of quotients
 module _ (rows c : List TableRow) (positive : shapes.ArePositive bigraded_shape c)
-    (under : (k : ℤ × ℤ) → ranks_of bigraded_shape c k ≤ ranks_of bigraded_shape rows k) (ordered : ArePositive rows) where
+    (under : (k : ℤ × ℤ) → ranks_of bigraded_shape c k ≤ ranks_of bigraded_shape rows k)
+    (ordered : ArePositive rows) where
   no_more : (k : ℤ × ℤ) → ranks_of bigraded_shape rows k ≡ 0 → ranks_of bigraded_shape c k ≡ 0
   no_more k none = let less = under k in omega arith
 
   -- each row of c has a row of the table in its bidegree, of no lower rank
-  row_over : (r : TableRow) → Contains c r → (t : TableRow) × Contains rows t × (bidegree_of t ≡ bidegree_of r) × (r.rank ≤ t.rank)
+  row_over : (r : TableRow) → Contains c r
+      → (t : TableRow) × Contains rows t × (bidegree_of t ≡ bidegree_of r) × (r.rank ≤ t.rank)
   row_over r inside =
       let (t, there, same) = row_among bigraded_shape rows c positive no_more r inside in
       let less = under (bidegree_of r) in
@@ -97,5 +100,6 @@ pub quotient_start : (rows : List TableRow) → ArePositive rows → IsQuotient 
 quotient_start rows h = (quotient-is 0 rows rows).1 (quotient_none bigraded_shape rows (general rows h))
 
 -- degrees one step away
-pub rank_near : (rows : List TableRow) (m n a b : ℤ) (r : ℕ) → r ≡ rank_at rows n b → n ≡ m → b ≡ a → r ≡ rank_at rows m a
+pub rank_near : (rows : List TableRow) (m n a b : ℤ) (r : ℕ) → r ≡ rank_at rows n b → n ≡ m → b ≡ a
+    → r ≡ rank_at rows m a
 rank_near rows m n a b r is at_m at_a = is ∙ (λ j. rank_at rows (at_m j) (at_a j))

@@ -1,5 +1,5 @@
--- Tables by bidegree are tables of the general kind too: the product by the k-th power of 1 + q^-1 t^-1, which is told by
--- binomial coefficients, is the product by k factors. So their law of one quotient is the general one.
+-- Tables by bidegree are tables of the general kind too: the product by the k-th power of 1 + q^-1 t^-1, which is told
+-- by binomial coefficients, is the product by k factors. So their law of one quotient is the general one.
 use Rattle.std.proofs.Common.{◌≡◌, ◌↔◌, ◌⊎◌, ℕ, zero, suc, ◌+◌, ◌*◌, ◌<◌, ℤ, pos, ◌+ℤ◌, true, false, List, inl, inr, refl, sym, ap, ◌∙◌, arith}
 use Rattle.std.specs.Prelude.{◌-ℤ◌}
 use Rattle.std.specs.Ordering.{int_eq}

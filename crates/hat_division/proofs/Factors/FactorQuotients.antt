@@ -1,6 +1,6 @@
--- Quotients of tables of any kind by factors 1 + s: there is at most one, and it is known whether there is one. One factor
--- is divided at a time: what is left of each rank, from the top down, is each quotient that there is; two tests at each
--- row tell whether it is one.
+-- Quotients of tables of any kind by factors 1 + s: there is at most one, and it is known whether there is one. One
+-- factor is divided at a time: what is left of each rank, from the top down, is each quotient that there is; two tests
+-- at each row tell whether it is one.
 use Rattle.std.proofs.Common.{◌≡◌, ◌↔◌, ◌⊎◌, ℕ, ◌+◌, ◌<◌, ◌≤◌, List, [], ◌∷◌, ◌++◌, Contains, inl, inr, refl, sym, ap, subst, ◌∙◌, arith}
 use Rattle.std.proofs.lemmas.Bool.{cases_eq, cases_lt}
 use Rattle.state_rank.proofs.MemberLemmas.{member_cases, member_head, member_tail, no_member}
@@ -131,7 +131,8 @@ module _ {R K : Type 0} (T : TableShape R K) where
     left-is : (q : List R) → IsQuotientOf (up ∷ []) rows q → (k : K) → left k ≡ ranks_of T q k
     unfolding left
     left-is q h k =
-        left_after-is T.height (top_of T rows).0 up step (ranks_of T rows) (ranks_of T q) (zero_above (up ∷ []) rows q h)
+        left_after-is T.height (top_of T rows).0 up step (ranks_of T rows) (ranks_of T q)
+        (zero_above (up ∷ []) rows q h)
         h.product k
 
     candidate : List R

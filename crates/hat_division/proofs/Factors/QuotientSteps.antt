@@ -1,5 +1,6 @@
--- A quotient by one factor, made row by row from the top: what the program keeps while it goes through the rows, and what
--- it knows at the end. The candidate has, at the keys of the rows so far, the ranks of each quotient that there is.
+-- A quotient by one factor, made row by row from the top: what the program keeps while it goes through the rows, and
+-- what it knows at the end. The candidate has, at the keys of the rows so far, the ranks of each quotient that there
+-- is.
 use Rattle.std.proofs.Common.{◌≡◌, ◌+◌, ◌-◌, ◌<◌, ◌≤◌, true, List, [], ◌∷◌, ◌++◌, AllPairs, Contains, IsTrue, inl, inr, refl, sym, ap, subst, ◌∙◌, arith}
 use Rattle.std.proofs.lemmas.Bool.{cases_lt}
 use Rattle.std.proofs.lemmas.List.Elements.{Contains-append_right, Contains-append_cases, All-push, All-nil}
@@ -131,7 +132,8 @@ module _ {R K : Type 0} (T : TableShape R K) where
         where
           none_done : ranks_of T rows (up k) ≤ 0 → ranks_of T done (up k) ≡ 0
           none_done none =
-              let split = ap (λ xs. ranks_of T xs (up k)) whole ∙ ranks_of-append done (row ∷ rest) (up k) in omega arith
+              let split = ap (λ xs. ranks_of T xs (up k)) whole
+              ∙ ranks_of-append done (row ∷ rest) (up k) in omega arith
 
       -- what each quotient has here is the rest of the rank
       pub rest_of_rank : (q : List R) → IsQuotientOf T (up ∷ []) rows q
@@ -146,7 +148,8 @@ module _ {R K : Type 0} (T : TableShape R K) where
       -- the row is done where the candidate has the rest of its rank there, and is the same elsewhere
       looked_at : (new : List R) → ArePositive T new → ranks_of T c (up k) ≤ T.rank row
           → ranks_of T new k ≡ T.rank row - ranks_of T c (up k)
-          → ((l : K) → (k ≡ l → ⊥) → ranks_of T new l ≡ ranks_of T c l) → IsCandidateFor T up rows (done ++ row ∷ []) new
+          → ((l : K) → (k ≡ l → ⊥) → ranks_of T new l ≡ ranks_of T c l)
+          → IsCandidateFor T up rows (done ++ row ∷ []) new
       looked_at new positive_new enough here elsewhere = record {
         positive_so_far = positive_new;
         under = λ l none.
@@ -165,7 +168,8 @@ module _ {R K : Type 0} (T : TableShape R K) where
               let first = before_row r before in
               let here_same = elsewhere (T.key r) (λ e. apart T (T.key r) k first (sym e)) in
               let up_is = elsewhere (up (T.key r))
-              (λ e. apart T (up (T.key r)) k (T.before_later (up (T.key r)) (T.key r) k (earlier (T.key r)) first) (sym e)) in
+              (λ e. apart T (up (T.key r)) k
+              (T.before_later (up (T.key r)) (T.key r) k (earlier (T.key r)) first) (sym e)) in
               let old = so_far.right r before in
               omega arith
           | inr own ↦ elim (member_cases row [] r own) [

@@ -7,7 +7,7 @@ use Rattle.std.proofs.lemmas.List.Elements.{Contains-get_or}
 use Rattle.hat_division.specs.Factors.{copies}
 use Rattle.hat_division.proofs.Factors.FactorLemmas.{IsStepUp, AreStepsUp}
 use Rattle.hat_division.proofs.Factors.TableShapes.{TableShape, ArePositive, ranks_of, ranks_of-member, row_found}
-use Rattle.hat_division.proofs.Factors.FactorQuotients.{IsQuotientOf, quotient_next, quotients_next, none_next}
+use Rattle.hat_division.proofs.Factors.FactorQuotients.{IsQuotientOf, quotient_next, none_next}
 use Rattle.hat_division.proofs.Factors.QuotientSteps.{IsCandidateFor, ranks_of-row, candidate_none, candidate_fails, candidate_kept, candidate_pushed, candidate_is, candidate_is_not}
 
 module _ {R K : Type 0} (T : TableShape R K) where
@@ -64,7 +64,8 @@ module _ {R K : Type 0} (T : TableShape R K) where
       row_none = candidate_none T up step earlier rows positive
 
       module _ (n : ℕ) (row : R) (inside : n < length rows) (is : row ≡ get_or rows n row) (c : List R)
-          (so_far : IsCandidateFor T up rows (take n rows) c) (above : ℕ) (above_is : above ≡ ranks_of T c (up (T.key row)))
+          (so_far : IsCandidateFor T up rows (take n rows) c) (above : ℕ)
+          (above_is : above ≡ ranks_of T c (up (T.key row)))
         where
           whole : rows ≡ take n rows ++ row ∷ drop (n + 1) rows
           whole =

@@ -1,10 +1,9 @@
 -- Rows of a table while they are divided, for what the program keeps.
-use Rattle.std.proofs.Common.{◌≡◌, ℕ, zero, suc, ◌+◌, ◌-◌, ◌<◌, ◌≤◌, ℤ, true, false, ◌&&◌, List, [], ◌∷◌, ◌++◌, length, get_or, slice_index, take, drop, All, Contains, inl, inr, sym, ap, subst, ◌∙◌, arith, add-one, ap₂}
+use Rattle.std.proofs.Common.{◌≡◌, ℕ, zero, suc, ◌+◌, ◌-◌, ◌<◌, ◌≤◌, ℤ, true, false, ◌&&◌, List, [], ◌∷◌, length, get_or, slice_index, All, Contains, sym, ap, subst, ◌∙◌, arith}
 use Rattle.std.specs.Prelude.{MatchOption}
 use Rattle.std.proofs.Common.{Option, Some, None}
 use Rattle.std.specs.Ordering.{int_eq}
-use Rattle.std.proofs.lemmas.Bool.{cases_lt, false≢true}
-use Rattle.std.proofs.lemmas.List.{take_more, take_all, take-append-drop}
+use Rattle.std.proofs.lemmas.Bool.{false≢true}
 use Rattle.std.proofs.lemmas.List.Elements.{Contains-get_or}
 use Rattle.gradings.specs.Degrees.{IsSmallDegree}
 use Rattle.hat_division.specs.DegreeLists.{same_degrees}
@@ -18,7 +17,7 @@ use Rattle.hat_division.proofs.Factors.TableShapes.{ranks_of, ranks_of-none, ran
 use Rattle.hat_division.proofs.Factors.FactorQuotients.{IsQuotientOf, quotient-le, quotient_none, quotients_next, none_next}
 use Rattle.hat_division.proofs.Factors.QuotientSteps.{IsCandidateFor, ranks_of-row}
 use Rattle.hat_division.proofs.Factors.RowSteps.{row_among, all_among, quotient_found, no_quotient}
-use Rattle.hat_division.proofs.Multi.MultiTableLemmas.{multi_shape, rank_at-ranks_of, step_up_IsStepUp, step_up-before, copies_AreStepsUp, steps_below_AreStepsUp, quotient_by-is}
+use Rattle.hat_division.proofs.Multi.MultiTableLemmas.{multi_shape, rank_at-ranks_of, step_up_IsStepUp, step_up-before, steps_below_AreStepsUp, quotient_by-is}
 
 -- ---- rows in order
 pub general : (rows : List MultiRow) → ArePositive rows → shapes.ArePositive multi_shape rows
@@ -106,7 +105,8 @@ module _ (ups : List (ℤ × List ℤ → ℤ × List ℤ)) (rows q : List Multi
 
   pub quotient_length : (n : ℕ) → All (HasLength n) rows → All (HasLength n) q
   quotient_length n =
-      all_among multi_shape rows q (general q (quotient_positive ups rows q h)) under_q (HasLength n) (has_length_same n)
+      all_among multi_shape rows q (general q (quotient_positive ups rows q h)) under_q (HasLength n)
+      (has_length_same n)
 
   -- a quotient of a table is a table
   pub quotient_table : IsMultiTable rows → IsMultiTable q

@@ -119,7 +119,8 @@ quotient_by-is ups rows q = (
 pub one_multi_quotient : (es : List ℕ) (rows p q : List MultiRow) → IsMultiQuotient es rows p
     → IsMultiQuotient es rows q → p ≡ q
 one_multi_quotient es rows p q hp hq =
-    one_quotient multi_shape (steps_up es) (steps_up_AreStepsUp es) rows p q ((quotient_by-is (steps_up es) rows p).0 hp)
+    one_quotient multi_shape (steps_up es) (steps_up_AreStepsUp es) rows p q
+    ((quotient_by-is (steps_up es) rows p).0 hp)
     ((quotient_by-is (steps_up es) rows q).0 hq)
 
 -- and it has one or has none

@@ -1,37 +1,37 @@
--- What is kept while the rows of a product are put in their places.
+-- What is kept while the ranks of a product are put into a map.
 --     ArePositive rows             the rows are in order, with ranks above 0
---     IsPut row old new            the row was put among the old rows, where its bidegree had none; all else stayed
---     IsPartOfProduct k rows part  each rank of `part` is 0, or that of the product of `rows`
---     AreShiftsPut k rows row n old new    a row of the product stands at 0 to n - 1 steps down from the row, and where
---                                          one stood
---     AreRowsPut k rows n part     a row of the product stands at 0 to k steps down from each of the first n rows
-use Rattle.std.specs.Prelude.{◌≡◌, ℕ, ◌<◌, ◌≤◌, ℤ, pos, ◌-ℤ◌, true, List, ◌⊎◌, slice_index_or}
+--     IsRankOfProduct k rows m a d     d is above 0, and the rank of the product of `rows` in the bidegree (m, a)
+--     IsPartOfProduct k rows part  each rank that the map has is that of the product of `rows`
+--     AreShiftsPut k rows row n old new    the map has a rank at 0 to n - 1 steps down from the row, and where it had
+--                                          one
+--     AreRowsPut k rows n part     it has a rank at 0 to k steps down from each of the first n rows
+use Rattle.std.specs.Prelude.{◌≡◌, ℕ, ◌<◌, ◌≤◌, ℤ, pos, ◌-ℤ◌, List, slice_index_or}
 use Rattle.std.specs.List.{All}
+use Rattle.std.specs.Option.{IfSome}
+use Rattle.std.specs.BTreeMap as tree
+use Rattle.gradings.specs.Degrees.{bidegree_cmp}
 use Rattle.hat_division.specs.Table.{AreOrdered}
-use Rattle.hat_division.specs.Product.{stands_at, rank_at, product_rank}
+use Rattle.hat_division.specs.Product.{product_rank}
+use Rattle.hat_division.specs.RankMaps.{Ranks, key_of, rank_in}
 use Rattle.hat_division.specs.declared.tables.TableRow.{TableRow}
 
 pub record ArePositive (rows : List TableRow) : Type 0 where
   pub ordered : AreOrdered rows
   pub positive : All (λ row. 1 ≤ row.rank) rows
 
-pub record IsPut (row : TableRow) (old new : List TableRow) : Type 0 where
-  pub positive : ArePositive new
-  pub stays : (m a : ℤ) → 0 < rank_at old m a → rank_at new m a ≡ rank_at old m a
-  pub fresh : (m a : ℤ) → rank_at old m a ≡ 0
-      → (rank_at new m a ≡ 0) ⊎ ((stands_at row m a ≡ true) × (rank_at new m a ≡ row.rank))
-  pub there : 0 < rank_at new row.m row.a
+abbrev pub IsRankOfProduct : ℕ → List TableRow → ℤ → ℤ → ℕ → Type 0
+IsRankOfProduct k rows m a d = (0 < d) × (d ≡ product_rank k rows m a)
 
-pub record IsPartOfProduct (k : ℕ) (rows part : List TableRow) : Type 0 where
-  pub positive : ArePositive part
-  pub ranks : (m a : ℤ) → (rank_at part m a ≡ 0) ⊎ (rank_at part m a ≡ product_rank k rows m a)
+abbrev pub IsPartOfProduct : ℕ → List TableRow → Ranks → Type 0
+IsPartOfProduct k rows part =
+    (m a : ℤ) → IfSome (tree.get bidegree_cmp part (key_of (m, a))) (IsRankOfProduct k rows m a)
 
-pub record AreShiftsPut (k : ℕ) (rows : List TableRow) (row : TableRow) (n : ℕ) (old new : List TableRow) : Type 0 where
+pub record AreShiftsPut (k : ℕ) (rows : List TableRow) (row : TableRow) (n : ℕ) (old new : Ranks) : Type 0 where
   pub part : IsPartOfProduct k rows new
-  pub stays : (m a : ℤ) → 0 < rank_at old m a → 0 < rank_at new m a
-  pub there : (i : ℕ) → i < n → 0 < rank_at new (row.m -ℤ pos i) (row.a -ℤ pos i)
+  pub stays : (m a : ℤ) → 0 < rank_in old a m → 0 < rank_in new a m
+  pub there : (i : ℕ) → i < n → 0 < rank_in new (row.a -ℤ pos i) (row.m -ℤ pos i)
 
-pub record AreRowsPut (k : ℕ) (rows : List TableRow) (n : ℕ) (part : List TableRow) : Type 0 where
+pub record AreRowsPut (k : ℕ) (rows : List TableRow) (n : ℕ) (part : Ranks) : Type 0 where
   pub so_far : IsPartOfProduct k rows part
   pub there : (j : ℕ) (d : TableRow) (i : ℕ) → j < n → i ≤ k
-      → 0 < rank_at part ((slice_index_or rows j d).m -ℤ pos i) ((slice_index_or rows j d).a -ℤ pos i)
+      → 0 < rank_in part ((slice_index_or rows j d).a -ℤ pos i) ((slice_index_or rows j d).m -ℤ pos i)

@@ -1,5 +1,5 @@
--- Each state of the homotopy of a state has its Maslov degree and one more, and its Alexander degree: for columns by its
--- hexagons, for rows since transposing keeps degrees.
+-- Each state of the homotopy of a state has its Maslov degree and one more, and its Alexander degree: for columns by
+-- its hexagons, for rows since transposing keeps degrees.
 use Rattle.std.proofs.Common.{Bool, List, ap, arith, eqb, false, inl, inr, not, refl, slice_index, subst, swap, sym, true, true≢false, ℕ, ◌&&◌, ◌<◌, ◌||◌, ◌∙◌, ◌≡◌, ◌≢◌, ◌⊎◌}
 use Rattle.std.proofs.Math.IntN.{pos, ◌+ℤ◌}
 use Rattle.std.specs.Prelude.{int_div}
@@ -39,7 +39,7 @@ use Rattle.hexagon_map.specs.Inner.CodeHomotopies.{column_homotopy, homotopy_of_
 use Rattle.hexagon_map.proofs.Degrees.MarksInHexagon.{IsHexagonOf, maslov-hexagon}
 use Rattle.hexagon_map.proofs.Targets.OddHexagons.{crossing_row_back-below}
 use Rattle.hexagon_map.proofs.WayBack.HexagonSums.{hexagon_at, weight-column_homotopy}
-use Rattle.hexagon_map.proofs.WayBack.QuietRows.{crossings_quiet}
+use Rattle.hexagon_map.proofs.WayBack.MarksBetween.{no_mark_between-crossings}
 
 -- ---- columns
 module _ (g : Marks) (s : IsGrid g) (c : ℕ) (lc : c < size g) (h : are_commuting_columns g c ≡ true) (corner : Corner)
@@ -84,7 +84,7 @@ module _ (g : Marks) (s : IsGrid g) (c : ℕ) (lc : c < size g) (h : are_commuti
         | inl i ↦ let (on, first) = and_parts (eqb b c) (between (f a) w v) i in inl (eqb-true b c on, first)
         | inr i ↦ let (on, first) = and_parts (eqb a c) (between (f a) v w) i in inr (eqb-true a c on, first)
       ] in
-      let quiet = crossings_quiet g s c lc h corner in
+      let outside = no_mark_between-crossings g s c lc h corner in
       let none : (d : ℕ) → d < n → d ≢ r → d ≢ c
       → not (between a b d && (between (f a) (f b) (slice_index g.o d) || between (f a) (f b) (slice_index g.x d)))
       ≡ true =
@@ -106,8 +106,8 @@ module _ (g : Marks) (s : IsGrid g) (c : ℕ) (lc : c < size g) (h : are_commuti
           none_beside =
               λ d l p q. (none_of_two (between a b d) (between (f a) (f b) (slice_index g.o d))
               (between (f a) (f b) (slice_index g.x d)) (none d l p q)).0;
-          left = quiet.left_o;
-          right = quiet.right_o;
+          left = outside.left_o;
+          right = outside.right_o;
           empty = none_within g s c lc h corner x sx a b empty;
         };
         by_x = record {
@@ -122,8 +122,8 @@ module _ (g : Marks) (s : IsGrid g) (c : ℕ) (lc : c < size g) (h : are_commuti
           none_beside =
               λ d l p q. (none_of_two (between a b d) (between (f a) (f b) (slice_index g.o d))
               (between (f a) (f b) (slice_index g.x d)) (none d l p q)).1;
-          left = quiet.left_x;
-          right = quiet.right_x;
+          left = outside.left_x;
+          right = outside.right_x;
           empty = none_within g s c lc h corner x sx a b empty;
         };
       }

@@ -1,6 +1,6 @@
--- A hexagon has one O and one X, in column c - 1 or in column c, so it raises the Maslov degree by one. The marks o stand
--- for either. Route: both crossings are among its rows, and the rows of the column on its side are on the way from the
--- one that is met first up to the other.
+-- A hexagon has one O and one X, in column c - 1 or in column c, so it raises the Maslov degree by one. The marks o
+-- stand for either. Route: both crossings are among its rows, and the rows of the column on its side are on the way
+-- from the one that is met first up to the other.
 use Rattle.std.proofs.Common.{Bool, ap, ap₂, arith, cond, eqb, false, inl, inr, refl, sym, true, true≢false, ℕ, ◌&&◌, ◌<◌, ◌||◌, ◌∙◌, ◌≡◌, ◌≢◌, ◌≤◌, ◌⊎◌}
 use Rattle.std.proofs.Math.IntN.{pos, ◌+ℤ◌}
 use Rattle.std.proofs.lemmas.Bool.{cases_Bool, cases_eq, eq-eqb, ne_eqb}

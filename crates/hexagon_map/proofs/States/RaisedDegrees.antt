@@ -1,5 +1,5 @@
--- Each state of the homotopy of a state has its Maslov degree and one more, and its Alexander degree: of chains of states,
--- and of lists of states whose ranks are told.
+-- Each state of the homotopy of a state has its Maslov degree and one more, and its Alexander degree: of chains of
+-- states, and of lists of states whose indices are told.
 use Rattle.std.proofs.Common.{◌≡◌, ℕ, ◌<◌, pos, ◌+ℤ◌, true, List, length, map, get_or, subst, All}
 use Rattle.f2_algebra.specs.Chain.{codes}
 use Rattle.state_rank.specs.Bijection.{IsBijection}
@@ -30,7 +30,7 @@ module _ (axis : Axis) (g : Marks) (s : IsGrid g) (c : ℕ) (l : c < size g) (h 
       → alexander g y ≡ alexander g x
   alexander-in_homotopy x y sx held = RaisesDegrees-alexander g x y (raised x y sx held)
 
-  -- the same of each of a list of states whose ranks are the codes of the homotopy
+  -- the same of each of a list of states whose indices are the codes of the homotopy
   module _ (x : List ℕ) (sx : IsBijection (size g) x) (ys : List (List ℕ))
       (listed : map rank ys ≡ codes (homotopy_of_state axis g c corner x))
       (states : All (λ y. IsState y × (length y ≡ size g)) ys) where

@@ -9,7 +9,7 @@ use Rattle.grid_moves.specs.declared.commutations.Axis.{Axis}
 use Rattle.pentagon_map.specs.declared.Corner.{Corner}
 use Rattle.hexagon_map.specs.Inner.CodeHomotopies.{homotopy, homotopy_of_state}
 
--- the sum of the homotopies of states, by their ranks
+-- the sum of the homotopies of states, by their indices
 abbrev pub sum_of_homotopies : Axis → Marks → ℕ → Corner → List ℕ → Chain
 sum_of_homotopies axis g c corner cs = total (map (λ k. homotopy_of_state axis g c corner (unrank (size g) k)) cs)
 

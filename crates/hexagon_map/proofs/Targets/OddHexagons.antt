@@ -121,10 +121,12 @@ pub codes-column_homotopy : (g : Marks) → IsGrid g → (c : ℕ) (corner : Cor
     → bit_at odd b ≡ cond (is_odd_circle g c (crossing_row g c corner) (crossing_row_back g c corner) x b) 1 0)
     → map rank (in_order x c odd) ≡ codes (column_homotopy g c corner x)
 codes-column_homotopy g s c corner lc x sx odd has =
-    codes-in_order (size g) x sx c odd lc (column_homotopy g c corner x) (holds-column_homotopy g s c corner lc x sx odd has)
+    codes-in_order (size g) x sx c odd lc (column_homotopy g c corner x)
+    (holds-column_homotopy g s c corner lc x sx odd has)
 
 -- The exchanges of the circle of row c, in order, are the homotopy across rows.
-pub codes-row_homotopy : (g : Marks) → IsGrid g → (c : ℕ) (corner : Corner) → c < size g → (x : List ℕ) → IsBijection (size g) x
+pub codes-row_homotopy : (g : Marks) → IsGrid g → (c : ℕ) (corner : Corner) → c < size g → (x : List ℕ)
+    → IsBijection (size g) x
     → (odd bits : ℕ)
     → ((d : ℕ) → d < size g
     → bit_at odd d ≡ cond (is_odd_circle (transposed g) c (crossing_row (transposed g) c corner)
@@ -171,7 +173,8 @@ module _ (t g : Marks) (st : IsGrid t) (axis : Axis) (c w v : ℕ) (corner : Cor
   bijection = subst (λ m. IsBijection m x) same_size sx.bijection
 
   -- columns
-  pub column_hexagons_listed : axis ≡ Cols → t ≡ across axis g → w ≡ crossing_row t c corner → v ≡ crossing_row_back t c corner
+  pub column_hexagons_listed : axis ≡ Cols → t ≡ across axis g → w ≡ crossing_row t c corner
+      → v ≡ crossing_row_back t c corner
       → (odd : ℕ) → ((b : ℕ) → b < size t → bit_at odd b ≡ cond (is_odd_circle t c w v x b) 1 0)
       → (items : List (List ℕ)) → items ≡ in_order x c odd
       → map rank items ≡ codes (homotopy_of_state axis g c corner x)

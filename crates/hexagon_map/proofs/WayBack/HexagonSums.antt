@@ -83,7 +83,7 @@ column_homotopy-nil g c corner =
     (filter-none (λ y. is_odd (length (filter (is_hexagon g c w v [] y) (rectangles (size g))))) (states (size g))
     (none_leads (size g) (λ r. is_empty [] r && is_hexagonal g c w v r)))
 
--- the homotopy of a state has ranks of states
+-- the homotopy of a state has indices of states
 pub column_homotopy-below : (g : Marks) (c : ℕ) (corner : Corner) (x : List ℕ) (t : ℕ)
     → holds (column_homotopy g c corner x) t ≡ true → t < factorial (size g)
 unfolding column_homotopy

@@ -88,7 +88,7 @@ module _ (n r s w v : ℕ) (O X : ℕ → ℕ) where
 
   module _ (sd : AreSides n r s) (small : (c : ℕ) → c < n → (O c < n) × (X c < n)) (lw : w < n) (lv : v < n)
       (vw : v ≢ w)
-      (quiet_s : lacks O X s (above_of v w) ≡ true) (quiet_r : lacks O X r (above_of w v) ≡ true) where
+      (lacks_s : lacks O X s (above_of v w) ≡ true) (lacks_r : lacks O X r (above_of w v) ≡ true) where
     module _ (f : ℕ → ℕ) (one : IsOneToOne n f) (p : Place → ℕ) (d : AreColumns n p) (at0 : p first ≡ s) where
       abbrev rows : Place → ℕ
       rows = rows_of f p
@@ -109,13 +109,14 @@ module _ (n r s w v : ℕ) (O X : ℕ → ℕ) where
       here = where_is rows apart w
 
       placed : (o : Order) × Lies o (counted_from n (start_of rows V here.0) (end_of rows V here.0))
-          (counted_from n (start_of rows V here.0) (end_of rows V (up V here.0))) (counted_from n (start_of rows V here.0) w)
+          (counted_from n (start_of rows V here.0) (end_of rows V (up V here.0)))
+          (counted_from n (start_of rows V here.0) w)
           (counted_from n (start_of rows V here.0) v)
-      placed = S.placed n r s w v O X small sd.r-lt sd.s-lt lw lv vw quiet_s quiet_r rows apart rows_small V refl here.0
+      placed = S.placed n r s w v O X small sd.r-lt sd.s-lt lw lv vw lacks_s lacks_r rows apart rows_small V refl here.0
           here.1.here
 
       back_in : IsIn rows V v (arc_of V here.0 placed.0)
-      back_in = S.v_in n r s w v O X small sd.r-lt sd.s-lt lw lv vw quiet_s quiet_r rows apart rows_small V refl here.0
+      back_in = S.v_in n r s w v O X small sd.r-lt sd.s-lt lw lv vw lacks_s lacks_r rows apart rows_small V refl here.0
           here.1.here placed.0 placed.1
 
       abbrev no_left : Place → Bool
@@ -131,11 +132,11 @@ module _ (n r s w v : ℕ) (O X : ℕ → ℕ) where
           (end_of rows V (up V here.0))
       six R L =
           let A = S.arcs n rows apart rows_small V refl here.0 in
-          let xe = S.x-e n r s w v O X small sd.r-lt sd.s-lt lw lv vw quiet_s quiet_r rows apart rows_small V refl
+          let xe = S.x-e n r s w v O X small sd.r-lt sd.s-lt lw lv vw lacks_s lacks_r rows apart rows_small V refl
           here.0 here.1.here in
-          let wx = S.w-x n r s w v O X small sd.r-lt sd.s-lt lw lv vw quiet_s quiet_r rows apart rows_small V refl
+          let wx = S.w-x n r s w v O X small sd.r-lt sd.s-lt lw lv vw lacks_s lacks_r rows apart rows_small V refl
           here.0 here.1.here in
-          let x0 = S.x_off n r s w v O X small sd.r-lt sd.s-lt lw lv vw quiet_s quiet_r rows apart rows_small V refl
+          let x0 = S.x_off n r s w v O X small sd.r-lt sd.s-lt lw lv vw lacks_s lacks_r rows apart rows_small V refl
           here.0 here.1.here in
           let a : ℕ = start_of rows V here.0 in
           let x : ℕ = end_of rows V here.0 in
@@ -270,8 +271,10 @@ module _ (n r s w v : ℕ) (O X : ℕ → ℕ) where
       return_steps a b c d =
           (is_open_pentagon n r s w O X f a b
           && (open_back (with_exchanged f a b) c d && T (with_exchanged (with_exchanged f a b) c d)))
-          ⊻ ((is_open n O X f a b && (open_hexa (with_exchanged f a b) c d && T (with_exchanged (with_exchanged f a b) c d)))
-          ⊻ (open_hexa f a b && (is_open n O X (with_exchanged f a b) c d && T (with_exchanged (with_exchanged f a b) c d))))
+          ⊻ ((is_open n O X f a b && (open_hexa (with_exchanged f a b) c d
+          && T (with_exchanged (with_exchanged f a b) c d)))
+          ⊻ (open_hexa f a b && (is_open n O X (with_exchanged f a b) c d
+          && T (with_exchanged (with_exchanged f a b) c d))))
 
       three_is : (p : Place → ℕ) (d : AreColumns n p) (at0 : p first ≡ s) (m : Place)
           → at_three n return_steps (p m) (p (next m)) (p (next (next m)))
@@ -323,7 +326,7 @@ module _ (n r s w v : ℕ) (O X : ℕ → ℕ) where
           exchanged_three f c a b d.apart.ca d.apart.ab d.apart.bc in
           let y = here f one p d at0 in
           let o = placed f one p d at0 in
-          let shape = S.row_shape n r s w v O X small sd.r-lt sd.s-lt lw lv vw quiet_s quiet_r (rows_of f p)
+          let shape = S.row_shape n r s w v O X small sd.r-lt sd.s-lt lw lv vw lacks_s lacks_r (rows_of f p)
           (apart f one p d at0) (rows_small f one p d at0) vv refl y.0 y.1.here o.0 o.1 in
           (λ i. three_is p d at0 first i ⊻ (three_is p d at0 second i ⊻ three_is p d at0 third i))
           ∙ (λ i. (weighted u vv k W first && t)
@@ -408,7 +411,8 @@ module _ (n r s w v : ℕ) (O X : ℕ → ℕ) where
           (eqb c s || eqb d s) y
           ∙ ap (λ z. z && (x && y)) (no_corners a b c d o)
 
-      pub hexagons_at_four : (a b c d : ℕ) → a < n → b < n → c < n → d < n → four_differ a b c d ≡ true → return_steps a b c d
+      pub hexagons_at_four : (a b c d : ℕ) → a < n → b < n → c < n → d < n → four_differ a b c d ≡ true
+          → return_steps a b c d
           ≡ return_steps c d a b
       hexagons_at_four a b c d la lb lc ld h =
           let o = AreFourApart-from a b c d h in
@@ -440,16 +444,17 @@ module _ (n r s w v : ℕ) (O X : ℕ → ℕ) where
           let M2 : Bool = unmarked n O X c d (f c) (f d) in
           let H : Bool = hexa a b (f a) (f b) in
           let H2 : Bool = hexa c d (f c) (f d) in
-          let K : Bool = penta n r s w O X a b (f a) (f b) in
-          let K2 : Bool = penta n r s w O X c d (f c) (f d) in
-          (λ i. ((ab && (E1 && K)) && ((cd && (is_clear_of n g c d (gc i) (gd i) && back c d (gc i) (gd i))) && t))
+          let pentagon_here : Bool = penta n r s w O X a b (f a) (f b) in
+          let pentagon_there : Bool = penta n r s w O X c d (f c) (f d) in
+          (λ i. ((ab && (E1 && pentagon_here))
+          && ((cd && (is_clear_of n g c d (gc i) (gd i) && back c d (gc i) (gd i))) && t))
           ⊻ (((ab && (E1 && M)) && ((cd && (is_clear_of n g c d (gc i) (gd i) && hexa c d (gc i) (gd i))) && t))
           ⊻ ((ab && (E1 && H)) && ((cd && (is_clear_of n g c d (gc i) (gd i) && unmarked n O X c d (gc i) (gd i)))
           && t))))
           ∙ same 11 (λ p q x y t k b m l j u. ((p && (x && k)) && ((q && (y && b)) && t))
           ⊻ (((p && (x && m)) && ((q && (y && l)) && t)) ⊻ ((p && (x && j)) && ((q && (y && u)) && t))))
           (λ p q x y t k b m l j u. (x && y) && (((p && q) && t) && ((k && b) ⊻ ((m && l) ⊻ (j && u))))) refl
-          ab cd E1 E2 t K (back c d (f c) (f d)) M H2 H M2
+          ab cd E1 E2 t pentagon_here (back c d (f c) (f d)) M H2 H M2
           ∙ (λ i. empty_apart n f a b c d la lb lc ld o (AreFourApart-rows n f one a b c d la lb lc ld o) i
           && (((ab && cd) && ap T (exchanged_apart f a b c d o.ac o.ad o.bc o.bd) i)
           && (no_way_back a b c d (f a) (f b) (f c) (f d) o i ⊻ ((M && H2) ⊻ (H && M2)))))
@@ -461,8 +466,8 @@ module _ (n r s w v : ℕ) (O X : ℕ → ℕ) where
           ∙ same 11 (λ p q x y t k b m l j u. (x && y) && (((p && q) && t) && ((k && b) ⊻ ((m && l) ⊻ (j && u)))))
           (λ p q x y t k b m l j u. ((q && (x && k)) && ((p && (y && b)) && t))
           ⊻ (((q && (x && m)) && ((p && (y && l)) && t)) ⊻ ((q && (x && j)) && ((p && (y && u)) && t)))) refl
-          ab cd G1 G2 t' K2 (back a b (f a) (f b)) M2 H H2 M
-          ∙ sym (λ i. ((cd && (G1 && K2))
+          ab cd G1 G2 t' pentagon_there (back a b (f a) (f b)) M2 H H2 M
+          ∙ sym (λ i. ((cd && (G1 && pentagon_there))
           && ((ab && (is_clear_of n k a b (ka i) (kb i) && back a b (ka i) (kb i))) && t'))
           ⊻ (((cd && (G1 && M2)) && ((ab && (is_clear_of n k a b (ka i) (kb i) && hexa a b (ka i) (kb i))) && t'))
           ⊻ ((cd && (G1 && H2)) && ((ab && (is_clear_of n k a b (ka i) (kb i) && unmarked n O X a b (ka i) (kb i)))

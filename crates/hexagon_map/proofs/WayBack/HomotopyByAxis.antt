@@ -50,7 +50,7 @@ transposed_chain-states n z states k h = elim (cases_lt k (factorial n)) [
       absurd (omega arith)
 ]
 
--- the homotopy of a state has ranks of states, and the empty list has none
+-- the homotopy of a state has indices of states, and the empty list has none
 pub column_homotopy_IsOfStates : (g : Marks) (n : ℕ) → size g ≡ n → (c : ℕ) (corner : Corner)
     → IsOfStates n (column_homotopy g c corner)
 column_homotopy_IsOfStates g n e c corner = record {
@@ -141,13 +141,13 @@ homotopy-law Rows g s c l h corner z states =
     ∙ transposed_chain-add n (border t (hexagons (flip z))) (hexagons (border t (flip z)))
     ∙ ap₂ (λ u w. u ⊕ w) first second
 
--- the homotopy of a state has ranks of states, and the empty list has none
+-- the homotopy of a state has indices of states, and the empty list has none
 pub homotopy_of_state_IsOfStates : (axis : Axis) (g : Marks) → IsGrid g → (c : ℕ) (corner : Corner)
     → IsOfStates (size g) (homotopy_of_state axis g c corner)
 homotopy_of_state_IsOfStates Cols g s c corner = column_homotopy_IsOfStates g (size g) refl c corner
 homotopy_of_state_IsOfStates Rows g s c corner = row_homotopy_IsOfStates g s c corner
 
--- the homotopy of a chain has ranks of states
+-- the homotopy of a chain has indices of states
 pub homotopy-below : (axis : Axis) (g : Marks) → IsGrid g → (c : ℕ) (corner : Corner) (z : Chain) (k : ℕ)
     → holds (homotopy axis g c corner z) k ≡ true → k < factorial (size g)
 unfolding homotopy

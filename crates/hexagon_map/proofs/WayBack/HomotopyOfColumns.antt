@@ -33,7 +33,7 @@ use Rattle.pentagon_map.specs.declared.Corner.{Corner}
 use Rattle.hexagon_map.specs.Hexagon.{crossing_row_back}
 use Rattle.hexagon_map.proofs.WayBack.HexagonSums.{weight-column_homotopy}
 use Rattle.hexagon_map.proofs.WayBack.Hexagons.{open_back, open_hexa}
-use Rattle.hexagon_map.proofs.WayBack.QuietRows.{crossings_quiet}
+use Rattle.hexagon_map.proofs.WayBack.MarksBetween.{no_mark_between-crossings}
 use Rattle.hexagon_map.proofs.WayBack.ThinHexagons.{return_is}
 use Rattle.torus_geom.specs.Inner.CodeBorder.{border, border_of_state}
 use Rattle.torus_geom.proofs.Sums.AllBelowLemmas.{all_below-same}
@@ -56,15 +56,18 @@ module _ (n r s w v : ℕ) (O X : ℕ → ℕ) (sd : AreSides n r s) where
           → (two r s t || not (P t && (Q (with_exchanged O r s t) || Q (with_exchanged X r s t))))
           ≡ (two r s t || not (P t && (Q (O t) || Q (X t))))
       each t (inl i) y =
-          ap (λ z. (z || eqb t s) || not (P t && (Q (with_exchanged O r s t) || Q (with_exchanged X r s t)))) (eq-eqb t r i)
+          ap (λ z. (z || eqb t s) || not
+          (P t && (Q (with_exchanged O r s t) || Q (with_exchanged X r s t)))) (eq-eqb t r i)
           ∙ sym (ap (λ z. (z || eqb t s) || not (P t && (Q (O t) || Q (X t)))) (eq-eqb t r i))
       each t (inr p) (inl i) =
-          ap (λ z. (eqb t r || z) || not (P t && (Q (with_exchanged O r s t) || Q (with_exchanged X r s t)))) (eq-eqb t s i)
+          ap (λ z. (eqb t r || z) || not
+          (P t && (Q (with_exchanged O r s t) || Q (with_exchanged X r s t)))) (eq-eqb t s i)
           ∙ same 3 (λ x y z. (x || true) || y) (λ x y z. (x || true) || z) refl (eqb t r)
           (not (P t && (Q (with_exchanged O r s t) || Q (with_exchanged X r s t)))) (not (P t && (Q (O t) || Q (X t))))
           ∙ sym (ap (λ z. (eqb t r || z) || not (P t && (Q (O t) || Q (X t)))) (eq-eqb t s i))
       each t (inr p) (inr q) =
-          λ i. two r s t || not (P t && (Q (with_exchanged-other O r s t p q i) || Q (with_exchanged-other X r s t p q i)))
+          λ i. two r s t || not (P t && (Q (with_exchanged-other O r s t p q i)
+          || Q (with_exchanged-other X r s t p q i)))
 
   lacks_right : (Q : ℕ → Bool) → lacks (O' n r s w O X) (X' n r s w O X) s Q ≡ lacks O X r Q
   lacks_right Q = λ i. not (Q (with_exchanged-second O r s sd.apart i) || Q (with_exchanged-second X r s sd.apart i))
@@ -135,7 +138,8 @@ module _ (g : Marks) (s : IsGrid g) (c : ℕ) (lc : c < size g) (commutes : are_
   lb : b < n
   lb = one_down_below n c lc
 
-  rows_exchanged : (rows : List ℕ) → IsBijection n rows → slice_index (swap rows b c) ≡ with_exchanged (slice_index rows) b c
+  rows_exchanged : (rows : List ℕ) → IsBijection n rows
+      → slice_index (swap rows b c) ≡ with_exchanged (slice_index rows) b c
   rows_exchanged rows k = let e = k.long in let l = lc in let m = lb in
       swap-with_exchanged rows b c (omega arith) (omega arith)
 
@@ -191,7 +195,7 @@ module _ (g : Marks) (s : IsGrid g) (c : ℕ) (lc : c < size g) (commutes : are_
   of_state x sx q =
       let f : ℕ → ℕ = slice_index x in
       let T : (ℕ → ℕ) → Bool = has_rank n x sx rectangle hexagon q in
-      let k = crossings_quiet g s c lc commutes corner in
+      let k = no_mark_between-crossings g s c lc commutes corner in
       let over : ((ℕ → ℕ) → ℕ → ℕ → Bool) → ((ℕ → ℕ) → ℕ → ℕ → Bool) → Bool =
       λ one other. parity_below n (λ i. parity_below n (λ j. parity_below n
       (λ d. parity_below n (λ e. one f i j && (other (with_exchanged f i j) d e

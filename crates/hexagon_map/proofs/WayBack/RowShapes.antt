@@ -104,7 +104,7 @@ in_arc q false t third h i j = record { here = h; next_not = j; last_not = i }
 
 module _ (n r s w v : ℕ) (O X : ℕ → ℕ) (small : (c : ℕ) → c < n → (O c < n) × (X c < n)) (lr : r < n) (ls : s < n)
     (lw : w < n) (lv : v < n) (vw : v ≢ w)
-    (quiet_s : lacks O X s (above_of v w) ≡ true) (quiet_r : lacks O X r (above_of w v) ≡ true) where
+    (lacks_s : lacks O X s (above_of v w) ≡ true) (lacks_r : lacks O X r (above_of w v) ≡ true) where
   pub sub_lacks : (c : ℕ) → c < n → (P Q : ℕ → Bool) → lacks O X c Q ≡ true
       → ((t : ℕ) → t < n → P t ≡ true → Q t ≡ true) → lacks O X c P ≡ true
   sub_lacks c lc P Q h sub = elim (cases_Bool (P (O c))) [
@@ -246,9 +246,9 @@ module _ (n r s w v : ℕ) (O X : ℕ → ℕ) (small : (c : ℕ) → c < n → 
         let i = w-x in
         let out = λ (t : ℕ) (lt : t < n) (g : K x ≤ K t). F.outside n a A.a_below x v w t A.x_below lv lw lt h w-x
         (off_first t lt g) in
-        let l1 = second_lacks r ∙ sub_lacks r lr in_second (above_of w v) quiet_r
+        let l1 = second_lacks r ∙ sub_lacks r lr in_second (above_of w v) lacks_r
         (λ t lt g. out t lt (second_from t lt g).0) in
-        let l2 = third_lacks r ∙ sub_lacks r lr in_third (above_of w v) quiet_r
+        let l2 = third_lacks r ∙ sub_lacks r lr in_third (above_of w v) lacks_r
         (λ t lt g. out t lt (let u = third_from t lt g in omega arith)) in
         record {
           a = L y;
@@ -262,9 +262,9 @@ module _ (n r s w v : ℕ) (O X : ℕ → ℕ) (small : (c : ℕ) → c < n → 
               (λ t lt. F.in_two n a A.a_below x v w t A.x_below lv lw lt h w-x)
               ∙ lacks_add O X s (between a w) (above_of v x));
           rm-is = refl;
-          lp-is = sub_lacks r lr (above_of w x) (above_of w v) quiet_r
+          lp-is = sub_lacks r lr (above_of w x) (above_of w v) lacks_r
               (λ t lt g. F.above_second n a A.a_below x v w t A.x_below lv lw lt h w-x g);
-          lb-is = sub_lacks r lr (between a v) (above_of w v) quiet_r
+          lb-is = sub_lacks r lr (between a v) (above_of w v) lacks_r
               (λ t lt g. F.below_first n a A.a_below x v w t A.x_below lv lw lt h w-x g);
           rb-is = refl;
         }
@@ -273,9 +273,9 @@ module _ (n r s w v : ℕ) (O X : ℕ → ℕ) (small : (c : ℕ) → c < n → 
         let i = w-x in
         let out = λ (t : ℕ) (lt : t < n) (g : K x ≤ K t). F.outside n a A.a_below x w v t A.x_below lw lv lt h g0
         (off_first t lt g) in
-        let r1 = second_lacks s ∙ sub_lacks s ls in_second (above_of v w) quiet_s
+        let r1 = second_lacks s ∙ sub_lacks s ls in_second (above_of v w) lacks_s
         (λ t lt g. out t lt (second_from t lt g).0) in
-        let r2 = third_lacks s ∙ sub_lacks s ls in_third (above_of v w) quiet_s
+        let r2 = third_lacks s ∙ sub_lacks s ls in_third (above_of v w) lacks_s
         (λ t lt g. out t lt (let u = third_from t lt g in omega arith)) in
         record {
           a = R y;
@@ -289,17 +289,17 @@ module _ (n r s w v : ℕ) (O X : ℕ → ℕ) (small : (c : ℕ) → c < n → 
               ∙ lacks_add O X r (between a v) (above_of w x)
               ∙ and_comm (lacks O X r (between a v)) (lacks O X r (above_of w x)));
           right_is = all_rel V y R ∙ (λ z. rel V y (R y) (r1 z) (r2 z));
-          rm-is = sub_lacks s ls (between a w) (above_of v w) quiet_s
+          rm-is = sub_lacks s ls (between a w) (above_of v w) lacks_s
               (λ t lt g. F.below_first n a A.a_below x w v t A.x_below lw lv lt h g0 g);
           lp-is = refl;
           lb-is = refl;
-          rb-is = sub_lacks s ls (above_of v x) (above_of v w) quiet_s
+          rb-is = sub_lacks s ls (above_of v x) (above_of v w) lacks_s
               (λ t lt g. F.above_second n a A.a_below x w v t A.x_below lw lv lt h g0 g);
         }
     row_shape above (h, g0) =
         let j = x-e in
         let i = w-x in
-        let r2 = third_lacks s ∙ sub_lacks s ls in_third (above_of v w) quiet_s
+        let r2 = third_lacks s ∙ sub_lacks s ls in_third (above_of v w) lacks_s
         (λ t lt g. let u = third_from t lt g in wraps t lt (omega arith) (inl (omega arith)) (omega arith)) in
         record {
           a = L y;
@@ -309,16 +309,16 @@ module _ (n r s w v : ℕ) (O X : ℕ → ℕ) (small : (c : ℕ) → c < n → 
           e = R (up V y);
           left_is = all_rel V y L;
           right_is = all_rel V y R ∙ ap (λ (z : Bool). rel V y (R y) (R (up V y)) z) r2;
-          rm-is = sub_lacks s ls (between a w) (above_of v w) quiet_s
+          rm-is = sub_lacks s ls (between a w) (above_of v w) lacks_s
               (λ t lt g. F.below_w n a A.a_below x w v t A.x_below lw lv lt w-x h g);
-          lp-is = sub_lacks r lr (above_of w x) (above_of w v) quiet_r
+          lp-is = sub_lacks r lr (above_of w x) (above_of w v) lacks_r
               (λ t lt g. F.above_w n a A.a_below x w v t A.x_below lw lv lt w-x h g);
           lb-is = ap (λ (z : ℕ). lacks O X r (between z v)) (lo_up q V y)
-              ∙ sub_lacks r lr (between x v) (above_of w v) quiet_r (λ t lt g.
+              ∙ sub_lacks r lr (between x v) (above_of w v) lacks_r (λ t lt g.
               let c = sym (into n a A.a_below x v t A.x_below lv lt) ∙ g in
               let u = in_low (K x) (K v) (K t) h c in
               goes t lt (omega arith) (in_high (K x) (K v) (K t) h c));
-          rb-is = sub_lacks s ls (above_of v e) (above_of v w) quiet_s (λ t lt g.
+          rb-is = sub_lacks s ls (above_of v e) (above_of v w) lacks_s (λ t lt g.
               let m = and_parts (between v e t) (differ t v) g in
               let c = sym (into n a A.a_below v e t lv A.e_below lt) ∙ m.0 in
               wraps t lt (omega arith) (inl (in_low (K v) (K e) (K t) (omega arith) c)) (not_same t lt m.1));
@@ -327,7 +327,7 @@ module _ (n r s w v : ℕ) (O X : ℕ → ℕ) (small : (c : ℕ) → c < n → 
         let j = x-e in
         let i = w-x in
         let out : K x ≤ K v = omega arith in
-        let l1 = second_lacks r ∙ sub_lacks r lr in_second (above_of w v) quiet_r
+        let l1 = second_lacks r ∙ sub_lacks r lr in_second (above_of w v) lacks_r
         (λ t lt g. let u = second_from t lt g in let u0 = u.0 in let u1 = u.1 in
         goes t lt (omega arith) (omega arith)) in
         record {
@@ -338,17 +338,17 @@ module _ (n r s w v : ℕ) (O X : ℕ → ℕ) (small : (c : ℕ) → c < n → 
           e = R (up V (up V y));
           left_is = all_rel V y L ∙ ap (λ (z : Bool). rel V y (L y) z (L (up V (up V y)))) l1;
           right_is = all_rel V y R;
-          rm-is = sub_lacks s ls (between a w) (above_of v w) quiet_s
+          rm-is = sub_lacks s ls (between a w) (above_of v w) lacks_s
               (λ t lt g. F.below_w n a A.a_below x w v t A.x_below lw lv lt w-x out g);
-          lp-is = sub_lacks r lr (above_of w x) (above_of w v) quiet_r
+          lp-is = sub_lacks r lr (above_of w x) (above_of w v) lacks_r
               (λ t lt g. F.above_w n a A.a_below x w v t A.x_below lw lv lt w-x out g);
           lb-is = ap (λ (z : ℕ). lacks O X r (between z v)) (lo_third q V y)
-              ∙ sub_lacks r lr (between e v) (above_of w v) quiet_r (λ t lt g.
+              ∙ sub_lacks r lr (between e v) (above_of w v) lacks_r (λ t lt g.
               let c = sym (into n a A.a_below e v t A.e_below lv lt) ∙ g in
               let u = in_low (K e) (K v) (K t) h c in
               goes t lt (omega arith) (in_high (K e) (K v) (K t) h c));
           rb-is = ap (λ (z : ℕ). lacks O X s (above_of v z)) (hi_third q V y)
-              ∙ sub_lacks s ls (above_of v a) (above_of v w) quiet_s (λ t lt g.
+              ∙ sub_lacks s ls (above_of v a) (above_of v w) lacks_s (λ t lt g.
               let m = and_parts (between v a t) (differ t v) g in
               let c = sym (into_last n a A.a_below v t lv lt) ∙ m.0 in
               wraps t lt (omega arith) (inl (zero_back (K v) (K t) (omega arith) c)) (not_same t lt m.1));

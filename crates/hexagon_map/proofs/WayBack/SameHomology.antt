@@ -227,7 +227,8 @@ homotopy-nothing axis g s c corner =
     let n = size g in
     ap (homotopy axis g c corner) (sym (states_of-nothing n))
     ∙ sym (states_of-homotopy axis g s c corner no_codes (λ k held. absurd (none k held)))
-    ∙ ap (states_of n) (homotopy-sum axis g c corner no_codes ∙ linear-nothing (extended (homotopy_code axis g c corner))
+    ∙ ap (states_of n) (homotopy-sum axis g c corner no_codes
+    ∙ linear-nothing (extended (homotopy_code axis g c corner))
     (λ z w. sum_over-add z w (homotopy_code axis g c corner)))
     ∙ states_of-nothing n
   where

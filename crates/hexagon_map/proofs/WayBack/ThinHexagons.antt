@@ -96,8 +96,8 @@ sum_left false false g h p q r = same 2 (λ g h. false ⊻ ((h && true) ⊻ (g &
 
 module _ (n r s e w v : ℕ) (O X : ℕ → ℕ) (sd : AreSides n r s) (thin : IsThin n r s e) (busy : AreBusy n r s O X)
     (small : (c : ℕ) → c < n → (O c < n) × (X c < n))
-    (lw : w < n) (lv : v < n) (vw : v ≢ w) (quiet_s : lacks O X s (above_of v w) ≡ true)
-    (quiet_r : lacks O X r (above_of w v) ≡ true) where
+    (lw : w < n) (lv : v < n) (vw : v ≢ w) (lacks_s : lacks O X s (above_of v w) ≡ true)
+    (lacks_r : lacks O X r (above_of w v) ≡ true) where
   -- both steps up the same range of columns
   abbrev there_and_up : ℕ → ℕ → ℕ → ℕ → Bool
   there_and_up a b j i =
@@ -159,15 +159,15 @@ module _ (n r s e w v : ℕ) (O X : ℕ → ℕ) (sd : AreSides n r s) (thin : I
         let v_out = out_is n j i w v lj li lw lv q v lv (is_true v p.1) in
         let v_in = in_is n i j v w li lj lv lw (λ z. q (sym z)) v lv (off v ∙ p.1) in
         let w_out = out_is n i j v w li lj lv lw (λ z. q (sym z)) w lw (off w ∙ ap not p.0) in
-        let sub = sub_lacks n r s w v O X small sd.r-lt sd.s-lt lw lv vw quiet_s quiet_r in
+        let sub = sub_lacks n r s w v O X small sd.r-lt sd.s-lt lw lv vw lacks_s lacks_r in
         and_from _ _
-        (and_from _ _ (sub s sd.s-lt (between j w) (above_of v w) quiet_s
+        (and_from _ _ (sub s sd.s-lt (between j w) (above_of v w) lacks_s
         (λ t lt g. F.below_w n j lj i w v t li lw lv lt w_in v_out g))
-        (sub r sd.r-lt (above_of w i) (above_of w v) quiet_r
+        (sub r sd.r-lt (above_of w i) (above_of w v) lacks_r
         (λ t lt g. F.above_w n j lj i w v t li lw lv lt w_in v_out g)))
-        (and_from _ _ (sub r sd.r-lt (between i v) (above_of w v) quiet_r
+        (and_from _ _ (sub r sd.r-lt (between i v) (above_of w v) lacks_r
         (λ t lt g. F.below_w n i li j v w t lj lv lw lt v_in w_out g))
-        (sub s sd.s-lt (above_of v j) (above_of v w) quiet_s
+        (sub s sd.s-lt (above_of v j) (above_of v w) lacks_s
         (λ t lt g. F.above_w n i li j v w t lj lv lw lt v_in w_out g)))
 
     -- w is met first on the way up from i to j: the other range of rows has no row of s
@@ -177,8 +177,8 @@ module _ (n r s e w v : ℕ) (O X : ℕ → ℕ) (sd : AreSides n r s) (thin : I
         let u = and_parts (between i j v) (between i j w) p.1 in
         let first = zero_in (k n i li v) (k n i li w) (sym (into_first n i li v w lv lw) ∙ p.0) in
         let inn = in_is n i j v w li lj lv lw (λ z. q (sym z)) v lv u.0 in
-        sub_lacks n r s w v O X small sd.r-lt sd.s-lt lw lv vw quiet_s quiet_r s sd.s-lt (between j i) (above_of v w)
-        quiet_s
+        sub_lacks n r s w v O X small sd.r-lt sd.s-lt lw lv vw lacks_s lacks_r s sd.s-lt (between j i) (above_of v w)
+        lacks_s
         (λ t lt g. F.outside n i li j w v t lj lw lv lt first inn (off t ∙ ap not g))
 
     rest_r : (between i w v && (between i j v && between i j w)) ≡ true → lacks O X r (between j i) ≡ true
@@ -187,8 +187,8 @@ module _ (n r s e w v : ℕ) (O X : ℕ → ℕ) (sd : AreSides n r s) (thin : I
         let u = and_parts (between i j v) (between i j w) p.1 in
         let first = zero_in (k n i li w) (k n i li v) (sym (into_first n i li w v lw lv) ∙ p.0) in
         let inn = in_is n i j v w li lj lv lw (λ z. q (sym z)) w lw u.1 in
-        sub_lacks n r s w v O X small sd.r-lt sd.s-lt lw lv vw quiet_s quiet_r r sd.r-lt (between j i) (above_of w v)
-        quiet_r
+        sub_lacks n r s w v O X small sd.r-lt sd.s-lt lw lv vw lacks_s lacks_r r sd.r-lt (between j i) (above_of w v)
+        lacks_r
         (λ t lt g. F.outside n i li j v w t lj lv lw lt first inn (off t ∙ ap not g))
 
   pents_are : (j i : ℕ) → j < n → i < n → j ≢ i
@@ -307,7 +307,7 @@ module _ (n r s e w v : ℕ) (O X : ℕ → ℕ) (sd : AreSides n r s) (thin : I
 
   module _ (f : ℕ → ℕ) (one : IsOneToOne n f) (T : (ℕ → ℕ) → Bool) where
     abbrev ways : ℕ → ℕ → ℕ → ℕ → Bool
-    ways = return_steps n r s w v O X sd small lw lv vw quiet_s quiet_r f one T
+    ways = return_steps n r s w v O X sd small lw lv vw lacks_s lacks_r f one T
 
     across : (a b : ℕ) → a < n → b < n → a ≢ b → ways a b b a ≡ false
     across a b la lb p =
@@ -379,7 +379,8 @@ module _ (n r s e w v : ℕ) (O X : ℕ → ℕ) (sd : AreSides n r s) (thin : I
     at_none a b la lb p h =
         (λ i. differ-true a b p i && (along_twice a b p i ⊻ across a b la lb p i))
         ∙ xor-false _
-        ∙ ap (λ z. (is_clear_of n f a b (f a) (f b) && is_clear_of n (with_exchanged f a b) a b (f b) (f a)) && (T f && z)) h
+        ∙ ap (λ z. (is_clear_of n f a b (f a) (f b) && is_clear_of n (with_exchanged f a b) a b (f b) (f a))
+        && (T f && z)) h
         ∙ same 2 (λ x y. x && (y && false)) (λ x y. false) refl
         (is_clear_of n f a b (f a) (f b) && is_clear_of n (with_exchanged f a b) a b (f b) (f a)) (T f)
 
@@ -495,9 +496,10 @@ module _ (n r s e w v : ℕ) (O X : ℕ → ℕ) (sd : AreSides n r s) (thin : I
         ⊻ ((is_open n O X f a b && ((no z && (is_clear_of n g c c (g c) (g c) && hexa n r s w v O X c c (g c) (g c)))
         && T (with_exchanged g c c)))
         ⊻ (open_hexa n r s w v O X f a b
-        && ((no z && (is_clear_of n g c c (g c) (g c) && unmarked n O X c c (g c) (g c))) && T (with_exchanged g c c)))))
+        && ((no z && (is_clear_of n g c c (g c) (g c) && unmarked n O X c c (g c) (g c)))
+        && T (with_exchanged g c c)))))
         ∙ same 3 (λ x y z. (x && false) ⊻ ((y && false) ⊻ (z && false))) (λ x y z. false) refl
         (is_open_pentagon n r s w O X f a b) (is_open n O X f a b) (open_hexa n r s w v O X f a b))
-        (hexagons_at_four n r s w v O X sd small lw lv vw quiet_s quiet_r f one T)
-        (hexagons_at_three n r s w v O X sd small lw lv vw quiet_s quiet_r f one T)
+        (hexagons_at_four n r s w v O X sd small lw lv vw lacks_s lacks_r f one T)
+        (hexagons_at_three n r s w v O X sd small lw lv vw lacks_s lacks_r f one T)
         ∙ twice_sum

@@ -1,9 +1,9 @@
 -- The homotopy of a set of codes across a commutation.
---     column_homotopy g c corner x          the ranks of the states to which an odd number of hexagons lead from the
+--     column_homotopy g c corner x          the indices of the states to which an odd number of hexagons lead from the
 --                                           state x
---     homotopy_of_state axis g c corner x   the ranks of the homotopy of x, for columns or for rows: for rows x is
+--     homotopy_of_state axis g c corner x   the indices of the homotopy of x, for columns or for rows: for rows x is
 --                                           transposed, and the homotopy across columns is transposed back
---     homotopy axis g c corner z            the sum of these over the states whose ranks are in z
+--     homotopy axis g c corner z            the sum of these over the states whose indices are in z
 --     return_image axis g c corner z        the image of z, and the image of that in the exchanged grid
 use Rattle.std.specs.Prelude.{ℕ, List, length}
 use Rattle.std.specs.List.{filter}

@@ -78,7 +78,8 @@ pub first_failing-cycles : (g h : Marks) (d e : ℤ × ℤ) (n : ℕ) (xs ys : L
     → first_failing (cycle_questions g d n [] xs) ≡ first_failing (cycle_questions h e n [] ys)
 first_failing-cycles g h d e n xs ys p q r = λ i. first_failing (cycle_questions (p i) (q i) n [] (r i))
 
-pub first_failing-steps : (g h : Marks) (d e : ℤ × ℤ) (n m : ℕ) (xs ys : List StepPair) → g ≡ h → d ≡ e → n ≡ m → xs ≡ ys
+pub first_failing-steps : (g h : Marks) (d e : ℤ × ℤ) (n m : ℕ) (xs ys : List StepPair) → g ≡ h → d ≡ e
+    → n ≡ m → xs ≡ ys
     → first_failing (step_questions g d n xs) ≡ first_failing (step_questions h e m ys)
 first_failing-steps g h d e n m xs ys p q s r = λ i. first_failing (step_questions (p i) (q i) (s i) (r i))
 

@@ -104,7 +104,8 @@ module _ (c : Certificate) where
   all_numbered-cell : (k : ℕ) (cell : Cell) → all_numbered k (cell_entries c cell) ≡ cell_questions c k cell
   all_numbered-cell k cell =
       ap (λ (r : List Question). numbered k ((Count, count_passes c cell) ∷ []) ++ r)
-      (all_numbered-append (k + 1) (cycle_entries c.grid cell.at [] cell.cycles) (step_entries c.grid cell.at cell.steps)
+      (all_numbered-append (k + 1) (cycle_entries c.grid cell.at [] cell.cycles)
+      (step_entries c.grid cell.at cell.steps)
       ∙ ap (λ n. all_numbered (k + 1) (cycle_entries c.grid cell.at [] cell.cycles)
       ++ all_numbered (k + 1 + n) (step_entries c.grid cell.at cell.steps))
       (length-cycle_entries c.grid cell.at [] cell.cycles))

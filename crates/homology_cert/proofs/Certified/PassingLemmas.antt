@@ -215,6 +215,7 @@ module _ (c : Certificate) where
   pub passes_of_yes : verdict_of c ≡ Yes → Every (PassesCell c) c.cells × (none_missing c ≡ true)
   unfolding questions
   passes_of_yes told =
-      let passed = passed-first (questions c) (yes-none (first_failing (questions c)) (sym (verdict_of-questions c) ∙ told)) in
+      let passed = passed-first (questions c)
+      (yes-none (first_failing (questions c)) (sym (verdict_of-questions c) ∙ told)) in
       let parts = every_parts _ (all_questions c 1 c.cells) _ passed in
       (cells_pass 1 c.cells parts.0, parts.1.0)

@@ -220,8 +220,10 @@ module _ (g : Marks) (grid : IsGrid g) (a : ℤ) where
     abbrev has_degrees : ComponentRow → ℕ → Bool
     has_degrees r s = same_multidegree (multidegree g (unrank (size g) s)) (r.0, r.1)
 
-    component : (r : ComponentRow) → total r.1 ≡ pos 2 *ℤ a → IsComponentRank g r.0 r.1 (count (has_degrees r) left_codes)
-    component r sum = component_rank_counted g grid a log stands bare r.0 r.1 sum left_codes apart listed (has_degrees r)
+    component : (r : ComponentRow) → total r.1 ≡ pos 2 *ℤ a
+        → IsComponentRank g r.0 r.1 (count (has_degrees r) left_codes)
+    component r sum =
+        component_rank_counted g grid a log stands bare r.0 r.1 sum left_codes apart listed (has_degrees r)
         (λ s inside. (
           λ h.
               let same = (same_multidegree-is (multidegree g (unrank (size g) s)) (r.0, r.1)).0 h in (
@@ -308,7 +310,8 @@ module _ (g : Marks) (grid : IsGrid g) (a : ℤ) where
                 let sum = (Decides-int_eq (total r.1) (pos 2 *ℤ a)).0
                 (and_parts (int_eq r.0 m) (int_eq (total r.1) (pos 2 *ℤ a)) h).1 in
                 let held = ((table.complete r.0 r.1 r.2).0 inside).1 in
-                let same = one_component_rank g grid r.0 r.1 r.2 (count (has_degrees r) left_codes) held (component r sum) in
+                let same = one_component_rank g grid r.0 r.1 r.2 (count (has_degrees r) left_codes) held
+                (component r sum) in
                 ap (λ n. if is_at r then n else 0) same
             | inr h ↦
                 (λ i. if h i then r.2 else 0) ∙ sym (λ i. if h i then count (has_degrees r) left_codes else 0)
@@ -316,7 +319,8 @@ module _ (g : Marks) (grid : IsGrid g) (a : ℤ) where
 
       added : IsHomologyRank g m a (added_rank rows m a)
       added = subst (IsHomologyRank g m a)
-          (sym (ranks_counted ∙ counted_by_rows is_at has_degrees (has_maslov m) rows left_codes each_once)) (homology m)
+          (sym (ranks_counted ∙ counted_by_rows is_at has_degrees (has_maslov m) rows left_codes
+          each_once)) (homology m)
 
 -- the rows of one Maslov degree whose degrees add up to twice a have the rank at a together
 pub ranks_add_up : (g : Marks) → IsGrid g → (rows : List ComponentRow) → IsComponentTable g rows → (m a : ℤ)

@@ -49,7 +49,8 @@ component_row_shape = record {
 module _ (g : Marks) (grid : IsGrid g) where
   -- rows in order are the table where they have the ranks
   pub table_of_ranks : (rows : List ComponentRow) → ArePositive component_row_shape rows
-      → ((m : ℤ) (ds : List ℤ) → IsComponentRank g m ds (ranks_of component_row_shape rows (m, ds))) → IsComponentTable g rows
+      → ((m : ℤ) (ds : List ℤ) → IsComponentRank g m ds (ranks_of component_row_shape rows (m, ds)))
+      → IsComponentTable g rows
   table_of_ranks rows positive told = record {
     ordered = positive.ordered;
     complete = λ m ds d. (

@@ -154,9 +154,11 @@ member_of_rows : (rows : List MultiRow) (r : ComponentRow) → Contains (map com
     → (row : MultiRow) × Contains rows row × (component_row row ≡ r)
 member_of_rows rows r inside = member_of_map component_row rows r inside
 
-rows_positive : (rows : List MultiRow) → ArePositive rows → shapes.ArePositive component_row_shape (map component_row rows)
+rows_positive : (rows : List MultiRow) → ArePositive rows
+    → shapes.ArePositive component_row_shape (map component_row rows)
 rows_positive rows h = record {
-  ordered = pairs_map RowsBefore (λ p q. IsTrue (component_row_shape.before (component_row_shape.key p) (component_row_shape.key q))) component_row rows
+  ordered = pairs_map RowsBefore (λ p q. IsTrue
+      (component_row_shape.before (component_row_shape.key p) (component_row_shape.key q))) component_row rows
       (λ p q before. before) h.ordered;
   positive = λ k d l.
       let inside = Contains-get_or (map component_row rows) k d l in
@@ -173,12 +175,14 @@ module _ (g : Marks) (grid : IsGrid g) (degrees : BTreeSet ℤ) (has : HasDegree
   -- the rows are the table of the grid
   pub done-table : IsComponentTable g (map component_row rows)
   done-table = table_of_ranks g grid (map component_row rows) (rows_positive rows all.positive) (λ m ds.
-      subst (IsComponentRank g m ds) (rank_at-ranks_of rows (m, ds) ∙ sym (ranks_of-rows rows (m, ds))) (rank_here m ds))
+      subst (IsComponentRank g m ds) (rank_at-ranks_of rows (m, ds) ∙ sym (ranks_of-rows rows (m, ds)))
+      (rank_here m ds))
 
   own_rank : (k : ℕ) (d : MultiRow) → k < length rows
       → rank_at rows (degrees_of (get_or rows k d)) ≡ (get_or rows k d).rank
   own_rank k d l =
-      rank_at-row rows (get_or rows k d) (degrees_of (get_or rows k d)) all.positive.ordered (Contains-get_or rows k d l)
+      rank_at-row rows (get_or rows k d) (degrees_of (get_or rows k d)) all.positive.ordered
+      (Contains-get_or rows k d l)
       refl
 
   own_key : (k : ℕ) (d : MultiRow) → k < length rows → IsKey g (degrees_of (get_or rows k d))

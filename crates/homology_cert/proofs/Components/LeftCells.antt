@@ -64,7 +64,8 @@ module _ (g : Marks) (grid : IsGrid g) (a : ℤ) (left : Complex ℤ) (log : Lis
   left_apart = IsApart-pairs left_codes
       (pairs_map (λ (b c : Cell). b.code ≢ c.code) (λ b c. b ≢ c) (λ (c : Cell). c.code) cells (λ b c h. h) listed.once)
 
-  all_listed : (s : ℕ) → is_some ((after (at_alexander a (grid_complex g)) log).degree s) ≡ true → any s left_codes ≡ true
+  all_listed : (s : ℕ) → is_some ((after (at_alexander a (grid_complex g)) log).degree s) ≡ true
+      → any s left_codes ≡ true
   all_listed s live =
       let value = value_of (left.degree s) (ap (λ C. is_some (C.degree s)) reduced.is_after ∙ live) in
       let c : Cell = record { code = s; maslov = value.0 } in
@@ -103,7 +104,8 @@ module _ (g : Marks) (grid : IsGrid g) (a : ℤ) (left : Complex ℤ) (log : Lis
     left_rank : total ds ≡ pos 2 *ℤ a → IsComponentRank g m ds (cell_count g (m, ds) cells)
     left_rank sum =
         subst (IsComponentRank g m ds) (count-map test (λ (c : Cell). c.code) cells)
-        (component_rank_counted g grid a log reduced.stands no_arrows m ds sum left_codes left_apart all_listed test tells)
+        (component_rank_counted g grid a log reduced.stands no_arrows m ds sum left_codes left_apart
+        all_listed test tells)
 
   pub ranks_of_left : HasComponentRanks g a cells
   ranks_of_left = record {

@@ -5,7 +5,7 @@ use Rattle.torus_geom.specs.Homology.{IsHomologyRank}
 use Rattle.torus_geom.specs.Border.{border}
 use Rattle.torus_geom.specs.Codes.{states_of}
 use Rattle.torus_geom.specs.Marks.{Marks, IsGrid, size}
-use Rattle.torus_geom.proofs.Chains.CodesLemmas.{AreRanks}
+use Rattle.torus_geom.proofs.Chains.CodesLemmas.{AreIndices}
 use Rattle.torus_geom.proofs.Chains.ReachedLemmas.{states_of-border}
 use Rattle.rectangles.proofs.Square.BorderLemmas.{border-below, border-grid_complex}
 use Rattle.rectangles.proofs.Homology.GradedStates.{StandsFor, rank-states}
@@ -29,7 +29,7 @@ component_complex_StandsFor : (g : Marks) → StandsFor g (multidegree g) (compo
 component_complex_StandsFor g = record {
   degrees = λ s. refl;
   rises = λ d. refl;
-  ranks = λ z. subst (AreRanks (size g)) (sym (border-grid_complex g z)) (border-below g z);
+  indices = λ z. subst (AreIndices (size g)) (sym (border-grid_complex g z)) (border-below g z);
   borders = λ z below. ap (states_of (size g)) (border-grid_complex g z) ∙ states_of-border g z below;
 }
 
@@ -66,7 +66,8 @@ some_component_rank g grid m ds =
 pub one_component_rank : (g : Marks) → IsGrid g → (m : ℤ) (ds : List ℤ) (d e : ℕ) → IsComponentRank g m ds d
     → IsComponentRank g m ds e → d ≡ e
 one_component_rank g grid m ds d e h k =
-    ranks.one_component_rank g grid m ds d e ((component_rank-states g m ds d).1 h) ((component_rank-states g m ds e).1 k)
+    ranks.one_component_rank g grid m ds d e ((component_rank-states g m ds d).1 h)
+    ((component_rank-states g m ds e).1 k)
 
 pub some_component_table : (g : Marks) → IsGrid g → (rows : List ComponentRow) × IsComponentTable g rows
 some_component_table g grid =

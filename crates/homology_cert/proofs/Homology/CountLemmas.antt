@@ -16,22 +16,9 @@ use Rattle.torus_geom.specs.Inner.CodeHomology.{IsHomologyRank}
 use Rattle.gradings.specs.Degrees.{bidegree_cmp}
 use Rattle.gradings.specs.declared.degrees.Bidegree.{Bidegree}
 use Rattle.gradings.proofs.OrderLemmas.{bidegree_cmp_total, bidegree_cmp_exact}
-use Rattle.homology_cert.specs.Inner.Ranks.{key_of, Ranks, rank_in, degree_count, HasRanks, AreCounted, IsTold}
-
--- ---- the order of the keys
-is_equal : (o : Ordering) → is_eq o ≡ true → o ≡ Equal
-is_equal Less e = absurd (false≢true e)
-is_equal Equal e = refl
-is_equal Greater e = absurd (false≢true e)
-
--- the test of a key finds the key itself
-key_itself : (p : Bidegree) → is_eq (bidegree_cmp p p) ≡ true
-key_itself p = ap is_eq (tied_itself bidegree_cmp_total p)
-
--- and no other key
-key_other : (p q : Bidegree) → (p ≡ q → ⊥) → is_eq (bidegree_cmp p q) ≡ false
-key_other p q other = none_where (is_eq (bidegree_cmp p q))
-    (λ h. other (bidegree_cmp_exact p q (is_equal (bidegree_cmp p q) h)))
+use Rattle.hat_division.proofs.RankMapLemmas.{key_itself, key_other}
+use Rattle.hat_division.specs.RankMaps.{key_of, Ranks, rank_in}
+use Rattle.homology_cert.specs.Inner.Ranks.{degree_count, HasRanks, AreCounted, IsTold}
 
 -- ---- how many cells have a degree
 count-none : (m : ℤ) → degree_count m [] ≡ 0

@@ -28,7 +28,8 @@ HasDegrees-from_sums g grid degrees found =
       found = λ s l.
           let z = unrank (size g) s in
           let state = IsBijection-unrank (size g) s l in
-          let few = rest_up_to g z 0 (sum_before g (size g) z) grid.is_size.greatest (omega arith) (omega (arith, ints)) in
+          let few = rest_up_to g z 0 (sum_before g (size g) z) grid.is_size.greatest (omega arith)
+          (omega (arith, ints)) in
           let (k, is, below) = natural (sum_before g (size g) z) few.0 few.1 in
           found z k state is below;
     }

@@ -48,7 +48,8 @@ module _ {A : Type 0} (R : A → A → Type 0) (one_way : (x y : A) → R x y �
     | inr later ↦ later
   ]
 
-  pub ordered_lists-same : (xs ys : List A) → AllPairs R xs → AllPairs R ys → ((z : A) → Contains xs z ↔ Contains ys z) → xs ≡ ys
+  pub ordered_lists-same : (xs ys : List A) → AllPairs R xs → AllPairs R ys
+      → ((z : A) → Contains xs z ↔ Contains ys z) → xs ≡ ys
   ordered_lists-same [] [] p q same = refl
   ordered_lists-same [] (y ∷ ys) p q same = absurd (no_member y ((same y).1 (member_head y ys)))
   ordered_lists-same (x ∷ xs) [] p q same = absurd (no_member x ((same x).0 (member_head x xs)))

@@ -18,29 +18,10 @@ use Rattle.hat_division.specs.declared.tables.TableRow.{TableRow}
 use Rattle.gradings.specs.Degrees.{bidegree_cmp}
 use Rattle.gradings.specs.declared.degrees.Bidegree.{Bidegree}
 use Rattle.gradings.proofs.OrderLemmas.{bidegree_cmp_total, bidegree_cmp_exact, stands_before-bidegree_cmp}
-use Rattle.homology_cert.specs.Inner.Ranks.{key_of, Ranks, rank_in, row_of, HasHomology, IsTold, IsDone, AreRows}
+use Rattle.hat_division.specs.RankMaps.{key_of, Ranks, rank_in, row_of}
+use Rattle.homology_cert.specs.Inner.Ranks.{HasHomology, IsTold, IsDone, AreRows}
+use Rattle.hat_division.proofs.RankMapLemmas.{rows-ordered}
 use Rattle.homology_cert.proofs.Homology.SliceRanks.{one_homology_rank}
-
--- ---- from the map to rows
--- the rows of later keys are later
-all_later : (e : Bidegree × ℕ) (es : List (Bidegree × ℕ)) → AllByRecursion (λ q. bidegree_cmp e.0 q ≡ Less) (keys_of es)
-    → (row : TableRow) → Contains (map row_of es) row
-    → IsTrue (stands_before (bidegree_of (row_of e)) (bidegree_of row))
-all_later e [] h row inside = absurd (no_member row inside)
-all_later e (f ∷ es) h row inside = elim (member_cases (row_of f) (map row_of es) row inside) [
-  | inl is ↦
-      subst (λ r. IsTrue (stands_before (bidegree_of (row_of e)) (bidegree_of r))) is
-      (stands_before-bidegree_cmp e.0 f.0 h.0)
-  | inr later ↦ all_later e es h.1 row later
-]
-
--- so the rows of a map are in order
-rows-ordered : (es : List (Bidegree × ℕ)) → IsStrictlySortedBy bidegree_cmp (keys_of es) → AreOrdered (map row_of es)
-unfolding IsStrictlySortedBy
-rows-ordered [] s = λ i j d l m. absurd (omega arith)
-rows-ordered (e ∷ es) s =
-    pairs_cons (λ p q. IsTrue (stands_before (bidegree_of p) (bidegree_of q))) (row_of e) (map row_of es)
-    (all_later e es s.0) (rows-ordered es s.1)
 
 -- the rows of a map that has all ranks are those of the table
 pub rows-of_ranks : (g : Marks) (ranks : Ranks) (rows : List TableRow) → tree.IsOrdered bidegree_cmp ranks

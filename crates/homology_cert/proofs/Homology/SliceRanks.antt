@@ -32,7 +32,7 @@ below_bound : (g : Marks) (a : ℤ) (s : ℕ) (b : Bool)
 below_bound g a s true h = refl
 below_bound g a s false h = absurd (false≢true h)
 
--- the cells of a slice are ranks of states
+-- the cells of a slice are indices of states
 pub slice-below : (g : Marks) (a : ℤ) (s : ℕ) → is_some ((slice_of g a).degree s) ≡ true → s < factorial (size g)
 slice-below g a s h = ltb-true s (factorial (size g)) (below_bound g a s _ h)
 

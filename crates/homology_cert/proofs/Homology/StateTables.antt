@@ -16,7 +16,8 @@ some_homology_rank g s m a =
 -- and at most one
 pub one_homology_rank : (g : Marks) (m a : ℤ) (d e : ℕ) → IsHomologyRank g m a d → IsHomologyRank g m a e → d ≡ e
 one_homology_rank g m a d e of_d of_e =
-    code_ranks.one_homology_rank g m a d e ((homology_rank-states g m a d).1 of_d) ((homology_rank-states g m a e).1 of_e)
+    code_ranks.one_homology_rank g m a d e ((homology_rank-states g m a d).1 of_d)
+    ((homology_rank-states g m a e).1 of_e)
 
 -- each grid has a table
 pub exists_homology_table : (g : Marks) → IsGrid g → (rows : List Row) × IsHomologyTable g rows

@@ -41,7 +41,8 @@ use Rattle.gradings.specs.Degrees.{IsSmallDegree}
 use Rattle.rectangles.proofs.Homology.GradedStates.{value_if}
 use Rattle.homology_cert.specs.Tables.{HasSmallDegrees}
 use Rattle.gradings.specs.Degrees.{bidegree_cmp}
-use Rattle.homology_cert.specs.Inner.Ranks.{key_of, Ranks, rank_in, AreSmall, HasHomology, HasDegrees, HasRanks, AreCounted, IsTold, IsDone, AreRows}
+use Rattle.hat_division.specs.RankMaps.{key_of, Ranks, rank_in}
+use Rattle.homology_cert.specs.Inner.Ranks.{AreSmall, HasHomology, HasDegrees, HasRanks, AreCounted, IsTold, IsDone, AreRows}
 use Rattle.homology_cert.proofs.Homology.CountLemmas.{told-counted, told-other}
 use Rattle.homology_cert.proofs.Homology.SliceRanks.{one_homology_rank}
 use Rattle.f2_algebra.proofs.Chains.Lists.{below-map}
@@ -268,7 +269,11 @@ module _ (g : Marks) (small : AreSmall g) (rows : List TableRow) (all : AreRows 
       λ told.
           let row = table_row (m, a, d) in
           let held : HasHomology g row = record { positive = told.0; rank = told.1 } in
-          let inside = (all.complete row).1 held in
-          (inside.0, below-map homology_row rows inside.0 inside.1, at_map inside.0 (m, a, d) inside.1 ∙ ap homology_row inside.2),
+          let inside = (all.complete row).1 held in (
+            inside.0,
+            below-map homology_row rows inside.0 inside.1,
+            at_map inside.0 (m, a, d) inside.1
+                ∙ ap homology_row inside.2,
+          ),
     );
   }

@@ -260,7 +260,8 @@ module _ (g : Marks) (grid : IsGrid g) (cell : Cell) (made : IsMadeCell g cell) 
   }
 
 -- two made cells of one Alexander degree
-module _ (g : Marks) (grid : IsGrid g) (p q : Cell) (made : IsMadeCell g p) (also : IsMadeCell g q) (same : q.at ≡ up_m p.at)
+module _ (g : Marks) (grid : IsGrid g) (p q : Cell) (made : IsMadeCell g p) (also : IsMadeCell g q)
+    (same : q.at ≡ up_m p.at)
   where
     -- the log of the second is one of the same slice
     level : IsReduction g p.at.1 also.left also.log
@@ -318,7 +319,8 @@ module _ (g : Marks) (grid : IsGrid g) (cells : List Cell) (made : AreMade g cel
   each_made = Every-All (IsMadeCell g) cells made.each
 
   -- the steps of the cell above, if there is one
-  above : (cell : Cell) (is : IsMadeCell g cell) → length (steps_at same_degree cells (up_m cell.at)) ≡ steps_here g grid
+  above : (cell : Cell) (is : IsMadeCell g cell)
+      → length (steps_at same_degree cells (up_m cell.at)) ≡ steps_here g grid
       cell is (cell.at.0 +ℤ pos 1)
   above cell is = elim (cases_Bool (list_any (λ (x : Cell). same_degree (up_m cell.at) x.at) cells)) [
     | inl h ↦ found_at (up_m cell.at) (steps_here g grid cell is (cell.at.0 +ℤ pos 1)) cells

@@ -51,7 +51,8 @@ module _ (g : Marks) (grid : IsGrid g) (small : size g ≤ 6) (cells : List Cell
 
   -- the bidegrees are small
   small_degrees : Every (λ (cell : Cell). AreSmallDegrees cell.at) cells
-  small_degrees = every_weaker (IsMadeCell g) (λ (cell : Cell). AreSmallDegrees cell.at) cells (small_here g grid) each_made
+  small_degrees =
+      every_weaker (IsMadeCell g) (λ (cell : Cell). AreSmallDegrees cell.at) cells (small_here g grid) each_made
 
   -- the sets are sets of states
   states : Every (HasPairStates g) cells

@@ -38,7 +38,7 @@ use Rattle.homology_cert.specs.Inner.CodeTests.{has_bidegree}
 use Rattle.gradings.specs.Degrees.{bidegree_cmp}
 use Rattle.gradings.specs.declared.degrees.Bidegree.{Bidegree}
 use Rattle.gradings.proofs.OrderLemmas.{bidegree_cmp_total, bidegree_cmp_exact, stands_before-bidegree_cmp}
-use Rattle.homology_cert.specs.Inner.Ranks.{key_of}
+use Rattle.hat_division.specs.RankMaps.{key_of}
 use Rattle.homology_cert.specs.Inner.Making.{cycle_pair, left_codes, step_pair, steps_after, HasState, HasBidegrees, IsMadeCell, AreMade}
 use Rattle.homology_cert.proofs.Homology.SliceRanks.{slice_of, slice-below, reduction_of}
 use Rattle.homology_cert.proofs.Certified.CertifiedLemmas.{same_degree-is}
@@ -125,7 +125,7 @@ sources-live C laws (e ∷ entries) stands (suc k) d within =
     d (omega (arith, within)) in
     sym (ap is_some (live_below C laws (entry_of e) stands.0 (get_or entries k d).x later)) ∙ later
 
--- so they are ranks of states
+-- so they are indices of states
 pub sources-below : (g : Marks) → IsGrid g → (a : ℤ) (entries : List LogEntry) → IsLog (slice_of g a) (log_of entries)
     → (k : ℕ) (d : LogEntry) → k < length entries → (get_or entries k d).x < factorial (size g)
 sources-below g grid a entries stands k d within =

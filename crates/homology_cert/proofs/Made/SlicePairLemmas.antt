@@ -148,7 +148,8 @@ module _ (g : Marks) (grid : IsGrid g) (m a : ℤ) where
         (λ (p : CyclePair). (s : ℕ) → pairs_oddly (S.targets s) p.cocycle ≡ false)
         (λ (p : CyclePair). pairs_oddly p.cycle p.cocycle ≡ true)
         (PassesCycle g d) pairs one
-        (Every-All _ pairs h.cycles) (Every-All _ pairs h.cocycle_degrees) (Every-All _ pairs h.cocycles) (Every-All _ pairs h.own)
+        (Every-All _ pairs h.cycles) (Every-All _ pairs h.cocycle_degrees) (Every-All _ pairs h.cocycles)
+        (Every-All _ pairs h.own)
       where
         one : (p : CyclePair) → IsCycle S m p.cycle → AllOfDegree S m p.cocycle
             → ((s : ℕ) → pairs_oddly (S.targets s) p.cocycle ≡ false) → pairs_oddly p.cycle p.cocycle ≡ true

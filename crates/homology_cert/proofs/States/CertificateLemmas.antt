@@ -32,8 +32,8 @@ use Rattle.torus_geom.specs.Codes.{states_of}
 use Rattle.homology_cert.specs.Certificates.{CyclePair, StepPair, Cell, entry_count}
 use Rattle.homology_cert.specs.CertificateTests.{has_bidegree, all_have, state_count_at, steps_at, count_passes, is_cocycle, cycle_pair_tests, cycle_entries, step_pair_tests, step_entries, cell_entries, none_missing, entries, verdict_of, certified_rows}
 use Rattle.homology_cert.specs.CertificateCodes.{cycle_pair_of, step_pair_of, cell_of, certificate_of}
-use Rattle.torus_geom.proofs.Chains.CodesLemmas.{AreRanks, pairs_oddly-states_of, ranks_from_All}
-use Rattle.torus_geom.proofs.Chains.ReachedLemmas.{states_of-border, states_of-border_of_state, AreRanks-border_of_state}
+use Rattle.torus_geom.proofs.Chains.CodesLemmas.{AreIndices, pairs_oddly-states_of, indices_from_All}
+use Rattle.torus_geom.proofs.Chains.ReachedLemmas.{states_of-border, states_of-border_of_state, AreIndices-border_of_state}
 use Rattle.torus_geom.proofs.Chains.OrderedMembers.{states-unranked, members-states_of}
 use Rattle.torus_geom.proofs.Sums.AllBelowLemmas.{all_below-same}
 
@@ -50,19 +50,20 @@ list_any-map p f [] = refl
 list_any-map p f (x ∷ xs) = ap (λ b. p (f x) || b) (list_any-map p f xs)
 
 -- ---- single tests
--- a state's border pairs with a chain as its ranks do
+-- a state's border pairs with a chain as its indices do
 even-state : (g : Marks) (f : Codes) (x : List ℕ) → IsBijection (size g) x
-    → pairs_oddly (size g) (border g (single x)) (states_of (size g) f) ≡ code_chains.pairs_oddly (border_of_state g x) f
+    → pairs_oddly (size g) (border g (single x)) (states_of (size g) f)
+    ≡ code_chains.pairs_oddly (border_of_state g x) f
 even-state g f x sx =
     ap (λ w. pairs_oddly (size g) w (states_of (size g) f)) (sym (states_of-border_of_state g x sx))
-    ∙ pairs_oddly-states_of (size g) (border_of_state g x) f (AreRanks-border_of_state g x)
+    ∙ pairs_oddly-states_of (size g) (border_of_state g x) f (AreIndices-border_of_state g x)
 
 -- a chain of states is empty
 abbrev is_empty_chain : Marks → Chain → Bool
 is_empty_chain g z = eqb (length (members (size g) z)) 0
 
 module _ (g : Marks) where
-  all_have-states : (d : ℤ × ℤ) (z : Codes) → AreRanks (size g) z
+  all_have-states : (d : ℤ × ℤ) (z : Codes) → AreIndices (size g) z
       → over_codes.all_have g d z ≡ all_have g d (states_of (size g) z)
   all_have-states d z below =
       sym (list_all-map (has_bidegree g d) (unrank (size g)) (codes z))
@@ -73,15 +74,17 @@ module _ (g : Marks) where
       sym (count-map (has_bidegree g d) (unrank (size g)) (ascending (factorial (size g))))
       ∙ ap (λ xs. length (filter (has_bidegree g d) xs)) (sym (states-unranked (size g)))
 
-  is_empty_chain-states : (z : Codes) → AreRanks (size g) z → over_codes.is_empty_chain z ≡ is_empty_chain g (states_of (size g) z)
+  is_empty_chain-states : (z : Codes) → AreIndices (size g) z
+      → over_codes.is_empty_chain z ≡ is_empty_chain g (states_of (size g) z)
   is_empty_chain-states z below =
       ap (λ k. eqb k 0)
       (sym (length-map (codes z) (unrank (size g))) ∙ ap length (sym (members-states_of (size g) z below)))
 
-  is_empty_chain-border : (z : Codes) → AreRanks (size g) z
+  is_empty_chain-border : (z : Codes) → AreIndices (size g) z
       → over_codes.is_empty_chain (code_border.border g z) ≡ is_empty_chain g (border g (states_of (size g) z))
   is_empty_chain-border z below =
-      is_empty_chain-states (code_border.border g z) (border-below g z) ∙ ap (is_empty_chain g) (states_of-border g z below)
+      is_empty_chain-states (code_border.border g z) (border-below g z)
+      ∙ ap (is_empty_chain g) (states_of-border g z below)
 
   is_cocycle-states : (f : Codes) → over_codes.is_cocycle g f ≡ is_cocycle g (states_of (size g) f)
   is_cocycle-states f =
@@ -92,7 +95,7 @@ module _ (g : Marks) where
       ∙ sym (list_all-values test (unrank n) (factorial n))
       ∙ ap (list_all test) (sym (states-unranked n))
 
-  pairing-border : (z f : Codes) → AreRanks (size g) z
+  pairing-border : (z f : Codes) → AreIndices (size g) z
       → code_chains.pairs_oddly (code_border.border g z) f
       ≡ pairs_oddly (size g) (border g (states_of (size g) z)) (states_of (size g) f)
   pairing-border z f below =
@@ -101,10 +104,10 @@ module _ (g : Marks) where
 
 -- ---- pairs
 abbrev pub HasCycleRanks : ℕ → code_pairs.CyclePair → Type 0
-HasCycleRanks n p = AreRanks n p.cycle × AreRanks n p.cocycle
+HasCycleRanks n p = AreIndices n p.cycle × AreIndices n p.cocycle
 
 abbrev pub HasStepRanks : ℕ → code_pairs.StepPair → Type 0
-HasStepRanks n p = AreRanks n p.step × AreRanks n p.probe
+HasStepRanks n p = AreIndices n p.step × AreIndices n p.probe
 
 in_both : {A : Type 0} (P : A → Type 0) (xs ys : List A) → ((x : A) → Contains xs x → P x)
     → ((x : A) → Contains ys x → P x) → (x : A) → Contains (xs ++ ys) x → P x
@@ -201,7 +204,7 @@ steps_at-states n (c ∷ cells) d =
     map_cond true xs ys = refl
     map_cond false xs ys = refl
 
--- the sets of the pairs of a cell are ranks
+-- the sets of the pairs of a cell are indices
 pub record HasCellRanks (n : ℕ) (c : kept.Cell) : Type 0 where
   pub cycles : (q : code_pairs.CyclePair) → Contains c.cycles q → HasCycleRanks n q
   pub steps : (q : code_pairs.StepPair) → Contains c.steps q → HasStepRanks n q
@@ -270,7 +273,7 @@ entries-states c all =
     λ i. asked i ++ ((Missing, missing i) ∷ []) ∷ []
 
 -- ---- certificates
--- the sets of a certificate are of ranks
+-- the sets of a certificate are of indices
 pub ranks_of_certificate : (c : kept.Certificate) → code_certificates.IsCertificate c
     → (cell : kept.Cell) → Contains c.cells cell → HasCellRanks (size c.grid) cell
 ranks_of_certificate c is cell m =
@@ -278,9 +281,9 @@ ranks_of_certificate c is cell m =
     let pairs = All-contains (code_certificates.HasPairStates c.grid) c.cells cell is.states m in
     record {
       cycles = λ q i. let s = All-contains (code_certificates.HasCycleStates c.grid) cell.cycles q pairs.cycles i in
-          (ranks_from_All n q.cycle s.cycle, ranks_from_All n q.cocycle s.cocycle);
+          (indices_from_All n q.cycle s.cycle, indices_from_All n q.cocycle s.cocycle);
       steps = λ q i. let s = All-contains (code_certificates.HasStepStates c.grid) cell.steps q pairs.steps i in
-          (ranks_from_All n q.step s.step, ranks_from_All n q.probe s.probe);
+          (indices_from_All n q.step s.step, indices_from_All n q.probe s.probe);
     }
 
 -- The verdict of a certificate is that of its states.
@@ -303,5 +306,6 @@ certified_rows-states n (c ∷ cells) =
     (filter (λ (d : kept.Cell). not (length d.cycles == 0)) cells)
     ∙ ap₂ (λ k rows. cond (not (k == 0)) ((c.at.0, c.at.1, k) ∷ rows) rows)
     (sym (length-map c.cycles (cycle_pair_of n))) (certified_rows-states n cells)
-    ∙ sym (row_first (λ (d : Cell). (d.at.0, d.at.1, length d.cycles)) (not (length (map (cycle_pair_of n) c.cycles) == 0))
+    ∙ sym (row_first (λ (d : Cell). (d.at.0, d.at.1, length d.cycles))
+    (not (length (map (cycle_pair_of n) c.cycles) == 0))
     (cell_of n c) (filter (λ (d : Cell). not (length d.cycles == 0)) (map (cell_of n) cells)))

@@ -1,5 +1,5 @@
--- The text of a certificate is that of its states, and each certificate over states is one of sets of ranks; so a text
--- has the same first bad line.
+-- The text of a certificate is that of its states, and each certificate over states is one of sets of indices; so a
+-- text has the same first bad line.
 use Rattle.f2_algebra.specs.Bigraded.{stands_before}
 use Rattle.homology_cert.specs.Inner.CodeTests as over_codes_tests
 use Rattle.homology_cert.proofs.Certified.CertifiedLemmas as code_laws
@@ -31,9 +31,9 @@ use Rattle.homology_cert.specs.CertificateCodes.{cycle_pair_of, step_pair_of, ce
 use Rattle.text_lines.specs.Lines.{chain_line}
 use Rattle.text_lines.specs.Inner.CodeLines.{set_line}
 use Rattle.homology_cert.specs.CertificateText.{cycle_lines, step_lines, cell_lines, certificate_lines, certificate_text, HasFirstLines, IsFirstBadLine}
-use Rattle.torus_geom.proofs.Chains.CodesLemmas.{AreRanks, AreRanks-codes_of, IsChain-states_of, states_of-codes_of}
+use Rattle.torus_geom.proofs.Chains.CodesLemmas.{AreIndices, AreIndices-codes_of, IsChain-states_of, states_of-codes_of}
 use Rattle.torus_geom.proofs.Chains.OrderedMembers.{flat_map-map}
-use Rattle.torus_geom.proofs.Chains.CodesLemmas.{All_from_ranks}
+use Rattle.torus_geom.proofs.Chains.CodesLemmas.{All_from_indices}
 use Rattle.homology_cert.proofs.States.CertificateLemmas.{HasCycleRanks, HasStepRanks, HasCellRanks, ranks_of_certificate, entry_count-states, verdict_of-states, certified_rows-states}
 
 -- ---- lists
@@ -52,8 +52,9 @@ map-after f h [] = refl
 map-after f h (x ∷ xs) = ap (λ ys. f (h x) ∷ ys) (map-after f h xs)
 
 -- ---- lines
-line-states : (word : List ℕ) (n : ℕ) (z : Codes) → AreRanks n z → set_line word n z ≡ chain_line word n (states_of n z)
-line-states word n z below = set_line-states word n z (All_from_ranks n z below)
+line-states : (word : List ℕ) (n : ℕ) (z : Codes) → AreIndices n z
+    → set_line word n z ≡ chain_line word n (states_of n z)
+line-states word n z below = set_line-states word n z (All_from_indices n z below)
 
 cycle_lines-states : (n : ℕ) (p : code_pairs.CyclePair) → HasCycleRanks n p
     → over_codes.cycle_lines n p ≡ cycle_lines n (cycle_pair_of n p)
@@ -94,7 +95,7 @@ pub certificate_text-states : (c : kept.Certificate) → code_certificates.IsCer
 certificate_text-states c is = ap text_of_lines (certificate_lines-states c is)
 
 -- ---- certificates over states
--- the sets of the ranks of the states of a certificate
+-- the sets of the indices of the states of a certificate
 cycle_codes : ℕ → CyclePair → code_pairs.CyclePair
 cycle_codes n p = record { cycle = codes_of n p.cycle; cocycle = codes_of n p.cocycle }
 
@@ -120,7 +121,7 @@ cell_back n c has =
     λ i. record { step = states_of-codes_of n p.step s.0 i; probe = states_of-codes_of n p.probe s.1 i }) in
     λ i. record { at = c.at; cycles = cycles i; steps = steps i }
 
--- a certificate over states is that of the sets of its ranks
+-- a certificate over states is that of the sets of its indices
 pub certificate_back : (c : Certificate) → IsCertificate c → certificate_of (certificate_codes c) ≡ c
 unfolding certificate_codes
 certificate_back c is =
@@ -134,7 +135,7 @@ certificate_back c is =
 All-every : {A : Type 0} (P : A → Type 0) (xs : List A) → ((x : A) → P x) → All P xs
 All-every P xs h k d l = h _
 
--- A certificate of sets of ranks is one over states.
+-- A certificate of sets of indices is one over states.
 pub IsCertificate-states : (c : kept.Certificate) → code_certificates.IsCertificate c
     → IsCertificate (certificate_of c)
 IsCertificate-states c is =
@@ -162,13 +163,13 @@ IsCertificate-states c is =
       few = subst (λ k. k < 2 ^ 32 - 1) (entry_count-states n c.cells) is.few;
     }
 
--- And the sets of the ranks of a certificate over states are one.
+-- And the sets of the indices of a certificate over states are one.
 pub IsCertificate-codes : (c : Certificate) → IsCertificate c → code_certificates.IsCertificate (certificate_codes c)
 unfolding certificate_codes cell_codes cycle_codes step_codes
 IsCertificate-codes c is =
     let n = size c.grid in
     let ranks : (z : Chain) → code_certificates.AreStates c.grid (codes_of n z) =
-    λ z. All_from_ranks n (codes_of n z) (AreRanks-codes_of n z) in
+    λ z. All_from_indices n (codes_of n z) (AreIndices-codes_of n z) in
     record {
       grid = is.grid;
       small = is.small;
@@ -196,7 +197,8 @@ IsCertificate-codes c is =
     }
 
 -- ---- first lines
-lines_back : (c : Certificate) → IsCertificate c → certificate_lines c ≡ over_codes.certificate_lines (certificate_codes c)
+lines_back : (c : Certificate) → IsCertificate c
+    → certificate_lines c ≡ over_codes.certificate_lines (certificate_codes c)
 lines_back c is =
     ap certificate_lines (sym (certificate_back c is))
     ∙ sym (certificate_lines-states (certificate_codes c) (IsCertificate-codes c is))
@@ -263,18 +265,20 @@ exists_certificate g s small =
       subst (λ text. length text < max_certificate) (certificate_text-states c is) short,
     )
 
--- the text of the sets of the ranks of a certificate
+-- the text of the sets of the indices of a certificate
 pub text_codes : (c : Certificate) → IsCertificate c
     → over_codes.certificate_text (certificate_codes c) ≡ certificate_text c
 text_codes c is =
-    certificate_text-states (certificate_codes c) (IsCertificate-codes c is) ∙ ap certificate_text (certificate_back c is)
+    certificate_text-states (certificate_codes c) (IsCertificate-codes c is)
+    ∙ ap certificate_text (certificate_back c is)
 
 -- A text is that of one certificate alone.
 pub one_certificate : (c d : Certificate) → IsCertificate c → IsCertificate d → certificate_text c ≡ certificate_text d
     → c ≡ d
 one_certificate c d of_c of_d e =
     sym (certificate_back c of_c)
-    ∙ ap certificate_of (read_laws.one_certificate (certificate_codes c) (certificate_codes d) (IsCertificate-codes c of_c)
+    ∙ ap certificate_of (read_laws.one_certificate (certificate_codes c) (certificate_codes d)
+    (IsCertificate-codes c of_c)
     (IsCertificate-codes d of_d)
     (text_codes c of_c ∙ e ∙ sym (text_codes d of_d)))
     ∙ certificate_back d of_d

@@ -151,13 +151,14 @@ pub parsed : {E : Type 0} (z : ℤ) (word : List ℕ) (r : Result ℤ E) → IsS
 parsed z word r small e parses = parse-signed_decimal w32 z word r (fits_signed_from_abs w32 z (small_abs z small))
     (small_mag z small) e parses
 
--- the bytes of a state, by its rank
+-- the bytes of a state, by its index
 pub state_bytes : (n : ℕ) (bytes x : List ℕ) (r : ℕ) → n < length bytes → get_or bytes 0 0 ≡ 32 → IsState x
     → take n (drop 1 bytes) ≡ state_word x → r ≡ rank x → r < factorial (length x)
     → (r < factorial n) × (n < length bytes) × (bytes ≡ (32 ∷ state_word (unrank n r)) ++ drop (n + 1) bytes)
 state_bytes n [] x r long space state word same below = absurd (omega (arith, long))
 state_bytes n (b ∷ bs) x r long space state word same below =
-    let size : length x ≡ n = sym (length-state_word x) ∙ sym (ap length word) ∙ length-take-le n bs (omega (arith, long)) in
+    let size : length x ≡ n =
+    sym (length-state_word x) ∙ sym (ap length word) ∙ length-take-le n bs (omega (arith, long)) in
     let is = subst (λ m. IsBijection m x) size state.bijection in
     let unranked : unrank n r ≡ x = ap (unrank n) same ∙ unrank-rank n x is in
     let one : suc n ≡ n + 1 = omega arith in (

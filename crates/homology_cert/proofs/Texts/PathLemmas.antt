@@ -21,7 +21,8 @@ use Rattle.homology_cert.specs.declared.places.Place.TheVariants.{Start, Size, O
 
 -- ---- paths
 -- two paths, one after the other
-pub path-append : (p q r : Place) (ds es fs : List Cell) (ls ms : List (List ℕ)) → LinesLead p ds ls q es → LinesLead q es ms r fs
+pub path-append : (p q r : Place) (ds es fs : List Cell) (ls ms : List (List ℕ)) → LinesLead p ds ls q es
+    → LinesLead q es ms r fs
     → LinesLead p ds (ls ++ ms) r fs
 path-append p q r ds es fs [] ms (e, f) second = subst (λ (o : Place). LinesLead o ds ms r fs) (sym e)
     (subst (λ (cs : List Cell). LinesLead q cs ms r fs) (sym f) second)
@@ -29,7 +30,8 @@ path-append p q r ds es fs (l ∷ ls) ms (o, cs, leads, rest) second =
     (o, cs, leads, path-append o q r cs es fs ls ms rest second)
 
 -- a path in two parts
-pub path-parts : (p r : Place) (ds fs : List Cell) (ls ms : List (List ℕ)) → LinesLead p ds (ls ++ ms) r fs → (q : Place)
+pub path-parts : (p r : Place) (ds fs : List Cell) (ls ms : List (List ℕ))
+    → LinesLead p ds (ls ++ ms) r fs → (q : Place)
     × (es : List Cell) × LinesLead p ds ls q es × LinesLead q es ms r fs
 path-parts p r ds fs [] ms path = (p, ds, (refl, refl), path)
 path-parts p r ds fs (l ∷ ls) ms (o, cs, leads, rest) =
@@ -103,7 +105,8 @@ module _ (g : Marks) (ds : List Cell) where
 
   -- the lines of the pairs of a cell
   path_of_pairs : (c : Cell) → HasPairStates g c
-      → LinesLead (InCell g (new_cell c.at)) ds (flat_map (cycle_lines (size g)) c.cycles ++ flat_map (step_lines (size g))
+      → LinesLead (InCell g (new_cell c.at)) ds
+      (flat_map (cycle_lines (size g)) c.cycles ++ flat_map (step_lines (size g))
       c.steps) (InCell g c) ds
   path_of_pairs c states =
       let first = with_cycles (new_cell c.at) c.cycles in
@@ -171,7 +174,8 @@ module _ (g : Marks) where
       )
 
 -- the lines of a certificate lead from the start to its end
-pub path_of_certificate : (c : Certificate) → IsCertificate c → LinesLead Start [] (certificate_lines c) (End c.grid) c.cells
+pub path_of_certificate : (c : Certificate) → IsCertificate c
+    → LinesLead Start [] (certificate_lines c) (End c.grid) c.cells
 unfolding certificate_lines
 path_of_certificate c is =
     let g = c.grid in

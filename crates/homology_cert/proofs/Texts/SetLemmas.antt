@@ -118,7 +118,13 @@ module _ (n : ℕ) (word line rest after : List ℕ) (set : Chain) (least code :
       rising_next k l =
           let old : k < length h.read = omega (arith, l) in
           elim (cases_lt (k + 1) (length h.read)) [
-            | inl both ↦ omega (arith, get_or-append h.read (code ∷ []) 0 k old, get_or-append h.read (code ∷ []) 0 (k + 1) both, h.rising k both)
+            | inl both ↦ omega (
+              arith,
+              get_or-append h.read (code ∷ []) 0 k old,
+              get_or-append h.read (code ∷ []) 0
+                  (k + 1) both,
+              h.rising k both,
+            )
             | inr new ↦ omega (
               arith,
               get_or-append h.read (code ∷ []) 0 k old,

@@ -1,5 +1,5 @@
 -- What is kept while a certificate is checked.
---     AreBorders g chains      the chains are the borders of all states of the grid, by rank
+--     AreBorders g chains      the chains are the borders of all states of the grid, by index
 --     step_borders g pairs     the borders of the steps of these pairs
 use Rattle.std.specs.Prelude.{◌≡◌, List, map}
 use Rattle.f2_algebra.specs.Chain.{Chain}

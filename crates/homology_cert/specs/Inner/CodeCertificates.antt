@@ -1,10 +1,10 @@
 -- Certificates over codes.
---     AreStates g z         the codes of z are ranks of states of the grid
+--     AreStates g z         the codes of z are indices of states of the grid
 --     HasCycleStates g p, HasStepStates g p, HasPairStates g c
 --                           so are those of both sets of a cycle pair, of a step pair, and of all pairs of a cell
 --     entry_count cells     the number of entries: the cells, the cycle pairs and the step pairs
 --     IsCertificate c       the grid is one of size at most six; the cells stand in order, no bidegree twice, with
---                           small degrees and with sets of ranks; there are fewer than 2^32 - 1 entries
+--                           small degrees and with sets of indices; there are fewer than 2^32 - 1 entries
 use Rattle.std.specs.Prelude.{ℕ, ◌+◌, ◌-◌, ◌^◌, ◌<◌, ◌≤◌, List, length, IsTrue}
 use Rattle.std.specs.List.{All, AllPairs, sum_by}
 use Rattle.f2_algebra.specs.Bigraded.{stands_before}
@@ -12,12 +12,12 @@ use Rattle.f2_algebra.specs.Chain.{Chain}
 use Rattle.f2_algebra.specs.Certificate.{CyclePair, StepPair}
 use Rattle.torus_geom.specs.Marks.{Marks, size, IsGrid}
 use Rattle.homology_cert.specs.CertificateLimits.{max_certified_size}
-use Rattle.torus_geom.specs.Codes.{HasRanks}
+use Rattle.torus_geom.specs.Codes.{HasIndices}
 use Rattle.homology_cert.specs.CertificateCodes.{Cell, Certificate}
 use Rattle.homology_cert.specs.Certificates.{AreSmallDegrees}
 
 abbrev pub AreStates : Marks → Chain → Type 0
-AreStates g z = HasRanks (size g) z
+AreStates g z = HasIndices (size g) z
 
 pub record HasCycleStates (g : Marks) (p : CyclePair) : Type 0 where
   pub cycle : AreStates g p.cycle

@@ -22,7 +22,7 @@ multidegree g x = (maslov_o g x, component_degrees g x)
 abbrev pub up_multi : ℤ × List ℤ → ℤ × List ℤ
 up_multi d = (d.0 +ℤ pos 1, d.1)
 
--- the codes of the cells are the ranks of the states
+-- the codes of the cells are the indices of the states
 abbrev pub component_complex : Marks → Complex (ℤ × List ℤ)
 component_complex g = record {
   up = up_multi;

@@ -1,5 +1,5 @@
 -- The tests of a certificate over codes, one by one those of its states.
---     has_bidegree g d s         the state of rank s has the bidegree d
+--     has_bidegree g d s         the state of index s has the bidegree d
 --     all_have g d z             so has each state of z
 --     state_count_at g d         the number of states of this bidegree
 --     count_passes c cell        there are as many states of the bidegree of the cell as its pairs ask for, and some
@@ -55,7 +55,11 @@ cycle_pair_tests g d p others =
     (Degree, all_have g d p.cycle && all_have g d p.cocycle)
     ∷ (Cycle, is_empty_chain (border g p.cycle))
     ∷ (Cocycle, is_cocycle g p.cocycle)
-    ∷ (Pairing, pairs_oddly p.cycle p.cocycle && list_all (λ (q : CyclePair). not (pairs_oddly q.cycle p.cocycle)) others)
+    ∷ (
+      Pairing,
+      pairs_oddly p.cycle p.cocycle
+          && list_all (λ (q : CyclePair). not (pairs_oddly q.cycle p.cocycle)) others,
+    )
     ∷ []
 
 abbrev pub cycle_entries : Marks → ℤ × ℤ → List CyclePair → List CyclePair → List (List (CertTest × Bool))

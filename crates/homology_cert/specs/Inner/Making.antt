@@ -1,11 +1,11 @@
 -- Certificates in the making: the pairs that a log of cancelled arrows gives.
 --     degree_is m d            the degree, if there is one, is m
---     left_codes g C m         the ranks of states that C has with the degree m, ascending
+--     left_codes g C m         the indices of states that C has with the degree m, ascending
 --     cycle_pair log s         the cycle pair of a state that is left: its lift and its pull
 --     step_pair done e         the step pair of the entry after these: the lift of its x and the pull of its y by them
 --     steps_after p done log   the step pairs of the entries of a log whose x passes the test, after the entries done
 --     HasState g d             some state has the bidegree d
---     HasBidegrees g n degrees the set has the bidegrees of the states with a rank below n, and no other
+--     HasBidegrees g n degrees the set has the bidegrees of the states with an index below n, and no other
 --     IsMadeCell g cell            some state has the bidegree of the cell, and its pairs come from a log of the slice
 --                              at its Alexander degree that leaves no arrow
 --     AreMade g cells          the cells are made so and stand in order, and none is missing
@@ -32,7 +32,7 @@ use Rattle.gradings.specs.Degrees.{bidegree_cmp}
 use Rattle.gradings.specs.declared.degrees.Bidegree.{Bidegree}
 use Rattle.homology_cert.specs.CertificateCodes.{Cell}
 use Rattle.homology_cert.specs.Inner.CodeTests.{has_bidegree}
-use Rattle.homology_cert.specs.Inner.Ranks.{key_of}
+use Rattle.hat_division.specs.RankMaps.{key_of}
 
 abbrev pub degree_is : ℤ → Option ℤ → Bool
 degree_is m None = false

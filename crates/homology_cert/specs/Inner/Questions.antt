@@ -60,7 +60,8 @@ all_questions c k (cell ∷ cells) =
 
 unfoldable pub questions : Certificate → List Question
 questions c =
-    all_questions c 1 c.cells ++ record { entry = entry_count c.cells + 1; test = Missing; passes = none_missing c } ∷ []
+    all_questions c 1 c.cells ++ record
+    { entry = entry_count c.cells + 1; test = Missing; passes = none_missing c } ∷ []
 
 abbrev pub first_failing : List Question → Option (ℕ × CertTest)
 first_failing [] = None

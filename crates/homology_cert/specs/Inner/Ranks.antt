@@ -1,12 +1,8 @@
 -- What is kept while the table of a grid is made: the Alexander degrees of its states, and a map from bidegrees to
 -- ranks.
---     key_of d                      the bidegree d as a key
---     Ranks                         such a map
---     rank_in ranks a m             what the map has at (a, m), or 0
---     row_of e                      the row of an entry of the map
 --     AreSmall g                    each state of the grid has degrees that are not great
 --     HasHomology g row             the row is one of the table of the grid
---     HasDegrees g n degrees        each state with a rank below n has degrees that are not great, and its
+--     HasDegrees g n degrees        each state with an index below n has degrees that are not great, and its
 --                                   Alexander degree is in the set
 --     degree_count m cells          how many of the cells have the Maslov degree m
 --     HasRanks g a cells            at a, the number of cells of each Maslov degree is the rank in that degree
@@ -16,11 +12,10 @@
 --     AreRows g rows                the rows are those of the table of the grid, in order
 use Rattle.std.specs.Prelude.{◌≡◌, ◌↔◌, ℕ, ◌^◌, ◌<◌, true, List, length, IsTrue, ℤ}
 use Rattle.std.specs.List.{All, AllPairs, Contains, filter}
-use Rattle.std.specs.Option.{unwrap_or, IfSome}
+use Rattle.std.specs.Option.{IfSome}
 use Rattle.std.specs.Ordering.{int_cmp, int_eq}
 use Rattle.std.specs.declared.option.Option.TheVariants.{None}
 use Rattle.std.specs.BTreeMap as tree
-use Rattle.std.specs.BTreeMap.{BTreeMap}
 use Rattle.std.specs.BTreeSet as sorted
 use Rattle.std.specs.BTreeSet.{BTreeSet}
 use Rattle.f2_algebra.specs.Bigraded.{stands_before}
@@ -29,23 +24,11 @@ use Rattle.torus_geom.specs.Marks.{Marks, size}
 use Rattle.torus_geom.specs.Degrees.{maslov_o, alexander}
 use Rattle.torus_geom.specs.Inner.CodeHomology.{IsHomologyRank}
 use Rattle.sparse_complex.specs.declared.slices.Cell.{Cell}
+use Rattle.hat_division.specs.RankMaps.{key_of, Ranks, rank_in}
 use Rattle.hat_division.specs.Table.{bidegree_of}
 use Rattle.hat_division.specs.declared.tables.TableRow.{TableRow}
 use Rattle.gradings.specs.Degrees.{IsSmallDegree, bidegree_cmp}
-use Rattle.gradings.specs.declared.degrees.Bidegree.{Bidegree}
 use Rattle.homology_cert.specs.Tables.{HasSmallRank}
-
-abbrev pub key_of : ℤ × ℤ → Bidegree
-key_of d = record { m = d.0; a = d.1 }
-
-abbrev pub Ranks : Type 0
-Ranks = BTreeMap Bidegree ℕ
-
-abbrev pub rank_in : Ranks → ℤ → ℤ → ℕ
-rank_in ranks a m = unwrap_or (tree.get bidegree_cmp ranks (key_of (m, a))) 0
-
-abbrev pub row_of : Bidegree × ℕ → TableRow
-row_of e = record { m = e.0.m; a = e.0.a; rank = e.1 }
 
 pub record AreSmall (g : Marks) : Type 0 where
   pub maslov : (s : ℕ) → s < factorial (size g) → IsSmallDegree (maslov_o g (unrank (size g) s))

@@ -3,8 +3,8 @@
 --     after_turn side p   both turned by one column or row
 --     after_commutation axis c corner p
 --                         columns, or rows, c - 1 and c of the grid exchanged, and the image of the set
---     codes_after s n z   the ranks of what the states of size n whose ranks are in z become by the symmetry s; none
---                         after the mirror image
+--     codes_after s n z   the indices of what the states of size n whose indices are in z become by the symmetry s;
+--                         none after the mirror image
 use Rattle.std.specs.Prelude.{ℕ}
 use Rattle.f2_algebra.specs.Chain.{Chain, nothing}
 use Rattle.torus_geom.specs.Marks.{Marks, size}

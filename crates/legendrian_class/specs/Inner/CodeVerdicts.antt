@@ -1,12 +1,12 @@
--- The verdict of a set of codes: a state is in it by its rank.
---     maslov_at g s          the Maslov degree of the state of rank s
+-- The verdict of a set of codes: a state is in it by its index.
+--     maslov_at g s          the Maslov degree of the state of index s
 --     alexander_at g s       its Alexander degree
---     IsOneAbove g s t       the state of rank s is one Maslov degree above that of rank t, in one Alexander degree
+--     IsOneAbove g s t       the state of index s is one Maslov degree above that of index t, in one Alexander degree
 --     HaveOneDegree g s t    they have one Maslov degree, and one Alexander degree
---     IsBorderOf g b z       z is the border of b, whose codes are ranks of states
---     Bounds g z             z is the border of some set of ranks
---     plus_chain g           the rank of x+ alone
---     minus_chain g          the rank of x- alone
+--     IsBorderOf g b z       z is the border of b, whose codes are indices of states
+--     Bounds g z             z is the border of some set of indices
+--     plus_chain g           the index of x+ alone
+--     minus_chain g          the index of x- alone
 --     IsNotCycle g z s       z is no cycle: s is the least code of its border
 --     IsNull g z b           z is null, by b
 --     IsAlive g z f          z is alive, by f
@@ -20,7 +20,7 @@ use Rattle.torus_geom.specs.Front.{minus_state, plus_state}
 use Rattle.torus_geom.specs.Marks.{Marks, size}
 use Rattle.torus_geom.specs.Degrees.{maslov_o, alexander}
 use Rattle.torus_geom.specs.Inner.CodeBorder.{border_of_state, border}
-use Rattle.torus_geom.specs.Codes.{HasRanks}
+use Rattle.torus_geom.specs.Codes.{HasIndices}
 use Rattle.legendrian_class.specs.declared.verdicts.ClassVerdict.{ClassVerdict}
 use Rattle.legendrian_class.specs.declared.verdicts.ClassVerdict.TheVariants.{NotCycle, Null, Alive}
 
@@ -39,7 +39,7 @@ pub record HaveOneDegree (g : Marks) (s t : ℕ) : Type 0 where
   pub alexander : alexander_at g s ≡ alexander_at g t
 
 pub record IsBorderOf (g : Marks) (b z : Chain) : Type 0 where
-  pub states : HasRanks (size g) b
+  pub states : HasIndices (size g) b
   pub is_border : border g b ≡ z
 
 pub record IsNotCycle (g : Marks) (z : Chain) (s : ℕ) : Type 0 where
@@ -51,7 +51,7 @@ pub record IsNull (g : Marks) (z b : Chain) : Type 0 where
   pub degrees : (s : ℕ) → holds b s ≡ true → (t : ℕ) × (holds z t ≡ true) × IsOneAbove g s t
 
 pub record IsAlive (g : Marks) (z f : Chain) : Type 0 where
-  pub states : HasRanks (size g) f
+  pub states : HasIndices (size g) f
   pub cycle : border g z ≡ nothing
   pub even : (s : ℕ) → s < factorial (size g) → pairs_oddly (border_of_state g (unrank (size g) s)) f ≡ false
   pub odd : pairs_oddly z f ≡ true

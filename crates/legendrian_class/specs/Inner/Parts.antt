@@ -1,6 +1,6 @@
 -- The parts of a chain by Alexander degree.
 --     IsLeast z s             s is the least code of z
---     has_alexander g a s     whether the state of rank s has the Alexander degree a
+--     has_alexander g a s     whether the state of index s has the Alexander degree a
 --     IsPartVerdict C z v     v is the verdict of the cycle z of the complex C
 --     IsNullBut g z left b    the chain z without its part left is null by b, and left is the whole of z at each
 --                             Alexander degree that it has

@@ -2,7 +2,7 @@
 -- image, for every place, the seam too, and for both crossings.
 -- Route: for a state, both sides are sums over two steps, a rectangle and then a pentagon, or a pentagon and
 -- then a rectangle of the exchanged grid; together they vanish (ThinAnnuli). The image of a chain is a sum over
--- its states, and a code that is the rank of no state has the empty list for its state, which no pentagon leaves.
+-- its states, and a code that is the index of no state has the empty list for its state, which no pentagon leaves.
 use Rattle.std.proofs.Common.{Bool, List, [], ap, ap₂, arith, eqb, false, inl, inr, length, map, not, refl, slice_index, subst, swap, sym, ℕ, ◌&&◌, ◌<◌, ◌∙◌, ◌≡◌}
 use Rattle.std.proofs.lemmas.Bool.{cases_lt}
 use Rattle.std.proofs.lemmas.List.Edits.{length-swap}
@@ -59,7 +59,7 @@ sum4_xor n f h =
 
 -- a first step and a second one: the weight of the second is a sum for each first one
 module _ (n : ℕ) (x : List ℕ) (sx : IsBijection n x) (first second : (ℕ → ℕ) → ℕ → ℕ → Bool) (q : ℕ) where
-  -- the state of f has the rank q
+  -- the state of f has the index q
   abbrev pub has_rank : (ℕ → ℕ) → Bool
   has_rank f = eqb q (rank (tabulate n f))
 
@@ -79,7 +79,8 @@ module _ (n : ℕ) (x : List ℕ) (sx : IsBijection n x) (first second : (ℕ �
       → parity_below n (λ a. parity_below n (λ b. first (slice_index x) a b && W (unrank n (rank (swap x a b)))))
       ≡ parity_below n (λ a. parity_below n (λ b. parity_below n (λ c. parity_below n (λ d.
       first (slice_index x) a b
-      && (second (with_exchanged (slice_index x) a b) c d && has_rank (with_exchanged (with_exchanged (slice_index x) a b) c d))))))
+      && (second (with_exchanged (slice_index x) a b) c d
+      && has_rank (with_exchanged (with_exchanged (slice_index x) a b) c d))))))
   two_step_sum W is =
       let f : ℕ → ℕ = slice_index x in
       parity_below-same n _ _ (λ a la. parity_below-same n _ _ (λ b lb.
@@ -92,13 +93,16 @@ module _ (n : ℕ) (x : List ℕ) (sx : IsBijection n x) (first second : (ℕ �
       (λ c lc. parity_below-same n _ (λ d. second (slice_index u) c d && has_rank (with_exchanged (slice_index u) c d))
       (λ d ld.
       ap (λ y. second (slice_index u) c d && eqb q (rank y)) (swap-tabulate u su c d lc ld))))
-      ∙ ap (λ h. first f a b && parity_below n (λ c. parity_below n (λ d. second h c d && has_rank (with_exchanged h c d))))
+      ∙ ap (λ h. first f a b && parity_below n
+      (λ c. parity_below n (λ d. second h c d && has_rank (with_exchanged h c d))))
       (swap-exchanged x sx a b la lb)
       ∙ sym (parity-and (first f a b)
-      (λ c. parity_below n (λ d. second (with_exchanged f a b) c d && has_rank (with_exchanged (with_exchanged f a b) c d)))
+      (λ c. parity_below n (λ d. second (with_exchanged f a b) c d
+      && has_rank (with_exchanged (with_exchanged f a b) c d)))
       (below n))
       ∙ parity_below-same n _ _ (λ c lc.
-      sym (parity-and (first f a b) (λ d. second (with_exchanged f a b) c d && has_rank (with_exchanged (with_exchanged f a b) c d))
+      sym (parity-and (first f a b) (λ d. second (with_exchanged f a b) c d
+      && has_rank (with_exchanged (with_exchanged f a b) c d))
       (below n)))))
 
 -- the border of a state of a grid of size n
@@ -113,7 +117,7 @@ border_weight h n e s =
     && p (rank (swap x a b)))) in
     subst P e (λ x sx p. weight-border_of_state h s x sx p)
 
--- ---- codes that are ranks of no state
+-- ---- codes that are indices of no state
 
 leads_nowhere : (j k : ℕ) (s t : Bool) → (differ j k && ((eqb 0 j && (eqb 0 k && s)) && t)) ≡ false
 leads_nowhere j k s t = by j k s t

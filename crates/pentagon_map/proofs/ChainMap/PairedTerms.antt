@@ -27,14 +27,17 @@ IsPaired u v S = (m : Place) → S m (sign1 u v) u ≡ S (next m) u (sign2 u v)
 
 stay : (u v : Bool) (g : Place → Place → Bool) (S : Weight) (m : Place)
     → weighted u v g S m
-    ≡ (shared_term u v g m (sign1 u v) u && S m (sign1 u v) u) ⊻ (shared_term u v g m u (sign2 u v) && S m u (sign2 u v))
+    ≡ (shared_term u v g m (sign1 u v) u && S m (sign1 u v) u)
+    ⊻ (shared_term u v g m u (sign2 u v) && S m u (sign2 u v))
 stay true true g S m = xor-false _
 stay false false g S m =
-    xor_comm (shared_term false false g m false true && S m false true) (shared_term false false g m false false && S m false false)
+    xor_comm (shared_term false false g m false true && S m false true)
+    (shared_term false false g m false false && S m false false)
 stay true false g S m =
     (λ i. ((shared_term true false g m true true && S m true true) ⊻ (gone true i && S m true false))
     ⊻ ((shared_term true false g m false true && S m false true) ⊻ (gone false i && S m false false)))
-    ∙ same 2 (λ x y. (x ⊻ false) ⊻ (y ⊻ false)) (λ x y. y ⊻ x) refl (shared_term true false g m true true && S m true true)
+    ∙ same 2 (λ x y. (x ⊻ false) ⊻ (y ⊻ false)) (λ x y. y ⊻ x) refl
+    (shared_term true false g m true true && S m true true)
     (shared_term true false g m false true && S m false true)
   where
     gone : (s : Bool) → shared_term true false g m s false ≡ false

@@ -34,8 +34,10 @@ module _ (n r s w : ℕ) (O X : ℕ → ℕ) where
     -- passes
     abbrev pub pair_steps : ℕ → ℕ → ℕ → ℕ → Bool
     pair_steps a b c d =
-        (is_open_pentagon f a b && (is_open n O' X' (with_exchanged f a b) c d && T (with_exchanged (with_exchanged f a b) c d)))
-        ⊻ (is_open n O X f a b && (is_open_pentagon (with_exchanged f a b) c d && T (with_exchanged (with_exchanged f a b) c d)))
+        (is_open_pentagon f a b && (is_open n O' X' (with_exchanged f a b) c d
+        && T (with_exchanged (with_exchanged f a b) c d)))
+        ⊻ (is_open n O X f a b && (is_open_pentagon (with_exchanged f a b) c d
+        && T (with_exchanged (with_exchanged f a b) c d)))
 
     module _ (e : AreSides n r s) (one : IsOneToOne n f) where
       three_is : (p : Place → ℕ) (d : AreColumns n p) (at0 : p first ≡ s) (m : Place)
@@ -71,8 +73,10 @@ module _ (n r s w : ℕ) (O X : ℕ → ℕ) where
           ⊻ (is_open n O X f b a && (is_open_pentagon g b c && t)))
           ⊻ ((is_open_pentagon f b a && (is_open n O' X' g c b && T (exchanged_comm g c b i)))
           ⊻ (is_open n O X f b a && (is_open_pentagon g c b && T (exchanged_comm g c b i))))))
-          ∙ (λ i. (pairs.one_term n r s w O X e f one p d at0 m true true t i ⊻ pairs.one_term n r s w O X e f one p d at0 m true false t i)
-          ⊻ (pairs.one_term n r s w O X e f one p d at0 m false true t i ⊻ pairs.one_term n r s w O X e f one p d at0 m false false t i))
+          ∙ (λ i. (pairs.one_term n r s w O X e f one p d at0 m true true t i
+          ⊻ pairs.one_term n r s w O X e f one p d at0 m true false t i)
+          ⊻ (pairs.one_term n r s w O X e f one p d at0 m false true t i
+          ⊻ pairs.one_term n r s w O X e f one p d at0 m false false t i))
           ∙ same 5 (λ x y z w t. ((x && t) ⊻ (y && t)) ⊻ ((z && t) ⊻ (w && t)))
           (λ x y z w t. ((x ⊻ y) ⊻ (z ⊻ w)) && t) refl
           (shared_term u v k m true true && S m true true) (shared_term u v k m true false && S m true false)
@@ -102,7 +106,8 @@ module _ (n r s w : ℕ) (O X : ℕ → ℕ) where
           ∙ same 4 (λ x y z w. (x && w) ⊻ ((y && w) ⊻ (z && w))) (λ x y z w. (x ⊻ (y ⊻ z)) && w) refl
           (weighted u v k S first) (weighted u v k S second) (weighted u v k S third) t
           ∙ ap (λ z. z && t) (weighted_cancel u v k S (weights_paired u v (pairs.place n r s w O X e f one p d at0).0
-          (pairs.no_left n r s w O X e f one p d at0) (pairs.no_right n r s w O X e f one p d at0) (pairs.low_part n r s w O X e f one p d at0)
+          (pairs.no_left n r s w O X e f one p d at0) (pairs.no_right n r s w O X e f one p d at0)
+          (pairs.low_part n r s w O X e f one p d at0)
           (pairs.high_part n r s w O X e f one p d at0)))
 
       -- where no place is s there is no pentagon
@@ -118,7 +123,8 @@ module _ (n r s w : ℕ) (O X : ℕ → ℕ) where
       no_pair a b c d pa pb pc pd =
           (λ i. (no_penta f a b pa pb i
           && (is_open n O' X' (with_exchanged f a b) c d && T (with_exchanged (with_exchanged f a b) c d)))
-          ⊻ (is_open n O X f a b && (no_penta (with_exchanged f a b) c d pc pd i && T (with_exchanged (with_exchanged f a b) c d))))
+          ⊻ (is_open n O X f a b && (no_penta (with_exchanged f a b) c d pc pd i
+          && T (with_exchanged (with_exchanged f a b) c d))))
           ∙ and-false (is_open n O X f a b)
 
       none_three : (a b c : ℕ) → a ≢ s → b ≢ s → c ≢ s → at_three n pair_steps a b c ≡ false

@@ -145,7 +145,7 @@ state_of-states_where n test c h =
     let (in_states, passes) = member_of_filter test (states n) y in_filter in
     (y, member_of_states n y in_states, is, passes)
 
--- the image of a state has ranks of states
+-- the image of a state has indices of states
 pub column_image-below : (g : Marks) (c : ℕ) (corner : Corner) (x : List ℕ) (t : ℕ)
     → holds (column_image g c corner x) t ≡ true → t < factorial (size g)
 unfolding column_image

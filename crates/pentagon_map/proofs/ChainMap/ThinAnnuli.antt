@@ -234,7 +234,8 @@ module _ (n r s e w : ℕ) (O X : ℕ → ℕ) (d : AreSides n r s) (thin : IsTh
     at_none a b la lb p h =
         (λ i. differ-true a b p i && (along_twice a b p i ⊻ across a b la lb p i))
         ∙ xor-false _
-        ∙ ap (λ z. (is_clear_of n f a b (f a) (f b) && is_clear_of n (with_exchanged f a b) a b (f b) (f a)) && (T f && z)) h
+        ∙ ap (λ z. (is_clear_of n f a b (f a) (f b) && is_clear_of n (with_exchanged f a b) a b (f b) (f a))
+        && (T f && z)) h
         ∙ same 2 (λ x y. x && (y && false)) (λ x y. false) refl
         (is_clear_of n f a b (f a) (f b) && is_clear_of n (with_exchanged f a b) a b (f b) (f a)) (T f)
 
@@ -340,7 +341,8 @@ module _ (n r s e w : ℕ) (O X : ℕ → ℕ) (d : AreSides n r s) (thin : IsTh
         && (is_clear_of n g c c (g c) (g c) && unmarked n (O' n r s w O X) (X' n r s w O X) c c (g c) (g c)))
         && T (with_exchanged g c c)))
         ⊻ (is_open n O X f a b
-        && ((no v && (is_clear_of n g c c (g c) (g c) && penta n r s w O X c c (g c) (g c))) && T (with_exchanged g c c))))
+        && ((no v && (is_clear_of n g c c (g c) (g c) && penta n r s w O X c c (g c) (g c)))
+        && T (with_exchanged g c c))))
         ∙ ap₂ (λ x y. x ⊻ y) (and-false (is_open_pentagon n r s w O X f a b)) (and-false (is_open n O X f a b)))
         (four_none n r s w O X f T d one)
         (three_none n r s w O X f T d one)

@@ -86,10 +86,20 @@ module _ (g : Marks) (s : IsGrid g) (c : ℕ) (lc : c < size g) (h : are_commuti
   under_at : (z : Bool) → between t p o ≡ z → IsCrossing g c (cond z p o)
   under_at true e =
       let k = last_at_p o p q t four_rows none_or_both e in
-      record { o-o = above_of-out p t o k.0; o-x = above_of-start p t; x-o = above_of-out p q o k.1; x-x = above_of-start p q }
+      record {
+        o-o = above_of-out p t o k.0;
+        o-x = above_of-start p t;
+        x-o = above_of-out p q o k.1;
+        x-x = above_of-start p q;
+      }
   under_at false e =
       let k = last_at_o o p q t four_rows none_or_both e in
-      record { o-o = above_of-start o t; o-x = above_of-out o t p k.0; x-o = above_of-start o q; x-x = above_of-out o q p k.1 }
+      record {
+        o-o = above_of-start o t;
+        o-x = above_of-out o t p k.0;
+        x-o = above_of-start o q;
+        x-x = above_of-out o q p k.1;
+      }
 
   -- where `Over` is
   pub crossing_row-over : crossing_row g c Over ≡ cond (between o q t) t q

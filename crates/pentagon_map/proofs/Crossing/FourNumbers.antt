@@ -85,7 +85,8 @@ module _ (o p q t : ℕ) (d : AreFourRows o p q t) where
   tq : t ≢ q
   tq e = d.qt (sym e)
 
-  pub four_orders_hold : orders (ltb o p) (ltb p o) (ltb o q) (ltb q o) (ltb o t) (ltb t o) (ltb p q) (ltb q p) (ltb p t)
+  pub four_orders_hold : orders (ltb o p) (ltb p o) (ltb o q) (ltb q o) (ltb o t) (ltb t o) (ltb p q)
+      (ltb q p) (ltb p t)
       (ltb t p) (ltb q t) (ltb t q) ≡ true
   unfolding orders
   four_orders_hold =

@@ -52,9 +52,11 @@ module _ (n : ℕ) (o x : ℕ → ℕ) (oo : IsOneToOne n o) (ox : IsOneToOne n 
           oo.apart c r lc lr (λ z. rc (sym z))
           (sym (ap o' i ∙ with_exchanged-first o r c) ∙ q ∙ ap o' k ∙ with_exchanged-second o r c rc)
       apart d e ld le p q (inl i) v (inr j) (inr k) =
-          oo.apart c e lc le (λ z. k (sym z)) (sym (ap o' i ∙ with_exchanged-first o r c) ∙ q ∙ with_exchanged-other o r c e j k)
+          oo.apart c e lc le (λ z. k (sym z))
+          (sym (ap o' i ∙ with_exchanged-first o r c) ∙ q ∙ with_exchanged-other o r c e j k)
       apart d e ld le p q (inr u) (inl i) (inl j) w =
-          oo.apart r c lr lc rc (sym (ap o' i ∙ with_exchanged-second o r c rc) ∙ q ∙ ap o' j ∙ with_exchanged-first o r c)
+          oo.apart r c lr lc rc (sym (ap o' i ∙ with_exchanged-second o r c rc) ∙ q ∙ ap o' j
+          ∙ with_exchanged-first o r c)
       apart d e ld le p q (inr u) (inl i) (inr j) (inl k) = p (i ∙ sym k)
       apart d e ld le p q (inr u) (inl i) (inr j) (inr k) =
           oo.apart r e lr le (λ z. j (sym z))

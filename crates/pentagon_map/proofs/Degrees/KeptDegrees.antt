@@ -342,7 +342,7 @@ alexander-image_of_state axis g s c l h corner x y sx ex sy ey e =
     alexander-image axis g s c l h corner x y (subst (λ n. IsBijection n x) ex sx.bijection)
     (subst (λ n. IsBijection n y) ey sy.bijection) e
 
--- a state of a list whose ranks are the codes of a chain is in the chain
+-- a state of a list whose indices are the codes of a chain is in the chain
 pub listed_holds : (z : Chain) (ys : List (List ℕ)) → map rank ys ≡ codes z → (k : ℕ) (d : List ℕ) → k < length ys
     → holds z (rank (get_or ys k d)) ≡ true
 listed_holds z ys listed k d l =

@@ -36,7 +36,7 @@ border-transposed_back h n e s w =
     let P : ℕ → Type 0 = λ m. border (transposed h) (transposed_chain m w) ≡ transposed_chain m (border h w) in
     subst P e (border-transposed h s w)
 
--- the image of a state has ranks of states, and the empty list has no image
+-- the image of a state has indices of states, and the empty list has no image
 pub column_image_IsOfStates : (g : Marks) (n : ℕ) → size g ≡ n → (c : ℕ) (corner : Corner)
     → IsOfStates n (column_image g c corner)
 column_image_IsOfStates g n e c corner = record {
@@ -112,7 +112,7 @@ image-border Rows g s c l h corner z =
     (IsGrid-swapped_columns t c st lt) (image_by_columns t c corner (transposed_chain n z)))
     ∙ ap (border (swapped Rows g c)) (sym (image-by_rows g s c corner z))
 
--- the image of a state has ranks of states, and the empty list has none
+-- the image of a state has indices of states, and the empty list has none
 pub image_of_state_IsOfStates : (axis : Axis) (g : Marks) → IsGrid g → (c : ℕ) (corner : Corner)
     → IsOfStates (size g) (image_of_state axis g c corner)
 image_of_state_IsOfStates Cols g s c corner = column_image_IsOfStates g (size g) refl c corner

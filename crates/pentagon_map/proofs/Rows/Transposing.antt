@@ -31,7 +31,7 @@ use Rattle.grid_moves.proofs.Turned.Reindexing.{all_below_reindex, parity_below_
 use Rattle.torus_geom.proofs.Sums.AllBelowLemmas.{all_below-same}
 use Rattle.torus_geom.proofs.Circles.BetweenLemmas.{is_between}
 
--- the rectangle of circles a and b of x is open, and leads to the state of rank q
+-- the rectangle of circles a and b of x is open, and leads to the state of index q
 abbrev pub leads_to : ℕ → Marks → List ℕ → ℕ → ℕ → ℕ → Bool
 leads_to n g x q a b = is_open n (slice_index g.o) (slice_index g.x) (slice_index x) a b && eqb q (rank (swap x a b))
 

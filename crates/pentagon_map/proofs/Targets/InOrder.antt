@@ -1,5 +1,5 @@
--- The exchanges of one circle of a state, in order: their ranks rise, and they are the codes of each chain that
--- holds a rank as often, mod 2, as exchanges with circles whose bit is set lead to it.
+-- The exchanges of one circle of a state, in order: their indices rise, and they are the codes of each chain that
+-- holds an index as often, mod 2, as exchanges with circles whose bit is set lead to it.
 -- Route: two exchanges first differ at the lower circle other than a, or at a, which gives their order. What
 -- the list holds is a sum over the circles left of a with a higher row, right of a, and left of a with a lower
 -- row; together these are all circles but a.
@@ -294,7 +294,7 @@ module _ (n : ℕ) (x : List ℕ) (sx : IsBijection n x) (a odd : ℕ) (la : a <
     | inr h ↦ in_part (raises x a odd) (reverse (ascending a)) (λ b mb. let l = (in_raising b mb).0 in omega arith) y h
   ]
 
-  -- their ranks rise
+  -- their indices rise
   ranks_rising : IsStrictlyIncreasing (map rank (in_order x a odd))
   ranks_rising k l = ranks_rise n (in_order x a odd) in_order_states in_order_rises k (k + 1) 0 (omega arith) l
 
@@ -346,7 +346,7 @@ module _ (n : ℕ) (x : List ℕ) (sx : IsBijection n x) (a odd : ℕ) (la : a <
           parts b a (slice_index x b) (slice_index x a) (is_set odd b) t (λ e. ap (slice_index x) e)
           (λ p. sx.apart b a lb la p)
 
-  -- The exchanges are the states of each chain that holds a rank as often as they lead to it.
+  -- The exchanges are the states of each chain that holds an index as often as they lead to it.
   pub codes-in_order : (z : Chain)
       → ((q : ℕ) → holds z q ≡ parity_below n (λ b. differ b a && (is_set odd b && eqb q (rank (swap x a b)))))
       → map rank (in_order x a odd) ≡ codes z

@@ -14,7 +14,7 @@ use Rattle.pentagon_map.proofs.Rows.ImageByRows.{image_of_state_IsOfStates}
 use Rattle.pentagon_map.specs.Inner.CodeImages.{image, image_of_state}
 use Rattle.pentagon_map.specs.declared.Corner.{Corner}
 
--- the sum of the images of states, by their ranks
+-- the sum of the images of states, by their indices
 abbrev pub sum_of_images : Axis → Marks → ℕ → Corner → List ℕ → Chain
 sum_of_images axis g c corner cs = total (map (λ k. image_of_state axis g c corner (unrank (size g) k)) cs)
 
@@ -37,7 +37,7 @@ pub all_images_added : (axis : Axis) (g : Marks) (c : ℕ) (corner : Corner) (cs
 unfolding image sum_over
 all_images_added axis g c corner cs z e = ap (sum_of_images axis g c corner) e
 
--- the image of a chain has ranks of states
+-- the image of a chain has indices of states
 pub image-below : (axis : Axis) (g : Marks) → IsGrid g → (c : ℕ) (corner : Corner) (z : Chain) (k : ℕ)
     → holds (image axis g c corner z) k ≡ true → k < factorial (size g)
 unfolding image

@@ -127,5 +127,6 @@ unfolding is_pentagon_at
 pentagon_by_parts g c w x a b r e =
     same 6 (λ p q s t u v. ((p && (q && (s && t))) && u) && v) (λ p q s t u v. v && (p && (q && (u && (s && t))))) refl
     (eqb r.left c || eqb r.right c) (in_range (size g) r.low r.high w) (not (has_mark_in_rows g c r.low w))
-    (not (has_mark_in_rows g (one_down (size g) c) (one_up (size g) w) r.high)) (is_unmarked_beside g c r) (is_empty x r)
+    (not (has_mark_in_rows g (one_down (size g) c) (one_up (size g) w) r.high))
+    (is_unmarked_beside g c r) (is_empty x r)
     ∙ ap (λ q. is_empty x q && is_pentagonal g c w q) e

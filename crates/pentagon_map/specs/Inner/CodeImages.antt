@@ -1,10 +1,10 @@
 -- The image of a set of codes across a commutation.
---     column_image g c corner x        the ranks of the states to which an odd number of pentagons lead from the state
---                                      x
---     image_of_state axis g c corner x the ranks of the image of x, for columns or for rows: for rows x is transposed,
---                                      the columns of the transposed grid are exchanged, and the image is transposed
---                                      back
---     image axis g c corner z          the sum of the images of the states whose ranks are in z
+--     column_image g c corner x        the indices of the states to which an odd number of pentagons lead from the
+--                                      state x
+--     image_of_state axis g c corner x the indices of the image of x, for columns or for rows: for rows x is
+--                                      transposed, the columns of the transposed grid are exchanged, and the image is
+--                                      transposed back
+--     image axis g c corner z          the sum of the images of the states whose indices are in z
 use Rattle.std.specs.Prelude.{ℕ, List, length}
 use Rattle.std.specs.List.{filter}
 use Rattle.f2_algebra.specs.Chain.{Chain, sum_over, is_odd}

@@ -1,6 +1,6 @@
 -- The coranks of a grid are its ranks, in every degree.
--- Route: over codes, the complex of the cochains is the dual of the grid complex, and a finite complex and its dual have
--- the same ranks. The cochains of codes stand for those of states, as chains of codes do for chains of states.
+-- Route: over codes, the complex of the cochains is the dual of the grid complex, and a finite complex and its dual
+-- have the same ranks. The cochains of codes stand for those of states, as chains of codes do for chains of states.
 use Rattle.std.proofs.Common.{◌≡◌, ◌≢◌, ◌↔◌, ℕ, ◌<◌, ◌≤◌, Bool, false, cond, ◌&&◌, Some, None, List, refl, ap, ◌∙◌, sym, subst, arith, inl, inr}
 use Rattle.std.proofs.Math.IntN.{ℤ, pos, ◌+ℤ◌, ◌-ℤ◌}
 use Rattle.std.proofs.lemmas.Int.{ints}
@@ -27,8 +27,8 @@ use Rattle.torus_geom.specs.Inner.CodeBorder.{states_where, border_of_state}
 use Rattle.torus_geom.specs.Inner.CodeHomology as code_homology
 use Rattle.torus_geom.specs.Inner.GridComplex.{grid_complex}
 use Rattle.torus_geom.proofs.Chains.ChainLemmas.{is_reached, same_states, pairs_oddly-parity, reached-parity}
-use Rattle.torus_geom.proofs.Chains.CodesLemmas.{AreRanks, pairs_oddly-states_of, is_states_of}
-use Rattle.torus_geom.proofs.Chains.ReachedLemmas.{AreRanks-border_of_state, states_of-border_of_state}
+use Rattle.torus_geom.proofs.Chains.CodesLemmas.{AreIndices, pairs_oddly-states_of, is_states_of}
+use Rattle.torus_geom.proofs.Chains.ReachedLemmas.{AreIndices-border_of_state, states_of-border_of_state}
 use Rattle.torus_geom.proofs.Chains.StateChains.{holds-states_where as holds-states_where_state, states_where-below}
 use Rattle.torus_geom.proofs.Chains.StateTests.{is_same-true, parity-states}
 use Rattle.rectangles.specs.Coranks as over_states
@@ -42,23 +42,26 @@ use Rattle.rectangles.proofs.Law.GridComplexLemmas.{grid_complex_rules}
 use Rattle.rectangles.proofs.Square.BorderLemmas.{border_of_state-below}
 
 -- ---- the states that pass a test
--- a rank is held where its state passes
-holds-states_where : (n : ℕ) (test : List ℕ → Bool) (q : ℕ) → q < factorial n → holds (states_where n test) q ≡ test (unrank n q)
+-- an index is held where its state passes
+holds-states_where : (n : ℕ) (test : List ℕ → Bool) (q : ℕ) → q < factorial n
+    → holds (states_where n test) q ≡ test (unrank n q)
 holds-states_where n test q l =
     ap (holds (states_where n test)) (sym (rank-unrank n q l))
     ∙ holds-states_where_state n test (unrank n q) (IsBijection-unrank n q l)
 
 -- no other number is held
-holds-states_where_past : (n : ℕ) (test : List ℕ → Bool) (q : ℕ) → factorial n ≤ q → holds (states_where n test) q ≡ false
+holds-states_where_past : (n : ℕ) (test : List ℕ → Bool) (q : ℕ) → factorial n ≤ q
+    → holds (states_where n test) q ≡ false
 holds-states_where_past n test q l =
     false_from_ne_true _ (λ h. let below = states_where-below n test q h in absurd (omega arith))
 
 -- ---- arrows of the grid complex
--- a code past the ranks of states has no targets
+-- a code past the indices of states has no targets
 pub targets-past : (g : Marks) (c : ℕ) → factorial (size g) ≤ c → (grid_complex g).targets c ≡ nothing
 targets-past g c l = ap (λ b. cond b (border_of_state g (unrank (size g) c)) nothing) (le-ltb c (factorial (size g)) l)
 
-pub targets-below : (g : Marks) (c : ℕ) → c < factorial (size g) → (grid_complex g).targets c ≡ border_of_state g (unrank (size g) c)
+pub targets-below : (g : Marks) (c : ℕ) → c < factorial (size g)
+    → (grid_complex g).targets c ≡ border_of_state g (unrank (size g) c)
 targets-below g c l = ap (λ b. cond b (border_of_state g (unrank (size g) c)) nothing) (lt-ltb c (factorial (size g)) l)
 
 -- it has no degree
@@ -185,29 +188,29 @@ border-no_state g x other =
 pairs_oddly-nothing : (n : ℕ) (f : chains.Chain) → chains.pairs_oddly n chains.nothing f ≡ false
 pairs_oddly-nothing n f = pairs_oddly-parity n chains.nothing f ∙ parity-false (states n)
 
--- the coborder of a set of ranks stands for the coborder of its chain
-pub states_of-coborder : (g : Marks) (f : Codes) → AreRanks (size g) f
+-- the coborder of a set of indices stands for the coborder of its chain
+pub states_of-coborder : (g : Marks) (f : Codes) → AreIndices (size g) f
     → states_of (size g) (coborder g f) ≡ over_states.coborder g (states_of (size g) f)
 unfolding coborder
 states_of-coborder g f below =
     is_states_of (size g) (coborder g f) (over_states.coborder g (states_of (size g) f))
     (λ x sx.
     holds-states_where_state (size g) (λ y. pairs_oddly (border_of_state g y) f) x sx
-    ∙ sym (pairs_oddly-states_of (size g) (border_of_state g x) f (AreRanks-border_of_state g x))
+    ∙ sym (pairs_oddly-states_of (size g) (border_of_state g x) f (AreIndices-border_of_state g x))
     ∙ ap (λ z. chains.pairs_oddly (size g) z (states_of (size g) f)) (states_of-border_of_state g x sx))
     (λ x other.
     ap (λ z. chains.pairs_oddly (size g) z (states_of (size g) f)) (border-no_state g x other)
     ∙ pairs_oddly-nothing (size g) (states_of (size g) f))
 
-pub AreRanks-coborder : (g : Marks) (f : Codes) → AreRanks (size g) (coborder g f)
+pub AreIndices-coborder : (g : Marks) (f : Codes) → AreIndices (size g) (coborder g f)
 unfolding coborder
-AreRanks-coborder g f = states_where-below (size g) (λ y. pairs_oddly (border_of_state g y) f)
+AreIndices-coborder g f = states_where-below (size g) (λ y. pairs_oddly (border_of_state g y) f)
 
 cochain_complex_StandsFor : (g : Marks) → StandsFor g (bidegree g) (cochain_complex g) (over_states.coborder g) down_m
 cochain_complex_StandsFor g = record {
   degrees = λ s. refl;
   rises = λ d. refl;
-  ranks = λ f. subst (AreRanks (size g)) (sym (border-cochain_complex g f)) (AreRanks-coborder g f);
+  indices = λ f. subst (AreIndices (size g)) (sym (border-cochain_complex g f)) (AreIndices-coborder g f);
   borders = λ f below. ap (states_of (size g)) (border-cochain_complex g f) ∙ states_of-coborder g f below;
 }
 
@@ -227,7 +230,8 @@ corank_of_codes g s m a d = (
 pub corank-rank : (g : Marks) → IsGrid g → (m a : ℤ) (d : ℕ) → IsCorank g m a d ↔ IsHomologyRank g m a d
 corank-rank g s m a d =
     let (states_from, states_to) =
-    rank-states g (bidegree g) (λ p. HasDegree g p.0 p.1) (has_bidegree g) (cochain_complex g) (over_states.coborder g) down_m
+    rank-states g (bidegree g) (λ p. HasDegree g p.0 p.1) (has_bidegree g) (cochain_complex g)
+    (over_states.coborder g) down_m
     (cochain_complex_StandsFor g) (m, a) d in
     let (there, back) = corank_of_codes g s m a d in
     let (to, from) = homology_rank-states g m a d in (

@@ -1,4 +1,4 @@
--- The cells of the grid complex: each is the rank of a state.
+-- The cells of the grid complex: each is the index of a state.
 use Rattle.std.proofs.Common.{◌≡◌, ℕ, ◌<◌, Bool, true, false, Some, None, if◌then◌else◌, is_some, refl}
 use Rattle.std.proofs.lemmas.Bool.{ltb-true}
 use Rattle.std.proofs.lemmas.Cmp.{nat_eq_equiv}
@@ -12,7 +12,7 @@ use Rattle.torus_geom.specs.Degrees.{bidegree}
 use Rattle.torus_geom.specs.Inner.GridComplex.{grid_complex}
 use Rattle.torus_geom.specs.Marks.{Marks, size}
 
--- the rank of a state is among the numbers below the number of states
+-- the index of a state is among the numbers below the number of states
 pub any-ascending : (n s : ℕ) → s < n → any s (ascending n) ≡ true
 any-ascending n s within = list_any-from_Contains nat_eq_equiv s (ascending n) (Contains-ascending n s within)
 

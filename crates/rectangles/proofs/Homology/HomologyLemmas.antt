@@ -10,7 +10,7 @@ use Rattle.torus_geom.specs.Homology.{Row, HasDegree, IsHomologyRank, IsHomology
 use Rattle.torus_geom.specs.Inner.CodeHomology as code_homology
 use Rattle.torus_geom.specs.Inner.GridComplex.{grid_complex}
 use Rattle.torus_geom.specs.Marks.{Marks, size}
-use Rattle.torus_geom.proofs.Chains.CodesLemmas.{AreRanks}
+use Rattle.torus_geom.proofs.Chains.CodesLemmas.{AreIndices}
 use Rattle.torus_geom.proofs.Chains.ReachedLemmas.{states_of-border}
 use Rattle.rectangles.proofs.Homology.GradedStates.{StandsFor, degree_at-is, rank-states}
 use Rattle.rectangles.proofs.Square.BorderLemmas.{border-below, border-grid_complex}
@@ -23,7 +23,7 @@ has_bidegree g d x = (
   λ (state, e). record { state = state; maslov = ap (λ p. p.0) e; alexander = ap (λ p. p.1) e },
 )
 
--- a code that has a degree is the rank of a state of that degree
+-- a code that has a degree is the index of a state of that degree
 pub degree_is : (g : Marks) (s : ℕ) (d : ℤ × ℤ) → (grid_complex g).degree s ≡ Some d
     → (s < factorial (size g)) × (bidegree g (unrank (size g) s) ≡ d)
 degree_is g s d e = degree_at-is (size g) (bidegree g) s d e
@@ -32,7 +32,7 @@ grid_complex_StandsFor : (g : Marks) → StandsFor g (bidegree g) (grid_complex 
 grid_complex_StandsFor g = record {
   degrees = λ s. refl;
   rises = λ d. refl;
-  ranks = λ z. subst (AreRanks (size g)) (sym (border-grid_complex g z)) (border-below g z);
+  indices = λ z. subst (AreIndices (size g)) (sym (border-grid_complex g z)) (border-below g z);
   borders = λ z below. ap (states_of (size g)) (border-grid_complex g z) ∙ states_of-border g z below;
 }
 
@@ -43,7 +43,8 @@ homology_rank-states g m a d =
     (grid_complex_StandsFor g) (m, a) d
 
 -- And so is the table.
-pub homology_table-states : (g : Marks) (rows : List Row) → code_homology.IsHomologyTable g rows ↔ IsHomologyTable g rows
+pub homology_table-states : (g : Marks) (rows : List Row)
+    → code_homology.IsHomologyTable g rows ↔ IsHomologyTable g rows
 homology_table-states g rows = (
   λ t. record {
     ordered = t.ordered;

@@ -42,7 +42,7 @@ module _ (g : Marks) (s : IsGrid g) (x y : List ℕ) (sx : IsState x) (sy : IsSt
   pub alexander-border_of_state : alexander g x ≡ alexander g y
   alexander-border_of_state = ap (λ d. d.1) lowered
 
--- the same of each of a list of states whose ranks are the codes of the border
+-- the same of each of a list of states whose indices are the codes of the border
 pub bidegree-listed : (g : Marks) → IsGrid g → (x : List ℕ) → IsBijection (size g) x → (ys : List (List ℕ))
     → map rank ys ≡ codes (border_of_state g x)
     → All (λ y. IsState y × (length y ≡ size g)) ys → All (λ y. bidegree g x ≡ up_m (bidegree g y)) ys

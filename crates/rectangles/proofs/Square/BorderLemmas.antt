@@ -1,7 +1,7 @@
 -- The square law: the border of a border is empty, for every grid and every chain. So the grid complex
 -- is a complex, where each step lowers the Maslov degree by one and keeps the Alexander degree.
 -- Route: the weight of the border of a state is a sum over two circles, so that of the border of the
--- border of a state is a sum over two steps, which vanishes. A code that is the rank of no state has
+-- border of a state is a sum over two steps, which vanishes. A code that is the index of no state has
 -- the empty list for its state, which no rectangle leaves.
 use Rattle.std.proofs.Common.{◌≡◌, ℕ, ◌<◌, Bool, true, false, not, cond, ◌&&◌, List, [], ◌∷◌, length, map, slice_index, swap, Contains, Some, None, refl, ap, ap₂, subst, ◌∙◌, sym, eqb, ltb, arith, inl, inr}
 use Rattle.std.specs.List.{filter}
@@ -40,7 +40,7 @@ use Rattle.rectangles.proofs.Square.RectangleTests.{swap-with_exchanged}
 use Rattle.rectangles.proofs.Square.RectangleSums.{parity-rectangles, weight-border_of_state}
 use Rattle.torus_geom.proofs.Sums.TabulateLemmas.{tabulate-slice_index}
 
--- ---- codes that are ranks of no state
+-- ---- codes that are indices of no state
 
 no_step : (g : Marks) (y : List ℕ) → is_odd (length (filter (is_step g [] y) (rectangles (size g)))) ≡ false
 no_step g y =
@@ -59,7 +59,7 @@ module _ (g : Marks) (s : IsGrid g) where
   abbrev step_at : (ℕ → ℕ) → ℕ → ℕ → Bool
   step_at f a b = is_open (size g) (slice_index g.o) (slice_index g.x) f a b
 
-  -- the state of f has the rank q
+  -- the state of f has the index q
   abbrev has_rank : ℕ → (ℕ → ℕ) → Bool
   has_rank q f = eqb q (rank (tabulate (size g) f))
 
@@ -103,7 +103,8 @@ module _ (g : Marks) (s : IsGrid g) where
       && parity_below n (λ c. parity_below n (λ d. step_at h c d && has_rank q (with_exchanged h c d))))
       (swap-exchanged x sx a b la lb)
       ∙ sym (parity-and (step_at f a b)
-      (λ c. parity_below n (λ d. step_at (with_exchanged f a b) c d && has_rank q (with_exchanged (with_exchanged f a b) c d)))
+      (λ c. parity_below n (λ d. step_at (with_exchanged f a b) c d
+      && has_rank q (with_exchanged (with_exchanged f a b) c d)))
       (below n))
       ∙ parity_below-same n _ (λ c. parity_below n (two_steps n (slice_index g.o) (slice_index g.x) f
       (has_rank q) a b c)) (λ c lc.
@@ -143,7 +144,7 @@ unfolding border
 border-single g c = sum_over-single c (λ code. border_of_state g (unrank (size g) code))
 
 -- ---- the grid complex
--- a code that is the rank of no state has no targets
+-- a code that is the index of no state has no targets
 targets-grid_complex : (g : Marks) (c : ℕ) → (grid_complex g).targets c ≡ border_of_state g (unrank (size g) c)
 targets-grid_complex g c = by (ltb c (factorial (size g))) refl
   where
@@ -187,7 +188,7 @@ step_of_border g x c h =
     let (in_rectangles, step) = member_of_filter (is_step g x y) (rectangles n) r in_steps in
     (y, member_of_states n y in_states, is, (r, member_of_rectangles n r in_rectangles, step))
 
--- the border of a state holds ranks of states
+-- the border of a state holds indices of states
 pub border_of_state-below : (g : Marks) (x : List ℕ) (c : ℕ) → holds (border_of_state g x) c ≡ true
     → c < factorial (size g)
 border_of_state-below g x c h = let (y, sy, is, step) = step_of_border g x c h in

@@ -47,14 +47,16 @@ exchanged_apart f a b c d ac ad bc bd = fun_ext (λ t.
     (with_exchanged-other f a b c (λ e. ac (sym e)) (λ e. bc (sym e)))
     ∙ order4 (eqb t a) (eqb t b) (eqb t c) (eqb t d) (f a) (f b) (f c) (f d) (f t) (not_both t a c ac)
     (not_both t a d ad) (not_both t b c bc) (not_both t b d bd)
-    ∙ sym (ap₂ (λ x y. cond (eqb t a) x (cond (eqb t b) y (with_exchanged f c d t))) (with_exchanged-other f c d b bc bd)
+    ∙ sym (ap₂ (λ x y. cond (eqb t a) x (cond (eqb t b) y (with_exchanged f c d t)))
+    (with_exchanged-other f c d b bc bd)
     (with_exchanged-other f c d a ac ad)))
 
 -- exchanges at three columns, the next two after the first two, turn in a circle
 pub exchanged_three : (f : ℕ → ℕ) (a b c : ℕ) → a ≢ b → b ≢ c → c ≢ a
     → with_exchanged (with_exchanged f a b) b c ≡ with_exchanged (with_exchanged f b c) c a
 exchanged_three f a b c p q r = fun_ext (λ t.
-    ap₂ (λ x y. cond (eqb t b) x (cond (eqb t c) y (with_exchanged f a b t))) (with_exchanged-other f a b c r (λ e. q (sym e)))
+    ap₂ (λ x y. cond (eqb t b) x (cond (eqb t c) y (with_exchanged f a b t)))
+    (with_exchanged-other f a b c r (λ e. q (sym e)))
     (with_exchanged-second f a b p)
     ∙ order3 (eqb t a) (eqb t b) (eqb t c) (f a) (f b) (f c) (f t) (not_both t a b p) (not_both t b c q)
     (not_both t c a r)

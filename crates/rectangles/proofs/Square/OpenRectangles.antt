@@ -195,5 +195,6 @@ pub second_step-value : (n : ℕ) (O X f : ℕ → ℕ) (bare : ℕ → Bool) (p
     ≡ rectangle_value (order_of p) (order_of (rows_of f p)) (arc_values n O X f bare p) s (next m) (not s)
     (next (next m))
 second_step-value n O X f bare p one d s m =
-    open-rectangle_value n O X f bare p one d (with_exchanged f (p m) (p (next m))) (second_off n f p d m) s (next m) (not s)
+    open-rectangle_value n O X f bare p one d (with_exchanged f (p m) (p (next m))) (second_off n f p d m) s
+    (next m) (not s)
     (next (next m)) (second_start n f p d m s) (second_end n f p d m s) (second_third n f p d m)

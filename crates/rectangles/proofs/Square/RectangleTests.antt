@@ -74,4 +74,5 @@ swap-with_exchanged x a b la lb = fun_ext (λ c. each c (cases_eq c a) (cases_eq
         ap (slice_index (swap x a b)) j ∙ (swapped_from_swap x (swap x a b) a b 0 la lb refl).1
         ∙ sym (λ v. cond (ne_eqb c a p v) (slice_index x b) (cond (eq-eqb c b j v) (slice_index x a) (slice_index x c)))
     each c (inr p) (inr q) =
-        (swapped_from_swap x (swap x a b) a b 0 la lb refl).2 c p q ∙ sym (with_exchanged-other (slice_index x) a b c p q)
+        (swapped_from_swap x (swap x a b) a b 0 la lb refl).2 c p q
+        ∙ sym (with_exchanged-other (slice_index x) a b c p q)

@@ -155,7 +155,8 @@ module _ (n : ℕ) (O X : ℕ → ℕ) (f : ℕ → ℕ) (T : (ℕ → ℕ) → 
         (λ p x u q y v w. (q && (y && v)) && ((p && (x && u)) && w)) refl
         ab (is_clear_of n k a b (f a) (f b)) ub cd (is_clear_of n f c d (f c) (f d)) ud (T (with_exchanged k a b))
         ∙ sym (λ i. (cd && (is_clear_of n f c d (f c) (f d) && ud))
-        && ((ab && (is_clear_of n k a b (ka i) (kb i) && unmarked n O X a b (ka i) (kb i))) && T (with_exchanged k a b)))
+        && ((ab && (is_clear_of n k a b (ka i) (kb i) && unmarked n O X a b (ka i) (kb i)))
+        && T (with_exchanged k a b)))
 
     two_none : (a b : ℕ) → a < n → b < n → at_two n two_steps a b ≡ false
     two_none a b la lb = elim (cases_eq a b) [

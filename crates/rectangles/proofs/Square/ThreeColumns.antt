@@ -33,7 +33,8 @@ shared_term u v g m s s' = rectangle_value u v g s m s m && rectangle_value u v 
 -- the sum of the four terms
 abbrev pub terms : Bool → Bool → (Place → Place → Bool) → Place → Bool
 terms u v g m =
-    (shared_term u v g m true true ⊻ shared_term u v g m true false) ⊻ (shared_term u v g m false true ⊻ shared_term u v g m false false)
+    (shared_term u v g m true true ⊻ shared_term u v g m true false)
+    ⊻ (shared_term u v g m false true ⊻ shared_term u v g m false false)
 
 -- a table of nine values as a function of two arcs
 abbrev pub nine : Bool → Bool → Bool → Bool → Bool → Bool → Bool → Bool → Bool → Place → Place → Bool

@@ -12,7 +12,7 @@ use Rattle.torus_geom.specs.Inner.CodeBorder.{border_of_state, border}
 abbrev pub sum_of_ranks : List (List ℕ) → Chain
 sum_of_ranks ys = total (map (λ y. single (rank y)) ys)
 
--- the sum of the borders of states, by their ranks
+-- the sum of the borders of states, by their indices
 abbrev pub sum_of_borders : Marks → List ℕ → Chain
 sum_of_borders g cs = total (map (λ c. border_of_state g (unrank (size g) c)) cs)
 

@@ -1,8 +1,8 @@
 -- The complex of the cochains of a grid over codes: the dual of its grid complex.
---     coborder g f         the ranks of the states whose border pairs oddly with f
+--     coborder g f         the indices of the states whose border pairs oddly with f
 --     down_m d             the degree below d: m is one lower, a stays
---     cochain_complex g    all states of the grid, each by its rank and with its bidegree, and from each state an arrow
---                          to those of its coborder; its arrows lead to the Maslov degree above
+--     cochain_complex g    all states of the grid, each by its index and with its bidegree, and from each state an
+--                          arrow to those of its coborder; its arrows lead to the Maslov degree above
 use Rattle.std.specs.Prelude.{ℤ, pos, ◌-ℤ◌, nat_lt, if◌then◌else◌}
 use Rattle.f2_algebra.specs.Chain.{Chain, nothing, single, pairs_oddly}
 use Rattle.f2_algebra.specs.Complex.{Complex}

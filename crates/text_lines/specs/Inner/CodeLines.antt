@@ -1,4 +1,4 @@
--- The words of a line over what the code keeps of a chain of states, the set of their ranks.
+-- The words of a line over what the code keeps of a chain of states, the set of their indices.
 --     set_line word n z      the words of the line of a set: one word, and the states of size n of the set, in
 --                            ascending order
 use Rattle.std.specs.Prelude.{ℕ, List, ◌∷◌, ◌++◌}

@@ -45,7 +45,8 @@ pub Contains-members : (n : ℕ) (z : Chain) (x : List ℕ) → IsBijection n x 
 Contains-members n z x sx h = Contains-filter z (states n) x (Contains-states n x sx) h
 
 pub member_of_members : (n : ℕ) (z : Chain) (x : List ℕ) → Contains (members n z) x → IsBijection n x × (z x ≡ true)
-member_of_members n z x m = let (in_states, h) = member_of_filter z (states n) x m in (member_of_states n x in_states, h)
+member_of_members n z x m = let (in_states, h) = member_of_filter z (states n) x m in
+    (member_of_states n x in_states, h)
 
 -- ---- words as sums modulo 2
 pub pairs_oddly-parity : (n : ℕ) (z f : Chain) → pairs_oddly n z f ≡ parity (λ x. z x && f x) (states n)

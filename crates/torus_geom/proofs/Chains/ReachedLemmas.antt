@@ -1,5 +1,5 @@
--- The border of a set of ranks stands for the border of its chain of states.
--- Route: the sum, over the codes of a set, of the chains of what their states reach holds the rank of y if an odd
+-- The border of a set of indices stands for the border of its chain of states.
+-- Route: the sum, over the codes of a set, of the chains of what their states reach holds the index of y if an odd
 -- number of pairs reach y.
 use Rattle.std.proofs.Common.{◌≡◌, ℕ, Bool, true, false, ◌&&◌, List, refl, sym, ap, ap₂, subst, ◌∙◌}
 use Rattle.std.proofs.lemmas.Bool.{and_parts, false≢true}
@@ -20,7 +20,7 @@ use Rattle.torus_geom.specs.Border.{is_step, border}
 use Rattle.torus_geom.specs.Codes.{is_state, states_of}
 use Rattle.torus_geom.proofs.Chains.StateTests.{is_state-is, is_state-true, parity-states, weight-states}
 use Rattle.torus_geom.proofs.Chains.ChainLemmas.{is_reached, reached-parity, reached-add, LeadsToStates, leads_to_state, reached-outside}
-use Rattle.torus_geom.proofs.Chains.CodesLemmas.{AreRanks, in_states_of, AreRanks-single, states_of-single, states_of-at, is_states_of, states_of_one_to_one}
+use Rattle.torus_geom.proofs.Chains.CodesLemmas.{AreIndices, in_states_of, AreIndices-single, states_of-single, states_of-at, is_states_of, states_of_one_to_one}
 
 -- ---- what a set of codes reaches
 -- the sum, over the codes of z, of the chains of the states that their states reach
@@ -28,7 +28,7 @@ abbrev pub reached_codes : ℕ → (List ℕ → List ℕ → Rect → Bool) →
 reached_codes n L z = sum_over z (λ code. states_where n (is_reached n L (unrank n code)))
 
 -- it stands for what the chain of states reaches
-pub states_of-reached : (n : ℕ) (L : List ℕ → List ℕ → Rect → Bool) → LeadsToStates n L → (z : Codes) → AreRanks n z
+pub states_of-reached : (n : ℕ) (L : List ℕ → List ℕ → Rect → Bool) → LeadsToStates n L → (z : Codes) → AreIndices n z
     → states_of n (reached_codes n L z) ≡ reached n L (states_of n z)
 states_of-reached n L keeps z below =
     is_states_of n (reached_codes n L z) (reached n L (states_of n z))
@@ -44,9 +44,9 @@ states_of-reached n L keeps z below =
     ∙ sym (reached-parity n L (states_of n z) y))
     (reached-outside n L keeps (states_of n z))
 
--- it has ranks of states
-pub AreRanks-reached : (n : ℕ) (L : List ℕ → List ℕ → Rect → Bool) (z : Codes) → AreRanks n (reached_codes n L z)
-AreRanks-reached n L z q h =
+-- it has indices of states
+pub AreIndices-reached : (n : ℕ) (L : List ℕ → List ℕ → Rect → Bool) (z : Codes) → AreIndices n (reached_codes n L z)
+AreIndices-reached n L z q h =
     let (s, in_z, in_s) =
     weight-some (λ s. holds (states_where n (is_reached n L (unrank n s))) q) z
     (sym (holds-sum_over z (λ code. states_where n (is_reached n L (unrank n code))) q) ∙ h) in
@@ -57,13 +57,13 @@ steps_LeadToStates : (g : Marks) → LeadsToStates (size g) (is_step g)
 steps_LeadToStates g x y r sx proper h =
     leads_to_state (size g) x y r sx proper (and_parts (leads r x y) (is_empty x r && is_unmarked g r) h).0
 
--- The border of a set of ranks stands for the border of its chain.
-pub states_of-border : (g : Marks) (z : Codes) → AreRanks (size g) z
+-- The border of a set of indices stands for the border of its chain.
+pub states_of-border : (g : Marks) (z : Codes) → AreIndices (size g) z
     → states_of (size g) (over_codes.border g z) ≡ border g (states_of (size g) z)
 unfolding over_codes.border border_of_state
 states_of-border g z below = states_of-reached (size g) (is_step g) (steps_LeadToStates g) z below
 
--- The set of the ranks of the border of a state stands for the border of the chain of this state.
+-- The set of the indices of the border of a state stands for the border of the chain of this state.
 pub states_of-border_of_state : (g : Marks) (x : List ℕ) → IsBijection (size g) x
     → states_of (size g) (border_of_state g x) ≡ border g (single x)
 unfolding over_codes.border
@@ -71,7 +71,7 @@ states_of-border_of_state g x sx =
     let n = size g in
     ap (states_of n) (ap (border_of_state g) (sym (unrank-rank n x sx))
     ∙ sym (sum_over-single (rank x) (λ code. border_of_state g (unrank n code))))
-    ∙ states_of-border g (one_code (rank x)) (AreRanks-single n x sx)
+    ∙ states_of-border g (one_code (rank x)) (AreIndices-single n x sx)
     ∙ ap (border g) (states_of-single n x sx)
 
 -- what is reached has states alone
@@ -87,36 +87,37 @@ IsChain-reached n L keeps z y h = by (is_state n y) refl
 pub IsChain-border : (g : Marks) (z : Chain) → IsChain (size g) (border g z)
 IsChain-border g z = IsChain-reached (size g) (is_step g) (steps_LeadToStates g) z
 
--- the set of the ranks of the border has ranks of states
-pub AreRanks-border : (g : Marks) (z : Codes) → AreRanks (size g) (over_codes.border g z)
+-- the set of the indices of the border has indices of states
+pub AreIndices-border : (g : Marks) (z : Codes) → AreIndices (size g) (over_codes.border g z)
 unfolding over_codes.border border_of_state
-AreRanks-border g z = AreRanks-reached (size g) (is_step g) z
+AreIndices-border g z = AreIndices-reached (size g) (is_step g) z
 
 -- the border of a sum is the sum of the borders
 pub border-add : (g : Marks) (z w : Chain) → border g (z ⊕ w) ≡ border g z ⊕ border g w
 border-add g z w = reached-add (size g) (is_step g) z w
 
 -- ---- from a clause over states to one over codes
--- a set of ranks that stands for the border of a chain is the border of the set of its ranks
-pub border_codes : (g : Marks) (y z : Codes) → AreRanks (size g) y → AreRanks (size g) z
+-- a set of indices that stands for the border of a chain is the border of the set of its indices
+pub border_codes : (g : Marks) (y z : Codes) → AreIndices (size g) y → AreIndices (size g) z
     → states_of (size g) y ≡ border g (states_of (size g) z) → y ≡ over_codes.border g z
 border_codes g y z sy sz e =
-    states_of_one_to_one (size g) y (over_codes.border g z) sy (AreRanks-border g z) (e ∙ sym (states_of-border g z sz))
+    states_of_one_to_one (size g) y (over_codes.border g z) sy (AreIndices-border g z)
+    (e ∙ sym (states_of-border g z sz))
 
 -- where the size has another name
-pub states_of-border_at : (g : Marks) (n : ℕ) → size g ≡ n → (z : Codes) → AreRanks n z
+pub states_of-border_at : (g : Marks) (n : ℕ) → size g ≡ n → (z : Codes) → AreIndices n z
     → states_of n (over_codes.border g z) ≡ border g (states_of n z)
 states_of-border_at g n e z =
-    let P : ℕ → Type 0 = λ m. AreRanks m z → states_of m (over_codes.border g z) ≡ border g (states_of m z) in
+    let P : ℕ → Type 0 = λ m. AreIndices m z → states_of m (over_codes.border g z) ≡ border g (states_of m z) in
     subst P e (states_of-border g z)
 
--- a state of the border of a state, and its rank
+-- a state of the border of a state, and its index
 pub in_border_of_state : (g : Marks) (x y : List ℕ) → IsBijection (size g) x → border g (single x) y ≡ true
     → IsBijection (size g) y × (holds (border_of_state g x) (rank y) ≡ true)
 in_border_of_state g x y sx h =
     in_states_of (size g) (border_of_state g x) y (ap (λ z. z y) (states_of-border_of_state g x sx) ∙ h)
 
--- the set of the ranks of the border of a state has ranks of states
-pub AreRanks-border_of_state : (g : Marks) (x : List ℕ) → AreRanks (size g) (border_of_state g x)
+-- the set of the indices of the border of a state has indices of states
+pub AreIndices-border_of_state : (g : Marks) (x : List ℕ) → AreIndices (size g) (border_of_state g x)
 unfolding border_of_state
-AreRanks-border_of_state g x = states_where-below (size g) (is_reached (size g) (is_step g) x)
+AreIndices-border_of_state g x = states_where-below (size g) (is_reached (size g) (is_step g) x)

@@ -14,7 +14,7 @@ use Rattle.state_rank.specs.States.{factorial, rank, states}
 use Rattle.torus_geom.specs.Inner.CodeBorder.{states_where}
 
 module _ (n : ℕ) (test : List ℕ → Bool) where
-  -- what it holds is the rank of a state that passes
+  -- what it holds is the index of a state that passes
   pub member_of_states_where : (q : ℕ) → holds (states_where n test) q ≡ true
       → (y : List ℕ) × IsBijection n y × (rank y ≡ q) × (test y ≡ true)
   member_of_states_where q h =
@@ -25,12 +25,12 @@ module _ (n : ℕ) (test : List ℕ → Bool) where
       let (in_states, passes) = member_of_filter test (states n) y in_filter in
       (y, member_of_states n y in_states, is, passes)
 
-  -- so it holds ranks of states
+  -- so it holds indices of states
   pub states_where-below : (q : ℕ) → holds (states_where n test) q ≡ true → q < factorial n
   states_where-below q h = let (y, sy, is, passes) = member_of_states_where q h in
       subst (λ k. k < factorial n) is (rank-below n y sy)
 
-  -- it holds the rank of a state that passes, and of no other
+  -- it holds the index of a state that passes, and of no other
   pub holds-states_where : (y : List ℕ) → IsBijection n y → holds (states_where n test) (rank y) ≡ test y
   holds-states_where y sy = elim (cases_Bool (test y)) [
     | inl e ↦

@@ -111,11 +111,12 @@ apart_rising : (xs : List ℕ) → AllPairs (λ s t. s < t) xs → IsApart xs
 apart_rising [] up = tt
 apart_rising (x ∷ xs) up = (
   false_from_ne_true _ (λ h.
-      let l = pairs_head (λ s t. s < t) x xs up x (Contains-from_any (λ a b. eqb-true a b) x xs h) in absurd (omega arith)),
+      let l = pairs_head (λ s t. s < t) x xs up x (Contains-from_any (λ a b. eqb-true a b) x xs h) in
+      absurd (omega arith)),
   apart_rising xs (pairs_tail (λ s t. s < t) x xs up),
 )
 
--- the weight of a test over codes of states of size n is the sum of it over the states whose ranks the chain holds
+-- the weight of a test over codes of states of size n is the sum of it over the states whose indices the chain holds
 pub weight-states : (n : ℕ) (z : Codes) → ((s : ℕ) → holds z s ≡ true → s < factorial n) → (p : ℕ → Bool)
     → weight p z ≡ parity (λ x. holds z (rank x) && p (rank x)) (states n)
 weight-states n z below p =
@@ -131,5 +132,6 @@ weight-states n z below p =
     within : (q : ℕ) (b : Bool) → holds z q ≡ b → (any q (ascending (factorial n)) && b) ≡ b
     within q true h =
         ap (λ b. b && true)
-        (list_any-from_Contains nat_eq_equiv q (ascending (factorial n)) (Contains-ascending (factorial n) q (below q h)))
+        (list_any-from_Contains nat_eq_equiv q (ascending (factorial n))
+        (Contains-ascending (factorial n) q (below q h)))
     within q false h = and-false (any q (ascending (factorial n)))

@@ -1,8 +1,8 @@
--- The border over codes, as the code keeps chains: a state is in a set of codes by its rank.
---     states_where n test     the set of the ranks of the states of size n that pass the test
---     codes_of n z            the ranks of the states of size n in the chain z
---     border_of_state g x     the ranks of the states to which an odd number of empty unmarked rectangles lead from x
---     border g z              the sum of the borders of the states whose ranks are in z
+-- The border over codes, as the code keeps chains: a state is in a set of codes by its index.
+--     states_where n test     the set of the indices of the states of size n that pass the test
+--     codes_of n z            the indices of the states of size n in the chain z
+--     border_of_state g x     the indices of the states to which an odd number of empty unmarked rectangles lead from x
+--     border g z              the sum of the borders of the states whose indices are in z
 use Rattle.std.specs.Prelude.{ℕ, Bool, List, length, map}
 use Rattle.std.specs.List.{filter}
 use Rattle.f2_algebra.specs.Chain.{Chain, of_codes, sum_over, is_odd}

@@ -1,5 +1,5 @@
 -- The fully blocked grid complex (Ozsváth, Stipsicz and Szabó, "Grid Homology for Knots and Links", chapter 4).
---     grid_complex g     all states of the grid, each by its rank and with its bidegree, and from each state an arrow
+--     grid_complex g     all states of the grid, each by its index and with its bidegree, and from each state an arrow
 --                        to those of its border
 use Rattle.std.specs.Prelude.{ℤ, nat_lt, if◌then◌else◌}
 use Rattle.std.specs.declared.option.Option.TheVariants.{None, Some}
@@ -11,7 +11,7 @@ use Rattle.torus_geom.specs.Marks.{Marks, size}
 use Rattle.torus_geom.specs.Inner.CodeBorder.{border_of_state}
 use Rattle.torus_geom.specs.Degrees.{bidegree}
 
--- the codes of the cells are the ranks of the states
+-- the codes of the cells are the indices of the states
 abbrev pub grid_complex : Marks → Complex (ℤ × ℤ)
 grid_complex g = record {
   up = up_m;

@@ -4,18 +4,18 @@ use Rattle.legendrian_class.specs.declared.verdicts.ClassVerdict.TheVariants.{No
 use Rattle.legendrian_class.specs.Verdicts.{IsVerdict}
 use Rattle.std.proofs.lemmas.Result.{IfOk-weaker}
 use Rattle.std.proofs.Common.{sym, subst, ap, codes, ◌∙◌}
-use Rattle.torus_geom.specs.Codes.{HasRanks, states_of}
+use Rattle.torus_geom.specs.Codes.{HasIndices, states_of}
 use Rattle.torus_geom.specs.Marks.{size}
-use Rattle.legendrian_class.specs.VerdictCodes.{HasVerdictRanks, verdict_of}
-use Rattle.grid_job.proofs.Reported.ClassLemmas.{HasRanks-single, states_of-code}
+use Rattle.legendrian_class.specs.VerdictCodes.{HasVerdictIndices, verdict_of}
+use Rattle.grid_job.proofs.Reported.ClassLemmas.{HasIndices-single, states_of-code}
 use Rattle.grid_job.proofs.classes.bounds_lines.Goals as goal
 
-pub set_line-requires-clause-ranks : goal.set_line-requires-clause-ranks
-set_line-requires-clause-ranks c =
+pub set_line-requires-clause-indices : goal.set_line-requires-clause-indices
+set_line-requires-clause-indices c =
     let n = size c.args.g.now in
-    let below = subst (HasVerdictRanks n) c.in-NotCycle.is c.in_ok-state.ensures.evidence in
-    subst (λ m. HasRanks m c.in_ok-least-in-NotCycle.least) (sym c.size-n.ensures.size)
-    (subst (HasRanks n) (sym c.in_ok-least-in-NotCycle.ensures) (HasRanks-single n c.in-NotCycle.state below))
+    let below = subst (HasVerdictIndices n) c.in-NotCycle.is c.in_ok-state.ensures.evidence in
+    subst (λ m. HasIndices m c.in_ok-least-in-NotCycle.least) (sym c.size-n.ensures.size)
+    (subst (HasIndices n) (sym c.in_ok-least-in-NotCycle.ensures) (HasIndices-single n c.in-NotCycle.state below))
 
 pub returns-in_ok-least-in-NotCycle : goal.returns-in_ok-least-in-NotCycle
 returns-in_ok-least-in-NotCycle c =
@@ -23,7 +23,7 @@ returns-in_ok-least-in-NotCycle c =
     let n = size g in
     let n_is = c.size-n.ensures.size in
     let least_is = c.in_ok-least-in-NotCycle.ensures in
-    let below = subst (HasVerdictRanks n) c.in-NotCycle.is c.in_ok-state.ensures.evidence in
+    let below = subst (HasVerdictIndices n) c.in-NotCycle.is c.in_ok-state.ensures.evidence in
     let word = codes "bounds notcycle" in
     IfOk-weaker c.set_line.result _ _ (λ text told. record {
       verdict = verdict_of n (NotCycle c.in-NotCycle.state);

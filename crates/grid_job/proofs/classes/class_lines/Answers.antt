@@ -8,13 +8,13 @@ use Rattle.torus_geom.specs.Marks.{size}
 use Rattle.legendrian_class.specs.VerdictCodes.{verdict_of}
 use Rattle.legendrian_class.specs.declared.verdicts.ClassVerdict.TheVariants.{NotCycle, Null, Alive}
 use Rattle.text_lines.specs.Lines.{chain_line, line}
-use Rattle.grid_job.proofs.Reported.ClassLemmas.{class_is_cycle, class_verdict, HasRanks-class}
+use Rattle.grid_job.proofs.Reported.ClassLemmas.{class_is_cycle, class_verdict, HasIndices-class}
 use Rattle.grid_job.proofs.classes.class_lines.Goals as goal
 
 pub verdict-requires : goal.verdict-requires
 verdict-requires c =
     let is_class = c.in_ok-z.ensures ∙ ap one_code (c.rank.ensures.rank ∙ ap rank c.class_state-x.ensures) in
-    record { ranks = HasRanks-class c.args.g.now c.size-n.ensures.grid c.args.sign c.in_ok-z.z is_class }
+    record { indices = HasIndices-class c.args.g.now c.size-n.ensures.grid c.args.sign c.in_ok-z.z is_class }
 
 pub unreachable-requires : goal.unreachable-requires
 unreachable-requires c =

@@ -14,4 +14,4 @@ returns c =
     c.shuffle-rows.result c.grid_through-grid.result c.push-4.new.self
     c.shuffle-columns.ensures.state c.shuffle-columns.ensures.number c.shuffle-rows.ensures.state
     c.grid_through-grid.ensures
-    (ap (λ s. s.grid) made) (ap (λ s. s.commands) made)
+    (ap (λ s. s.version) made) (ap (λ s. s.grid) made) (ap (λ s. s.commands) made)

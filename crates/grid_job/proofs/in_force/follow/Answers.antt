@@ -2,7 +2,7 @@
 use Rattle.grid_job.specs.InForce.{after_command}
 use Rattle.legendrian_class.specs.FollowedCodes.{followed_of}
 use Rattle.std.proofs.Common.{subst, sym, ap, ◌∙◌}
-use Rattle.torus_geom.specs.Codes.{HasRanks}
+use Rattle.torus_geom.specs.Codes.{HasIndices}
 use Rattle.torus_geom.specs.Marks.{size}
 use Rattle.grid_text.specs.Commands.{IsAllowed}
 use Rattle.grid_job.proofs.Reported.ChainLemmas.{ranks-below, followed_of-listed}
@@ -12,8 +12,8 @@ pub set-requires : goal.set-requires
 set-requires c =
     let g = c.args.p.now.grid in
     record {
-      ranks =
-          subst (HasRanks (size g)) (sym c.in_ok-chain_of-in-Chain.ensures)
+      indices =
+          subst (HasIndices (size g)) (sym c.in_ok-chain_of-in-Chain.ensures)
           (ranks-below g _ (subst (IsAllowed g) c.in-Chain.is c.requires).0);
     }
 

@@ -2,7 +2,7 @@
 use Rattle.std.proofs.Common.{◌≡◌, ◌<◌, ℕ, ap, arith, subst, sym, ◌∙◌}
 use Rattle.std.proofs.lemmas.Result.{IfOk-weaker}
 use Rattle.f2_algebra.specs.Chain.{Chain as Codes}
-use Rattle.torus_geom.specs.Codes.{HasRanks, states_of}
+use Rattle.torus_geom.specs.Codes.{HasIndices, states_of}
 use Rattle.torus_geom.specs.Marks.{Marks, size}
 use Rattle.grid_moves.proofs.Exchanged.SwappedTwice.{size-swapped}
 use Rattle.grid_moves.specs.Moves.{swapped}
@@ -28,11 +28,11 @@ image-requires-2-clause-below c =
     let below = c.requires.below in
     omega arith
 
-pub image-requires-2-clause-ranks : goal.image-requires-2-clause-ranks
-image-requires-2-clause-ranks c =
-    subst (λ n. HasRanks n c.in_ok-there.there)
+pub image-requires-2-clause-indices : goal.image-requires-2-clause-indices
+image-requires-2-clause-indices c =
+    subst (λ n. HasIndices n c.in_ok-there.there)
     (sym (ap size c.swap.ensures.grid ∙ size-swapped c.args.axis c.args.g.now c.args.c))
-    c.in_ok-there.ensures.ranks_again
+    c.in_ok-there.ensures.indices_again
 
 pub returns-clause-image : goal.returns-clause-image
 returns-clause-image c =
@@ -40,7 +40,7 @@ returns-clause-image c =
     (λ y e. there_and_back c.args.axis c.args.g.now c.swap.result c.args.c c.args.corner c.args.z.now
     c.in_ok-there.there y c.swap.ensures.grid c.in_ok-there.ensures.image e) c.image-2.ensures.image
 
-pub returns-clause-ranks_again : goal.returns-clause-ranks_again
-returns-clause-ranks_again c =
+pub returns-clause-indices_again : goal.returns-clause-indices_again
+returns-clause-indices_again c =
     let same = ap size c.swap.ensures.grid ∙ size-swapped c.args.axis c.args.g.now c.args.c in
-    IfOk-weaker c.image-2.result _ _ (λ y ranks. subst (λ n. HasRanks n y) same ranks) c.image-2.ensures.ranks_again
+    IfOk-weaker c.image-2.result _ _ (λ y ranks. subst (λ n. HasIndices n y) same ranks) c.image-2.ensures.indices_again

@@ -6,14 +6,14 @@ use Rattle.torus_geom.specs.Codes.{states_of}
 use Rattle.torus_geom.specs.Marks.{size}
 use Rattle.legendrian_class.specs.VerdictCodes.{verdict_of}
 use Rattle.legendrian_class.specs.declared.verdicts.ClassVerdict.TheVariants.{NotCycle, Null, Alive}
-use Rattle.grid_job.proofs.Reported.ClassLemmas.{class_is_cycle, class_verdict, HasRanks-class, states_of-class}
+use Rattle.grid_job.proofs.Reported.ClassLemmas.{class_is_cycle, class_verdict, HasIndices-class, states_of-class}
 use Rattle.grid_job.proofs.Generated.MadeLemmas.{HasClassVerdict-of}
 use Rattle.grid_job.proofs.made.is_alive.Goals as goal
 
 pub verdict-requires : goal.verdict-requires
 verdict-requires c =
     let is_class = c.in_ok-z.ensures ∙ ap one_code (c.rank.ensures.rank ∙ ap rank c.class_state-x.ensures) in
-    record { ranks = HasRanks-class c.args.g.now c.size.ensures.grid c.args.sign c.in_ok-z.z is_class }
+    record { indices = HasIndices-class c.args.g.now c.size.ensures.grid c.args.sign c.in_ok-z.z is_class }
 
 pub unreachable-requires : goal.unreachable-requires
 unreachable-requires c =

@@ -31,7 +31,7 @@ returns c =
       x = (c.as_slice-2.ensures.value ∙ c.insert-2.ensures.items) i;
     } in
     ap body c.new.ensures.script
-    ∙ ap body_of (c.transpose.ensures ∙ ap transposed (c.from_marks-columns.ensures ∙ marks))
+    ∙ ap (body_of 1) (c.transpose.ensures ∙ ap transposed (c.from_marks-columns.ensures ∙ marks))
     ∙ sym (below_row-last c.args.picture.size (c.args.c ∷ c.args.picture.o.items)
     (c.args.d ∷ c.args.picture.x.items) all_rows)
 

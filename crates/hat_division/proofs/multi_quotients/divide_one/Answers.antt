@@ -1,5 +1,5 @@
 -- Row by row, from the top.
-use Rattle.std.proofs.Common.{◌≡◌, [], ◌∷◌, ◌+◌, ◌-◌, ◌≤◌, take, All, sym, ap, subst, refl, ◌∙◌, arith, rules}
+use Rattle.std.proofs.Common.{[], ◌∷◌, ◌+◌, ◌-◌, ◌≤◌, take, All, sym, ap, subst, refl, ◌∙◌, arith, rules}
 use Rattle.std.proofs.lemmas.Int.{to_z-of_z}
 use Rattle.std.proofs.lemmas.Bool.{false≢true}
 use mir.Syntax.{w32}
@@ -45,7 +45,8 @@ loop-row-preserved c =
           subst (λ xs. IsCandidateFor multi_shape (step_up i) rows (take (n + 1) rows) xs)
           (sym (ap (λ v. v.items) w.quotient-is ∙ w.in_ok-push.ensures.items))
           (row_pushed multi_shape (step_up i) (step_up_IsStepUp i) rows positive (step_up-before i) n row
-          c.loop-row-test.true c.row-item.is now c.loop-row.invariant above is new (λ j. (to_z-of_z w32 row.m fits j, row.d)) refl w.if-above-row.true)
+          c.loop-row-test.true c.row-item.is now c.loop-row.invariant above is new
+          (λ j. (to_z-of_z w32 row.m fits j, row.d)) refl w.if-above-row.true)
       | else-above-row w ↦
           let less = w.if-above-row.false in
           subst (λ xs. IsCandidateFor multi_shape (step_up i) rows (take (n + 1) rows) xs)

@@ -31,7 +31,8 @@ returns-in_default c q h =
     let up = step_up c.args.i in
     let rows = c.args.rows.items in
     let left = c.loop.left.items in
-    power_none multi_shape up (step_up_IsStepUp c.args.i) rows (general rows c.requires.positive) c.args.e c.loop.counter
+    power_none multi_shape up (step_up_IsStepUp c.args.i) rows (general rows c.requires.positive)
+    c.args.e c.loop.counter
     left c.loop-test.true ((quotient_by-is (copies c.loop.counter up) rows left).0 c.loop.invariant)
     (λ r hr. none r (subst (λ xs. IsQuotientBy one xs r) (sym c.as_slice.ensures.value)
     ((quotient_by-is one left r).1 hr))) q ((quotient_by-is (copies c.args.e up) rows q).0 h)
@@ -48,6 +49,7 @@ loop-preserved c =
     let left = c.loop.left.items in
     let new = c.in-Some.quotient.items in
     (quotient_by-is (copies (c.loop.counter + 1) up) rows new).1
-    (power_next multi_shape up (step_up_IsStepUp c.args.i) rows (general rows c.requires.positive) c.loop.counter left new
+    (power_next multi_shape up (step_up_IsStepUp c.args.i) rows (general rows c.requires.positive)
+    c.loop.counter left new
     ((quotient_by-is (copies c.loop.counter up) rows left).0 c.loop.invariant)
     ((quotient_by-is one left new).0 (subst (λ xs. IsQuotientBy one xs new) c.as_slice.ensures.value found)))

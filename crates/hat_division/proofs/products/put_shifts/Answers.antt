@@ -5,9 +5,12 @@ use Rattle.std.proofs.lemmas.List.Elements.{All-contains}
 use mir.Syntax.{w32}
 use mir.Val.{SFits}
 use Rattle.hat_division.specs.Product.{IsSmall}
-use Rattle.hat_division.proofs.ProductLemmas.{shifts-more}
 use Rattle.hat_division.proofs.WordLemmas.{step_down, step_down-high, member-positive}
+use Rattle.hat_division.proofs.ProductMapLemmas.{shifts-none, shifts-more}
 use Rattle.hat_division.proofs.products.put_shifts.Goals as goal
+
+pub loop-i-init : goal.loop-i-init
+loop-i-init c = shifts-none c.args.k c.args.rows.now c.args.row.now c.args.product.now c.requires.part
 
 pub product_rank-rank-requires-clause-maslov : goal.product_rank-rank-requires-clause-maslov
 product_rank-rank-requires-clause-maslov c =
@@ -30,20 +33,6 @@ product_rank-rank-requires-clause-alexander c =
     c.from-in-loop-i.ensures))
     (step_down-high c.args.row.now.a c.loop-i.i small.alexander_high)
 
-pub put_row-requires-clause-rank : goal.put_row-requires-clause-rank
-put_row-requires-clause-rank c =
-    let row = c.args.row.now in
-    let i = c.loop-i.i in
-    let small : IsSmall c.args.row.now =
-    All-contains IsSmall c.args.rows.now c.args.row.now c.requires.small c.requires.member in
-    let fits_m : SFits w32 c.args.row.now.m = search rules in
-    let fits_a : SFits w32 c.args.row.now.a = search rules in
-    let low : i ≤ 16 = omega (arith, c.requires.exponent) in
-    member-positive c.args.k c.args.rows.now row i _ _ c.product_rank-rank.result c.requires.positive c.requires.member
-    (omega arith) c.product_rank-rank.ensures
-    (step_down row.m c.from.result i fits_m small.maslov_low low c.from.ensures)
-    (step_down row.a c.from-in-loop-i.result i fits_a small.alexander_low low c.from-in-loop-i.ensures)
-
 pub loop-i-preserved : goal.loop-i-preserved
 loop-i-preserved c =
     let row = c.args.row.now in
@@ -53,8 +42,11 @@ loop-i-preserved c =
     let fits_m : SFits w32 c.args.row.now.m = search rules in
     let fits_a : SFits w32 c.args.row.now.a = search rules in
     let low : i ≤ 16 = omega (arith, c.requires.exponent) in
-    shifts-more c.args.k c.args.rows.now row i c.args.product.now.items c.loop-i.product.items c.put_row.new.rows.items
-    _
-    (step_down row.m c.from.result i fits_m small.maslov_low low c.from.ensures)
-    (step_down row.a c.from-in-loop-i.result i fits_a small.alexander_low low c.from-in-loop-i.ensures)
-    c.product_rank-rank.ensures c.loop-i.invariant c.in_ok-put_row.ensures
+    let at_m = step_down row.m c.from.result i fits_m small.maslov_low low c.from.ensures in
+    let at_a = step_down row.a c.from-in-loop-i.result i fits_a small.alexander_low low c.from-in-loop-i.ensures in
+    let positive =
+    member-positive c.args.k c.args.rows.now row i _ _ c.product_rank-rank.result c.requires.positive c.requires.member
+    (omega arith) c.product_rank-rank.ensures at_m at_a in
+    shifts-more c.args.k c.args.rows.now row i c.args.product.now c.loop-i.product c.insert.new.self _ _
+    c.product_rank-rank.result at_m at_a c.product_rank-rank.ensures positive c.in_ok-insert.ensures.updates.0
+    c.loop-i.invariant

@@ -1,5 +1,5 @@
 -- Row by row, from the top.
-use Rattle.std.proofs.Common.{◌≡◌, ◌+◌, ◌-◌, ◌≤◌, pos, ◌+ℤ◌, take, get_or, All, sym, ap, subst, refl, ◌∙◌, arith, rules}
+use Rattle.std.proofs.Common.{◌+◌, ◌-◌, ◌≤◌, pos, ◌+ℤ◌, take, get_or, All, sym, ap, subst, refl, ◌∙◌, arith, rules}
 use Rattle.std.specs.Prelude.{◌-ℤ◌}
 use Rattle.std.proofs.lemmas.Int.{to_z-of_z}
 use Rattle.std.proofs.lemmas.List.{get_or_default}
@@ -21,7 +21,8 @@ returns-then-row-above c q h =
     let n = c.loop-row.row-index in
     let none : TableRow = record { m = pos 0; a = pos 0; rank = 0 } in
     let row = get_or rows n none in
-    row_fails bigraded_shape bidegree_up bidegree_up_IsStepUp c.args.rows.now (general c.args.rows.now c.requires.positive)
+    row_fails bigraded_shape bidegree_up bidegree_up_IsStepUp c.args.rows.now
+    (general c.args.rows.now c.requires.positive)
     bidegree_up-before n row c.loop-row-test.true (get_or_default rows n none row c.loop-row-test.true)
     c.loop-row.quotient.items c.loop-row.invariant c.rank_up-above.result
     (c.rank_up-above.ensures ∙ ap (λ xs. rank_at xs (row.m +ℤ pos 1) (row.a +ℤ pos 1)) c.as_slice.ensures.value
@@ -43,7 +44,8 @@ loop-row-preserved c =
     let is = c.rank_up-above.ensures ∙ ap (λ xs. rank_at xs (row.m +ℤ pos 1) (row.a +ℤ pos 1)) c.as_slice.ensures.value
     ∙ rank_at-ranks_of now (row.m +ℤ pos 1) (row.a +ℤ pos 1) in
     let enough = c.if-row-above.false in
-    let new : TableRow = record { m = to_z w32 (of_z w32 row.m); a = to_z w32 (of_z w32 row.a); rank = row.rank - above } in
+    let new : TableRow =
+    record { m = to_z w32 (of_z w32 row.m); a = to_z w32 (of_z w32 row.a); rank = row.rank - above } in
     elim c.if-above-row.branch as (λ _.
     IsCandidateFor bigraded_shape bidegree_up rows (take (n + 1) rows) c.if-above-row.quotient.items) [
       | then-above-row+in_ok-push w ↦

@@ -1,6 +1,5 @@
 -- One factor after another.
 use Rattle.std.proofs.Common.{◌+◌, List, All, Vec, Global, sym, subst, ◌∙◌}
-use Rattle.hat_division.specs.Factors.{copies}
 use Rattle.hat_division.specs.Product.{IsSmall, IsQuotient}
 use Rattle.hat_division.specs.Inner.Products.{ArePositive}
 use Rattle.hat_division.specs.Table.{IsTable}
@@ -45,7 +44,8 @@ returns-in_default c q h =
     answer_none ((r : List TableRow) → IsQuotient 1 c.as_slice.result.now r → ⊥)
     (λ (v : Vec TableRow Global). IsQuotient 1 c.as_slice.result.now v.items) c.in_ok-quotient.field-0 c.in_default.is
     c.in_ok-quotient.ensures in
-    power_none bigraded_shape bidegree_up bidegree_up_IsStepUp rows (general rows (ArePositive-table rows table)) k n left
+    power_none bigraded_shape bidegree_up bidegree_up_IsStepUp rows
+    (general rows (ArePositive-table rows table)) k n left
     c.loop-test.true ((quotient-is n rows left).0 c.loop.invariant)
     (λ r hr. none r (subst (λ xs. IsQuotient 1 xs r) (sym c.as_slice.ensures.value) ((quotient-is 1 left r).1 hr))) q
     ((quotient-is k rows q).0 h)
@@ -62,7 +62,8 @@ loop-preserved c =
     (λ (v : Vec TableRow Global). IsQuotient 1 c.as_slice.result.now v.items) c.in_ok-quotient.field-0
     c.in-Some.quotient c.in-Some.is c.in_ok-quotient.ensures in
     (quotient-is (n + 1) rows new).1
-    (power_next bigraded_shape bidegree_up bidegree_up_IsStepUp rows (general rows (ArePositive-table rows table)) n left new
+    (power_next bigraded_shape bidegree_up bidegree_up_IsStepUp rows
+    (general rows (ArePositive-table rows table)) n left new
     ((quotient-is n rows left).0 c.loop.invariant)
     ((quotient-is 1 left new).0 (subst (λ xs. IsQuotient 1 xs new) c.as_slice.ensures.value found)))
 

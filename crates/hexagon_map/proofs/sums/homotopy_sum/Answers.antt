@@ -3,10 +3,10 @@ use Rattle.std.proofs.Common.{sym, ap, subst, ◌∙◌}
 use Rattle.std.proofs.lemmas.List.{take_all}
 use Rattle.std.proofs.lemmas.Result.{IfOk-weaker}
 use Rattle.torus_geom.specs.Marks.{size}
-use Rattle.torus_geom.specs.Codes.{HasRanks, states_of}
-use Rattle.torus_geom.proofs.Chains.CodesLemmas.{All_from_ranks, ranks_from_All}
+use Rattle.torus_geom.specs.Codes.{HasIndices, states_of}
+use Rattle.torus_geom.proofs.Chains.CodesLemmas.{All_from_indices, indices_from_All}
 use Rattle.hexagon_map.specs.Inner.CodeHomotopies.{homotopy as homotopy_codes}
-use Rattle.hexagon_map.proofs.States.StateHomotopies.{AreRanks-homotopy, states_of-homotopy}
+use Rattle.hexagon_map.proofs.States.StateHomotopies.{AreIndices-homotopy, states_of-homotopy}
 use Rattle.hexagon_map.proofs.Targets.LoopSums.{sum_of_homotopies, homotopy_added, all_homotopies_added}
 use Rattle.hexagon_map.proofs.sums.homotopy_sum.Goals as goal
 
@@ -28,10 +28,10 @@ returns-clause-homotopy c =
     IfOk-weaker c.finish.result _ _
     (λ z e. ap (states_of (size g)) (e ∙ sum)
     ∙ states_of-homotopy c.args.axis g c.size-n.ensures.grid c.args.c c.args.corner c.args.z.now
-    (ranks_from_All (size g) c.args.z.now c.requires.ranks)) c.finish.ensures
+    (indices_from_All (size g) c.args.z.now c.requires.indices)) c.finish.ensures
 
-pub returns-clause-ranks_again : goal.returns-clause-ranks_again
-returns-clause-ranks_again c =
+pub returns-clause-indices_again : goal.returns-clause-indices_again
+returns-clause-indices_again c =
     let g = c.args.g.now in
     let codes = c.codes-code-items.result.now in
     let sum = c.loop-code.invariant
@@ -39,6 +39,6 @@ returns-clause-ranks_again c =
     (take_all c.loop-code.code-index codes c.loop-code-test.false)
     ∙ all_homotopies_added c.args.axis g c.args.c c.args.corner _ _ c.codes-code-items.ensures in
     let whole = homotopy_codes c.args.axis g c.args.c c.args.corner c.args.z.now in
-    let below = All_from_ranks (size g) whole
-    (AreRanks-homotopy c.args.axis g c.size-n.ensures.grid c.args.c c.args.corner c.args.z.now) in
-    IfOk-weaker c.finish.result _ _ (λ z e. subst (HasRanks (size g)) (sym (e ∙ sum)) below) c.finish.ensures
+    let below = All_from_indices (size g) whole
+    (AreIndices-homotopy c.args.axis g c.size-n.ensures.grid c.args.c c.args.corner c.args.z.now) in
+    IfOk-weaker c.finish.result _ _ (λ z e. subst (HasIndices (size g)) (sym (e ∙ sum)) below) c.finish.ensures

@@ -6,7 +6,8 @@ use Rattle.hexagon_map.proofs.sums.targets_across.Goals as goal
 
 pub returns-in-Cols-clause-homotopy : goal.returns-in-Cols-clause-homotopy
 returns-in-Cols-clause-homotopy c g corner sg is there back =
-    column_hexagons_listed c.args.t.now g c.odd_circles.ensures.grid c.args.axis c.args.c c.args.w c.args.v corner c.args.x.now
+    column_hexagons_listed c.args.t.now g c.odd_circles.ensures.grid c.args.axis c.args.c c.args.w c.args.v
+    corner c.args.x.now
     c.exchanges.ensures.state c.requires.size c.requires.below
     c.in-Cols.is is there back c.odd_circles.result c.odd_circles.ensures.odd c.exchanges.result.items
     c.exchanges.ensures.items

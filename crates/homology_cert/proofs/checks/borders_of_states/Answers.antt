@@ -1,4 +1,4 @@
--- One more border is that of the state of the next rank.
+-- One more border is that of the state of the next index.
 use Rattle.std.proofs.Common.{◌≡◌, ◌<◌, sym, ap, subst, ◌∙◌, arith}
 use Rattle.state_rank.specs.Bijection.{IsBijection}
 use Rattle.state_rank.specs.States.{factorial, unrank}
@@ -21,5 +21,5 @@ loop-code-preserved c =
     let below : code < factorial (size g) = omega (arith, count, c.loop-code-test.true) in
     let state = subst (IsBijection (size g)) (sym x_is) (IsBijection-unrank (size g) code below) in
     let border = border_of_state_answer g c.unrank.result state c.in_ok-border_of_state.field-0
-    c.in_ok-border_of_state.ensures.ranks c.in_ok-border_of_state.ensures.border ∙ ap (border_of_state g) x_is in
+    c.in_ok-border_of_state.ensures.indices c.in_ok-border_of_state.ensures.border ∙ ap (border_of_state g) x_is in
     grind (arith, c.loop-code.invariant, c.in_ok-push.ensures.items, border, more)

@@ -1,4 +1,4 @@
--- the borders of the states with a rank below `code`
+-- the borders of the states with an index below `code`
 use Rattle.std.proofs.Common.{◌≡◌, map}
 use Rattle.state_rank.specs.Bijection.{ascending}
 use Rattle.state_rank.specs.States.{unrank}

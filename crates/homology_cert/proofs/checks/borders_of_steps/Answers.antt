@@ -13,7 +13,7 @@ pub border-requires : goal.border-requires
 border-requires c =
     let states = c.requires c.loop-pair.pair-index c.pair-item.result c.loop-pair-test.true in
     let same = sym c.pair-item.is ∙ sym c.pair.view_is in
-    record { ranks = subst (λ (p : StepPair). AreStates c.args.g.now p.step) same states.step }
+    record { indices = subst (λ (p : StepPair). AreStates c.args.g.now p.step) same states.step }
 
 pub loop-pair-preserved : goal.loop-pair-preserved
 loop-pair-preserved c =
@@ -23,7 +23,7 @@ loop-pair-preserved c =
     let states = c.requires k c.pair-item.result c.loop-pair-test.true in
     let same = sym c.pair-item.is ∙ sym c.pair.view_is in
     let ranks = subst (λ (p : StepPair). AreStates g p.step) same states.step in
-    let answer = border_answer g c.in_ok-border.field-0 c.pair.inside.step c.in_ok-border.ensures.ranks_again ranks
+    let answer = border_answer g c.in_ok-border.field-0 c.pair.inside.step c.in_ok-border.ensures.indices_again ranks
     c.in_ok-border.ensures.border in
     let next : StepPair → Chain = λ p. border g p.step in
     c.in_ok-push.ensures.items

@@ -26,7 +26,8 @@ returns-in-Some c =
     let n = c.args.entry in
     let count : ℕ × CertTest = (n, Count) in
     let same =
-    first_failing-cycles _ k.grid _ cell.at (n + 1) _ cell.cycles c.grid.ensures.grid c.degree.ensures c.cycles-2.ensures in
+    first_failing-cycles _ k.grid _ cell.at (n + 1) _ cell.cycles c.grid.ensures.grid c.degree.ensures
+    c.cycles-2.ensures in
     let told = sym c.in-Some.is ∙ c.in_ok-failure.ensures ∙ same in
     cell_fails (Some count) (count_passes k cell) c.in-Some.failure
     (cycle_questions k.grid cell.at (n + 1) [] cell.cycles)
@@ -40,7 +41,8 @@ returns-in-None c =
     let n = c.args.entry in
     let count : ℕ × CertTest = (n, Count) in
     let cycles =
-    first_failing-cycles _ k.grid _ cell.at (n + 1) _ cell.cycles c.grid.ensures.grid c.degree.ensures c.cycles-2.ensures in
+    first_failing-cycles _ k.grid _ cell.at (n + 1) _ cell.cycles c.grid.ensures.grid c.degree.ensures
+    c.cycles-2.ensures in
     let steps =
     first_failing-steps _ k.grid _ cell.at _
     (n + 1 + length cell.cycles) _ cell.steps c.grid-in-None.ensures.grid c.degree-in-None.ensures

@@ -1,4 +1,4 @@
--- each state with a rank below `code` has a cell
+-- each state with an index below `code` has a cell
 use Rattle.std.proofs.Common.{◌≡◌, true}
 use Rattle.std.specs.List.{list_any}
 use Rattle.torus_geom.specs.Counts.{all_below}

@@ -1,4 +1,4 @@
--- the states with a rank below `code` that have the bidegree
+-- the states with an index below `code` that have the bidegree
 use Rattle.std.proofs.Common.{◌≡◌, length}
 use Rattle.std.specs.List.{filter}
 use Rattle.state_rank.specs.Bijection.{ascending}

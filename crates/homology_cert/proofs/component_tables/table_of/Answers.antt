@@ -75,7 +75,8 @@ at_end c =
 pub returns-clause-table : goal.returns-clause-table
 returns-clause-table c =
     subst (λ t. IsComponentTable c.args.g.now (map component_row t)) (sym (made c))
-    (done-table c.args.g.now c.size-size.ensures.grid c.in_ok-degrees.degrees c.in_ok-degrees.ensures c.loop-a.rows.items
+    (done-table c.args.g.now c.size-size.ensures.grid c.in_ok-degrees.degrees c.in_ok-degrees.ensures
+    c.loop-a.rows.items
     (at_end c))
 
 pub returns-clause-lengths : goal.returns-clause-lengths
@@ -87,11 +88,13 @@ returns-clause-lengths c =
 pub returns-clause-degrees : goal.returns-clause-degrees
 returns-clause-degrees c =
     subst (All IsSmall) (sym (made c))
-    (done-small c.args.g.now c.size-size.ensures.grid c.in_ok-degrees.degrees c.in_ok-degrees.ensures c.loop-a.rows.items
+    (done-small c.args.g.now c.size-size.ensures.grid c.in_ok-degrees.degrees c.in_ok-degrees.ensures
+    c.loop-a.rows.items
     (at_end c))
 
 pub returns-clause-ranks : goal.returns-clause-ranks
 returns-clause-ranks c =
     subst (All HasSmallRank) (sym (made c))
-    (done-ranks c.args.g.now c.size-size.ensures.grid c.in_ok-degrees.degrees c.in_ok-degrees.ensures c.loop-a.rows.items
+    (done-ranks c.args.g.now c.size-size.ensures.grid c.in_ok-degrees.degrees c.in_ok-degrees.ensures
+    c.loop-a.rows.items
     (at_end c))

@@ -28,7 +28,8 @@ returns c =
     record {
       found = λ z s is.
           let value = c.least.ensures.value ∙ ap least c.tables.ensures in
-          let law : alexander c.args.sums.now z ≡ least c.args.sums.now +ℤ sum_before c.args.sums.now (size c.args.sums.now) z =
+          let law : alexander c.args.sums.now z
+          ≡ least c.args.sums.now +ℤ sum_before c.args.sums.now (size c.args.sums.now) z =
           subst (λ (g : Marks). alexander g z ≡ least g +ℤ sum_before g (size g) z) c.tables.ensures
           (c.least.ensures.law z (subst (λ (g : Marks). IsBijection (size g) z) (sym c.tables.ensures) s)) in
           let low = c.least.ensures.low in

@@ -4,7 +4,7 @@ use mir.Val.{SFits}
 use Rattle.std.proofs.lemmas.Int.{to_z-of_z}
 use Rattle.std.proofs.lemmas.List.Elements.{All-nil}
 use Rattle.homology_cert.specs.Inner.Making.{HasState, IsMadeCell}
-use Rattle.homology_cert.specs.Inner.Ranks.{key_of}
+use Rattle.hat_division.specs.RankMaps.{key_of}
 use Rattle.homology_cert.proofs.Made.MakingLemmas.{keys_of, ahead, keys-pushed, made-pushed, state_of-key, made-all}
 use Rattle.homology_cert.proofs.making.cells_of.Goals as goal
 

@@ -1,4 +1,4 @@
--- The line of the states is that of their ranks.
+-- The line of the states is that of their indices.
 use Rattle.std.proofs.Common.{◌++◌, sym, ap, ◌∙◌}
 use Rattle.std.proofs.lemmas.Result.{on_ok_weaker}
 use Rattle.torus_geom.specs.Codes.{states_of}

@@ -9,7 +9,8 @@ use Rattle.std.proofs.lemmas.List.{take_more, length-take-le}
 use Rattle.sparse_complex.specs.Inner.Graph.{no_cell}
 use Rattle.gradings.specs.Degrees.{bidegree_cmp}
 use Rattle.gradings.specs.declared.degrees.Bidegree.{Bidegree}
-use Rattle.homology_cert.specs.Inner.Ranks.{key_of, rank_in, AreCounted}
+use Rattle.hat_division.specs.RankMaps.{key_of, rank_in}
+use Rattle.homology_cert.specs.Inner.Ranks.{AreCounted}
 use Rattle.homology_cert.proofs.Homology.CountLemmas.{counted-none, counted-next, count_fits}
 use Rattle.homology_cert.proofs.ranks.count_cells.Goals as goal
 

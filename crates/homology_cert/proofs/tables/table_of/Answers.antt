@@ -9,7 +9,8 @@ use Rattle.torus_geom.specs.Inner.CodeHomology.{IsHomologyTable}
 use Rattle.gradings.specs.Degrees.{bidegree_cmp}
 use Rattle.hat_division.specs.Table.{homology_row}
 use Rattle.homology_cert.specs.Tables.{HasSmallDegrees, HasSmallRank}
-use Rattle.homology_cert.specs.Inner.Ranks.{key_of, HasRanks, AreCounted, AreRows}
+use Rattle.hat_division.specs.RankMaps.{key_of}
+use Rattle.homology_cert.specs.Inner.Ranks.{HasRanks, AreCounted, AreRows}
 use Rattle.homology_cert.proofs.Homology.DegreeLemmas.{small-degrees}
 use Rattle.homology_cert.proofs.Homology.TableLemmas.{AreLeft, done-none, done-next, rows-homology_table, rows-small, rows-homology}
 use Rattle.hat_division.proofs.WordLemmas.{IfSome-value}

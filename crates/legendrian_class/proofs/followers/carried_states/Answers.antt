@@ -14,7 +14,7 @@ loop-code-preserved c =
     let codes = c.codes-code-items.result.now in
     let below =
     subst (λ (xs : List ℕ). All (λ code. code < factorial c.args.n) xs)
-    (sym c.codes-code-items.ensures) c.requires.ranks in
+    (sym c.codes-code-items.ensures) c.requires.indices in
     carried_added (symmetric_state c.args.s) c.args.n codes c.loop-code.code-index
     (get_or codes c.loop-code.code-index 0) _ _ _ _ _ c.loop-code-test.true refl
     (below c.loop-code.code-index 0 c.loop-code-test.true) c.unrank.ensures.state c.apply_state.ensures.state

@@ -14,7 +14,7 @@ loop-code-preserved c =
     let codes = c.codes-code-items.result.now in
     let below =
     subst (λ (xs : List ℕ). All (λ code. code < factorial c.args.n) xs)
-    (sym c.codes-code-items.ensures) c.requires.ranks in
+    (sym c.codes-code-items.ensures) c.requires.indices in
     carried_added (turned_state c.args.side) c.args.n codes c.loop-code.code-index
     (get_or codes c.loop-code.code-index 0) _ _ _ _ _ c.loop-code-test.true refl
     (below c.loop-code.code-index 0 c.loop-code-test.true) c.unrank.ensures.state c.turn_state.ensures.state
@@ -24,7 +24,8 @@ pub returns : goal.returns
 returns c =
     let codes = c.codes-code-items.result.now in
     let sum = c.loop-code.invariant
-    ∙ ap (sum_of_carried (turned_state c.args.side) c.args.n) (take_all c.loop-code.code-index codes c.loop-code-test.false)
+    ∙ ap (sum_of_carried (turned_state c.args.side) c.args.n)
+    (take_all c.loop-code.code-index codes c.loop-code-test.false)
     ∙ all_carried (turned_state c.args.side) (turned_state (opposite c.args.side)) c.args.n
     (turned_AreInverse c.args.side c.args.n) codes c.args.z.now c.codes-code-items.ensures in
     IfOk-weaker c.finish.result _ _ (λ z e. e ∙ sum) c.finish.ensures

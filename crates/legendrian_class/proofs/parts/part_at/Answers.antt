@@ -14,6 +14,8 @@ returns c =
     IfOk-weaker c.finish.result _ (λ part. part ≡ where_code (has_alexander c.args.tables.now c.args.a) c.args.z.now)
     (λ part e.
     e ∙ selected-all
-    (has_alexander c.args.tables.now _) c.args.z.now c.loop-code.part c.codes-code-items.result.now c.loop-code.code-index
+    (has_alexander c.args.tables.now _) c.args.z.now c.loop-code.part c.codes-code-items.result.now
+    c.loop-code.code-index
     c.codes-code-items.ensures (omega arith) c.loop-code.invariant
-    ∙ ap (λ a. where_code (has_alexander c.args.tables.now a) c.args.z.now) (to_z-of_z w32 c.args.a fits)) c.finish.ensures
+    ∙ ap (λ a. where_code (has_alexander c.args.tables.now a) c.args.z.now) (to_z-of_z w32 c.args.a fits))
+    c.finish.ensures

@@ -25,20 +25,22 @@ loop-code-init c =
 pub unrank-requires-clause-rank : goal.unrank-requires-clause-rank
 unrank-requires-clause-rank c =
     subst (λ n. c.in-Some.code < factorial n) (sym c.size-n.ensures.size)
-    (each_code (λ code. code < factorial (size c.args.g.now)) c.args.z.now c.requires.ranks c.in-Some.code
+    (each_code (λ code. code < factorial (size c.args.g.now)) c.args.z.now c.requires.indices c.in-Some.code
     (c.loop-code.invariant.within c.in-Some.code c.in-Some.ensures.least.0))
 
 pub part_verdict-requires-clause-cells : goal.part_verdict-requires-clause-cells
 part_verdict-requires-clause-cells c =
     let a = to_z w32 (of_z w32 c.alexander-a.result) in
-    subst (AllCells (at_alexander a (grid_complex c.args.g.now))) (sym (part_of_grid c.args.g.now c.of-tables.result c.in_ok-part.part a c.args.z.now c.of-tables.ensures c.in_ok-part.ensures))
-    (part-cells c.args.g.now a c.size-n.ensures.grid c.args.z.now c.requires.ranks)
+    subst (AllCells (at_alexander a (grid_complex c.args.g.now))) (sym (part_of_grid c.args.g.now c.of-tables.result
+    c.in_ok-part.part a c.args.z.now c.of-tables.ensures c.in_ok-part.ensures))
+    (part-cells c.args.g.now a c.size-n.ensures.grid c.args.z.now c.requires.indices)
 
 pub part_verdict-requires-clause-cycle : goal.part_verdict-requires-clause-cycle
 part_verdict-requires-clause-cycle c =
     let a = to_z w32 (of_z w32 c.alexander-a.result) in
-    ap (border (at_alexander a (grid_complex c.args.g.now))) (part_of_grid c.args.g.now c.of-tables.result c.in_ok-part.part a c.args.z.now c.of-tables.ensures c.in_ok-part.ensures)
-    ∙ part-cycle c.args.g.now a c.size-n.ensures.grid c.args.z.now c.requires.ranks
+    ap (border (at_alexander a (grid_complex c.args.g.now))) (part_of_grid c.args.g.now c.of-tables.result
+    c.in_ok-part.part a c.args.z.now c.of-tables.ensures c.in_ok-part.ensures)
+    ∙ part-cycle c.args.g.now a c.size-n.ensures.grid c.args.z.now c.requires.indices
     (border-grid_complex c.args.g.now c.args.z.now ∙ c.requires.cycle)
 
 pub returns-in-Alive : goal.returns-in-Alive
@@ -46,7 +48,8 @@ returns-in-Alive c =
     let g = c.args.g.now in
     let a = to_z w32 (of_z w32 c.alexander-a.result) in
     IsAlive-by g c.args.z.now c.in-Alive.cocycle
-    (alive-whole g c.size-n.ensures.grid c.args.z.now c.requires.ranks a c.in_ok-part.part (part_of_grid c.args.g.now c.of-tables.result c.in_ok-part.part a c.args.z.now c.of-tables.ensures c.in_ok-part.ensures)
+    (alive-whole g c.size-n.ensures.grid c.args.z.now c.requires.indices a c.in_ok-part.part (part_of_grid c.args.g.now
+    c.of-tables.result c.in_ok-part.part a c.args.z.now c.of-tables.ensures c.in_ok-part.ensures)
     (border-grid_complex g c.args.z.now ∙ c.requires.cycle) c.in-Alive.cocycle
     (subst (IsPartVerdict (at_alexander a (grid_complex g)) c.in_ok-part.part) c.in-Alive.is c.in_ok-cocycle.ensures))
 
@@ -60,7 +63,8 @@ loop-code-smaller c =
     ∙ ap (λ h. alexander h c.unrank.result) c.of-tables.ensures
     ∙ ap (alexander g) (c.unrank.ensures.state ∙ ap (λ n. unrank n c.in-Some.code) c.size-n.ensures.size) in
     subst (λ left. length (codes left) < length (codes c.loop-code.left)) (sym c.in_ok-left-2.ensures)
-    (less-left g c.size-n.ensures.grid c.args.z.now c.requires.ranks a c.in_ok-part.part (part_of_grid c.args.g.now c.of-tables.result c.in_ok-part.part a c.args.z.now c.of-tables.ensures c.in_ok-part.ensures)
+    (less-left g c.size-n.ensures.grid c.args.z.now c.requires.indices a c.in_ok-part.part (part_of_grid c.args.g.now
+    c.of-tables.result c.in_ok-part.part a c.args.z.now c.of-tables.ensures c.in_ok-part.ensures)
     c.loop-code.left c.loop-code.bound c.loop-code.invariant c.in-Some.code c.in-Some.ensures.least.0 each_code)
 
 pub loop-code-preserved : goal.loop-code-preserved
@@ -74,7 +78,8 @@ loop-code-preserved c =
     ∙ ap (alexander g) (c.unrank.ensures.state ∙ ap (λ n. unrank n c.in-Some.code) c.size-n.ensures.size) in
     let sums = ap₂ (IsNullBut g c.args.z.now) c.in_ok-left-2.ensures c.in_ok-bound-in-Null.ensures in
     subst (λ (T : Type 0). T) (sym sums)
-    (null-next g c.size-n.ensures.grid c.args.z.now c.requires.ranks a c.in_ok-part.part (part_of_grid c.args.g.now c.of-tables.result c.in_ok-part.part a c.args.z.now c.of-tables.ensures c.in_ok-part.ensures)
+    (null-next g c.size-n.ensures.grid c.args.z.now c.requires.indices a c.in_ok-part.part (part_of_grid c.args.g.now
+    c.of-tables.result c.in_ok-part.part a c.args.z.now c.of-tables.ensures c.in_ok-part.ensures)
     c.loop-code.left c.loop-code.bound c.loop-code.invariant c.in-Some.code c.in-Some.ensures.least.0 each_code
     c.in-Null.more
     (subst (IsPartVerdict (at_alexander a (grid_complex g)) c.in_ok-part.part) c.in-Null.is c.in_ok-cocycle.ensures))

@@ -39,7 +39,8 @@ push_cell-requires-clause-state t c =
     let s = c.requires.branch in
     let leaf = branch-leaf c.args.sums.now s.grid c.args.a c.args.branch.now s
     (c.if-c-n.true ∙ c.size-n.ensures.size ∙ s.state.long) in
-    subst (λ (g : Marks). c.args.branch.now.first ≡ unrank (size g) c.args.branch.now.base) (sym c.tables.ensures) leaf.0
+    subst (λ (g : Marks). c.args.branch.now.first ≡ unrank (size g) c.args.branch.now.base)
+    (sym c.tables.ensures) leaf.0
 
 pub returns-then-c-n : goal.returns-then-c-n
 returns-then-c-n t c =

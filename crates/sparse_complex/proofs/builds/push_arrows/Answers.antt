@@ -46,7 +46,8 @@ bounds-keys-rank c =
     let x_is : c.unrank-x.result ≡ unrank (size c.args.marks.now) (code_at c.args.cells.now c.args.key) =
     c.unrank-x.ensures.state ∙ ap (λ n. unrank n (code_at c.args.cells.now c.args.key)) c.size.ensures.size in
     let border : map rank c.as_slice-y-items.result.now ≡ codes (border_of_state c.args.marks.now c.unrank-x.result) =
-    listed-border c.args.marks.now c.args.a c.args.cells.now c.requires.cells c.args.key c.requires.key c.unrank-x.result x_is
+    listed-border c.args.marks.now c.args.a c.args.cells.now c.requires.cells c.args.key c.requires.key
+    c.unrank-x.result x_is
     c.as_slice-y-items.result.now (c.as_slice-y-items.ensures ∙ c.targets_by-states.ensures.border) in
     let r_is : c.rank.result ≡ rank (get_or c.as_slice-y-items.result.now c.loop-y.y-index c.y-item.result) =
     c.rank.ensures.rank ∙ ap rank c.y-item.is in
@@ -67,7 +68,8 @@ link-requires-clause-ends c =
     let x_is : c.unrank-x.result ≡ unrank (size c.args.marks.now) (code_at c.args.cells.now c.args.key) =
     c.unrank-x.ensures.state ∙ ap (λ n. unrank n (code_at c.args.cells.now c.args.key)) c.size.ensures.size in
     let border : map rank c.as_slice-y-items.result.now ≡ codes (border_of_state c.args.marks.now c.unrank-x.result) =
-    listed-border c.args.marks.now c.args.a c.args.cells.now c.requires.cells c.args.key c.requires.key c.unrank-x.result x_is
+    listed-border c.args.marks.now c.args.a c.args.cells.now c.requires.cells c.args.key c.requires.key
+    c.unrank-x.result x_is
     c.as_slice-y-items.result.now (c.as_slice-y-items.ensures ∙ c.targets_by-states.ensures.border) in
     let fits : SFits w32 c.args.a = search rules in
     let place =
@@ -86,13 +88,15 @@ link-requires-clause-ends c =
     c.requires.keys c.args.key c.requires.key c.as_slice-y-items.result.now c.unrank-x.result x_is border
     c.loop-y.y-index c.y-item.result c.loop-y-test.true in (
       source-in
-          (at_alexander c.args.a (grid_complex c.args.marks.now)) c.args.cells.now c.args.keys.now c.requires.keys c.args.key
+          (at_alexander c.args.a (grid_complex c.args.marks.now)) c.args.cells.now c.args.keys.now
+          c.requires.keys c.args.key
           c.requires.key
           (map rank (take c.loop-y.y-index c.as_slice-y-items.result.now)) c.loop-y.links place c.rank.result live
           fresh,
       subst (λ q. q < width c.loop-y.links) (sym read)
           (target-in
-          (at_alexander c.args.a (grid_complex c.args.marks.now)) c.args.cells.now c.args.keys.now c.requires.keys c.args.key
+          (at_alexander c.args.a (grid_complex c.args.marks.now)) c.args.cells.now c.args.keys.now
+          c.requires.keys c.args.key
           c.requires.key
           (map rank (take c.loop-y.y-index c.as_slice-y-items.result.now)) c.loop-y.links place c.rank.result live
           fresh),
@@ -104,7 +108,8 @@ link-requires-clause-absent c =
     let x_is : c.unrank-x.result ≡ unrank (size c.args.marks.now) (code_at c.args.cells.now c.args.key) =
     c.unrank-x.ensures.state ∙ ap (λ n. unrank n (code_at c.args.cells.now c.args.key)) c.size.ensures.size in
     let border : map rank c.as_slice-y-items.result.now ≡ codes (border_of_state c.args.marks.now c.unrank-x.result) =
-    listed-border c.args.marks.now c.args.a c.args.cells.now c.requires.cells c.args.key c.requires.key c.unrank-x.result x_is
+    listed-border c.args.marks.now c.args.a c.args.cells.now c.requires.cells c.args.key c.requires.key
+    c.unrank-x.result x_is
     c.as_slice-y-items.result.now (c.as_slice-y-items.ensures ∙ c.targets_by-states.ensures.border) in
     let fits : SFits w32 c.args.a = search rules in
     let place =
@@ -134,7 +139,8 @@ loop-y-preserved c =
     let x_is : c.unrank-x.result ≡ unrank (size c.args.marks.now) (code_at c.args.cells.now c.args.key) =
     c.unrank-x.ensures.state ∙ ap (λ n. unrank n (code_at c.args.cells.now c.args.key)) c.size.ensures.size in
     let border : map rank c.as_slice-y-items.result.now ≡ codes (border_of_state c.args.marks.now c.unrank-x.result) =
-    listed-border c.args.marks.now c.args.a c.args.cells.now c.requires.cells c.args.key c.requires.key c.unrank-x.result x_is
+    listed-border c.args.marks.now c.args.a c.args.cells.now c.requires.cells c.args.key c.requires.key
+    c.unrank-x.result x_is
     c.as_slice-y-items.result.now (c.as_slice-y-items.ensures ∙ c.targets_by-states.ensures.border) in
     let fits : SFits w32 c.args.a = search rules in
     let place =
@@ -168,7 +174,8 @@ loop-y-preserved c =
           (at_alexander c.args.a (grid_complex c.args.marks.now)) c.args.cells.now c.args.key done c.link.new.self)
           (sym more)
           (arrows-step
-          (at_alexander c.args.a (grid_complex c.args.marks.now)) c.args.cells.now c.args.keys.now c.requires.keys c.args.key
+          (at_alexander c.args.a (grid_complex c.args.marks.now)) c.args.cells.now c.args.keys.now
+          c.requires.keys c.args.key
           c.requires.key
           (map rank (take c.loop-y.y-index c.as_slice-y-items.result.now)) c.loop-y.links place c.rank.result live
           fresh c.link.new.self c.link.ensures.listed linked));
@@ -181,7 +188,8 @@ returns c =
     let x_is : c.unrank-x.result ≡ unrank (size c.args.marks.now) (code_at c.args.cells.now c.args.key) =
     c.unrank-x.ensures.state ∙ ap (λ n. unrank n (code_at c.args.cells.now c.args.key)) c.size.ensures.size in
     let border : map rank c.as_slice-y-items.result.now ≡ codes (border_of_state c.args.marks.now c.unrank-x.result) =
-    listed-border c.args.marks.now c.args.a c.args.cells.now c.requires.cells c.args.key c.requires.key c.unrank-x.result x_is
+    listed-border c.args.marks.now c.args.a c.args.cells.now c.requires.cells c.args.key c.requires.key
+    c.unrank-x.result x_is
     c.as_slice-y-items.result.now (c.as_slice-y-items.ensures ∙ c.targets_by-states.ensures.border) in
     let fits : SFits w32 c.args.a = search rules in
     let place =

@@ -20,14 +20,16 @@ one_up-requires c =
 pub exchange-requires-clause-a_below : goal.exchange-requires-clause-a_below
 exchange-requires-clause-a_below c =
     let long = size-stabilised c.args.g.now c.args.c Ne c.size.ensures.grid c.requires.column in
-    let length_is = ap length c.plus_state.ensures.state ∙ (plus_state-state c.stabilise-stabilised.result c.size-2.ensures.grid).long
+    let length_is = ap length c.plus_state.ensures.state
+    ∙ (plus_state-state c.stabilise-stabilised.result c.size-2.ensures.grid).long
     ∙ ap size c.stabilise-stabilised.ensures.grid ∙ long in
     let below = c.requires.column in
     omega arith
 
 pub exchange-requires-clause-b_below : goal.exchange-requires-clause-b_below
 exchange-requires-clause-b_below c =
-    let length_is = ap length c.plus_state.ensures.state ∙ (plus_state-state c.stabilise-stabilised.result c.size-2.ensures.grid).long in
+    let length_is = ap length c.plus_state.ensures.state
+    ∙ (plus_state-state c.stabilise-stabilised.result c.size-2.ensures.grid).long in
     let size_is = c.size-2.ensures.size in
     let below = c.one_up.ensures.below in
     omega arith

@@ -13,7 +13,8 @@ overflow_mul-count c =
     let product : c.loop-k.count * (c.from.result + 1) ≡ factorial (c.loop-k.k + 1) =
     (λ i. c.loop-k.invariant i * (c.from.ensures i + 1)) ∙ factorial-next c.loop-k.k in
     let fits : c.loop-k.count * (c.from.result + 1) < 2 ^ 32 =
-    subst (λ p. p < 2 ^ 32) (sym product) (next_factorial_fits c.loop-k.k c.args.n c.loop-k-test.true c.requires.greatest) in
+    subst (λ p. p < 2 ^ 32) (sym product)
+    (next_factorial_fits c.loop-k.k c.args.n c.loop-k-test.true c.requires.greatest) in
     record { fits = fits }
 
 pub loop-k-preserved : goal.loop-k-preserved

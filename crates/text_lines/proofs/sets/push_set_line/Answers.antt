@@ -1,4 +1,4 @@
--- The line of the ranks is that of the states.
+-- The line of the indices is that of the states.
 use Rattle.std.proofs.Common.{◌++◌, ◌∷◌, [], ap, append_assoc, ◌∙◌}
 use Rattle.std.specs.List.{flat_map}
 use Rattle.std.proofs.lemmas.List.{take_all}
@@ -20,4 +20,4 @@ returns c =
     c.in_ok-push-2.ensures.items
     ∙ ap (λ text. text ++ 10 ∷ []) all
     ∙ append_assoc before (set_line word n c.args.z.now) (10 ∷ [])
-    ∙ ap (λ words. before ++ line words) (set_line-states word n c.args.z.now c.requires.ranks)
+    ∙ ap (λ words. before ++ line words) (set_line-states word n c.args.z.now c.requires.indices)

@@ -14,7 +14,8 @@ loop-c-init c =
     c.size-c.ensures.size ∙ ap size (sym c.of-tables.ensures) in
     let places : 1 * 2 ^ c.size.result % 2 ^ 64 ≡ 2 ^ size c.of-tables.result =
     ap (λ n. 1 * 2 ^ n % 2 ^ 64) (c.size.ensures.size ∙ ap size (sym c.of-tables.ensures))
-    ∙ one_shl (size c.of-tables.result) 64 (subst (λ (g : Marks). size g < 64) (sym c.of-tables.ensures) (omega arith)) in
+    ∙ one_shl (size c.of-tables.result) 64
+    (subst (λ (g : Marks). size g < 64) (sym c.of-tables.ensures) (omega arith)) in
     let sets : c.in_ok-sets.sets.items ≡ replicate (2 ^ size c.of-tables.result) 1 =
     c.in_ok-sets.ensures.items_if_clones_equal (λ y e. e) ∙ ap (λ m. replicate m 1) places in (
       ap length sets ∙ length-replicate (2 ^ size c.of-tables.result) 1,

@@ -1,6 +1,6 @@
 -- The image has states of the exchanged grid; the laws hold of the grid as it was.
 use Rattle.std.proofs.Common.{ap, subst, sym, ◌∙◌}
-use Rattle.torus_geom.specs.Codes.{HasRanks}
+use Rattle.torus_geom.specs.Codes.{HasIndices}
 use Rattle.torus_geom.specs.Marks.{IsGrid, size}
 use Rattle.grid_moves.proofs.Exchanged.SwappedTwice.{size-swapped}
 use Rattle.legendrian_class.specs.Followed.{after_commutation}
@@ -11,9 +11,9 @@ use Rattle.legendrian_class.proofs.followers.Follower.commute.Goals as goal
 
 pub invariant_of-self : goal.invariant_of-self
 invariant_of-self c =
-    subst (λ n. HasRanks n c.in_ok-self-inside.field-0)
+    subst (λ n. HasIndices n c.in_ok-self-inside.field-0)
     (sym (ap size c.swap-self-inside.ensures.grid ∙ size-swapped c.args.axis c.self.inside.grid c.args.c))
-    c.in_ok-self-inside.ensures.ranks_again
+    c.in_ok-self-inside.ensures.indices_again
 
 pub returns-clause-after : goal.returns-clause-after
 returns-clause-after c =

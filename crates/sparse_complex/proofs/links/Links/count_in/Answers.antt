@@ -46,7 +46,8 @@ loop-at-preserved c =
       on = s.on;
       ahead = counted_step c.args.source c.loop-at.count c.from-count.result _ c.get-node.result.from _ _
           (ap (froms c.args.self.now) s.ahead
-          ∙ ap (λ k. k ∷ froms c.args.self.now (ins_from c.args.self.now.pool.nodes c.get-node.result.next_in)) s.from_is)
+          ∙ ap (λ k. k ∷ froms c.args.self.now
+          (ins_from c.args.self.now.pool.nodes c.get-node.result.next_in)) s.from_is)
           c.from-count.ensures c.loop-at.invariant.ahead;
     }
 

@@ -26,7 +26,8 @@ of_parts-requires-clause-by_key c =
     let links =
     subst (λ (a : ℤ). AreLinksBelow (at_alexander a (grid_complex c.args.g.now)) c.in_ok-cells.cells.items
     (length c.in_ok-cells.cells.items) c.in_ok-links.links) (to_z-of_z w32 c.args.a fits)
-    (subst (λ (cs : List Cell). AreLinksBelow (at_alexander (to_z w32 (of_z w32 c.args.a)) (grid_complex c.args.g.now)) cs
+    (subst (λ (cs : List Cell). AreLinksBelow
+    (at_alexander (to_z w32 (of_z w32 c.args.a)) (grid_complex c.args.g.now)) cs
     (length cs) c.in_ok-links.links) c.deref-3.ensures.value c.in_ok-links.ensures) in
     stored-built (at_alexander c.args.a (grid_complex c.args.g.now)) (factorial (size c.args.g.now))
     (part_rules c.args.g.now c.args.a c.size-size.ensures.grid) refl
@@ -45,7 +46,8 @@ of_parts-requires-clause-rules c =
     let links =
     subst (λ (a : ℤ). AreLinksBelow (at_alexander a (grid_complex c.args.g.now)) c.in_ok-cells.cells.items
     (length c.in_ok-cells.cells.items) c.in_ok-links.links) (to_z-of_z w32 c.args.a fits)
-    (subst (λ (cs : List Cell). AreLinksBelow (at_alexander (to_z w32 (of_z w32 c.args.a)) (grid_complex c.args.g.now)) cs
+    (subst (λ (cs : List Cell). AreLinksBelow
+    (at_alexander (to_z w32 (of_z w32 c.args.a)) (grid_complex c.args.g.now)) cs
     (length cs) c.in_ok-links.links) c.deref-3.ensures.value c.in_ok-links.ensures) in
     built-rules (at_alexander c.args.a (grid_complex c.args.g.now)) (factorial (size c.args.g.now))
     (part_rules c.args.g.now c.args.a c.size-size.ensures.grid) refl
@@ -64,7 +66,8 @@ returns c =
     let links =
     subst (λ (a : ℤ). AreLinksBelow (at_alexander a (grid_complex c.args.g.now)) c.in_ok-cells.cells.items
     (length c.in_ok-cells.cells.items) c.in_ok-links.links) (to_z-of_z w32 c.args.a fits)
-    (subst (λ (cs : List Cell). AreLinksBelow (at_alexander (to_z w32 (of_z w32 c.args.a)) (grid_complex c.args.g.now)) cs
+    (subst (λ (cs : List Cell). AreLinksBelow
+    (at_alexander (to_z w32 (of_z w32 c.args.a)) (grid_complex c.args.g.now)) cs
     (length cs) c.in_ok-links.links) c.deref-3.ensures.value c.in_ok-links.ensures) in
     ap slice_complex c.of_parts.ensures
     ∙ built-is (at_alexander c.args.a (grid_complex c.args.g.now)) (factorial (size c.args.g.now))

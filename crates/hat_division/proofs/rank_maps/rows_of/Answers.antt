@@ -3,8 +3,8 @@ use Rattle.std.proofs.Common.{◌≡◌, ℕ, ◌++◌, ◌∷◌, [], map, w32,
 use mir.Val.{SFits}
 use Rattle.std.proofs.lemmas.Int.{to_z-of_z}
 use Rattle.gradings.specs.declared.degrees.Bidegree.{Bidegree}
-use Rattle.homology_cert.specs.Inner.Ranks.{row_of}
-use Rattle.homology_cert.proofs.ranks.rows_of.Goals as goal
+use Rattle.hat_division.specs.RankMaps.{row_of}
+use Rattle.hat_division.proofs.rank_maps.rows_of.Goals as goal
 
 pub loop-bidegree-init : goal.loop-bidegree-init
 loop-bidegree-init c =

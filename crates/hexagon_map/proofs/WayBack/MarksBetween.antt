@@ -103,7 +103,7 @@ module _ (o p q t : ℕ) (d : AreFourRows o p q t) where
       (ltb p q) (ltb q p) (ltb p t) (ltb t p) (ltb q t) (ltb t q))
 
 -- the crossings w and v, of columns with the rows o and p, and t and q
-pub record AreQuiet (o p q t w v : ℕ) : Type 0 where
+pub record HaveNoMarkBetween (o p q t w v : ℕ) : Type 0 where
   pub differ : v ≢ w
   pub right_o : above_of v w t ≡ false
   pub right_x : above_of v w q ≡ false
@@ -115,30 +115,56 @@ ends a b = ap (λ z. z && differ b a) (between_end a b)
 
 module _ (o p q t : ℕ) (d : AreFourRows o p q t) (same_side : beq (between o p t) (between o p q) ≡ true) where
   -- `Over`: the first row of the right column met from o, and the first row of the left column met from t
-  pub over_quiet : (x y : Bool) → between o q t ≡ x → between t p o ≡ y → AreQuiet o p q t (cond x t q) (cond y o p)
+  pub no_mark_between-over : (x y : Bool) → between o q t ≡ x → between t p o ≡ y
+      → HaveNoMarkBetween o p q t (cond x t q) (cond y o p)
   unfolding over_told
-  over_quiet true true e f =
+  no_mark_between-over true true e f =
       let k = both_false o p q t d _ _ (given (between o q t && between t p o) _ (λ i. e i && f i)
       (and_parts _ _ (and_parts _ _ (given _ _ same_side (over_is o p q t d))).0).0) in
-      record { differ = d.ot; right_o = ends o t; right_x = above_of-out o t q k.0; left_o = ends t o; left_x = above_of-out t o p k.1 }
-  over_quiet true false e f =
+      record {
+        differ = d.ot;
+        right_o = ends o t;
+        right_x = above_of-out o t q k.0;
+        left_o = ends t o;
+        left_x = above_of-out t o p k.1;
+      }
+  no_mark_between-over true false e f =
       let k = both_false o p q t d _ _ (given (between o q t && not (between t p o)) _ (λ i. e i && not (f i))
       (and_parts _ _ (and_parts _ _ (given _ _ same_side (over_is o p q t d))).0).1) in
-      record { differ = d.pt; right_o = ends p t; right_x = above_of-out p t q k.0; left_o = above_of-out t p o k.1; left_x = ends t p }
-  over_quiet false true e f =
+      record {
+        differ = d.pt;
+        right_o = ends p t;
+        right_x = above_of-out p t q k.0;
+        left_o = above_of-out t p o k.1;
+        left_x = ends t p;
+      }
+  no_mark_between-over false true e f =
       let k = both_false o p q t d _ _ (given (not (between o q t) && between t p o) _ (λ i. not (e i) && f i)
       (and_parts _ _ (and_parts _ _ (given _ _ same_side (over_is o p q t d))).1).0) in
-      record { differ = d.oq; right_o = above_of-out o q t k.0; right_x = ends o q; left_o = ends q o; left_x = above_of-out q o p k.1 }
-  over_quiet false false e f =
+      record {
+        differ = d.oq;
+        right_o = above_of-out o q t k.0;
+        right_x = ends o q;
+        left_o = ends q o;
+        left_x = above_of-out q o p k.1;
+      }
+  no_mark_between-over false false e f =
       let k = both_false o p q t d _ _
       (given (not (between o q t) && not (between t p o)) _ (λ i. not (e i) && not (f i))
       (and_parts _ _ (and_parts _ _ (given _ _ same_side (over_is o p q t d))).1).1) in
-      record { differ = d.pq; right_o = above_of-out p q t k.0; right_x = ends p q; left_o = above_of-out q p o k.1; left_x = ends q p }
+      record {
+        differ = d.pq;
+        right_o = above_of-out p q t k.0;
+        right_x = ends p q;
+        left_o = above_of-out q p o k.1;
+        left_x = ends q p;
+      }
 
   -- `Under`: the last row of the left column met from t, and the last row of the right column met from o
-  pub under_quiet : (x y : Bool) → between t p o ≡ x → between o q t ≡ y → AreQuiet o p q t (cond x p o) (cond y q t)
+  pub no_mark_between-under : (x y : Bool) → between t p o ≡ x → between o q t ≡ y
+      → HaveNoMarkBetween o p q t (cond x p o) (cond y q t)
   unfolding under_told
-  under_quiet true true e f =
+  no_mark_between-under true true e f =
       let k = both_false o p q t d _ _ (given (between t p o && between o q t) _ (λ i. e i && f i)
       (and_parts _ _ (and_parts _ _ (given _ _ same_side (under_is o p q t d))).0).0) in
       record {
@@ -148,7 +174,7 @@ module _ (o p q t : ℕ) (d : AreFourRows o p q t) (same_side : beq (between o p
         left_o = above_of-out p q o k.1;
         left_x = above_of-start p q;
       }
-  under_quiet true false e f =
+  no_mark_between-under true false e f =
       let k = both_false o p q t d _ _ (given (between t p o && not (between o q t)) _ (λ i. e i && not (f i))
       (and_parts _ _ (and_parts _ _ (given _ _ same_side (under_is o p q t d))).0).1) in
       record {
@@ -158,7 +184,7 @@ module _ (o p q t : ℕ) (d : AreFourRows o p q t) (same_side : beq (between o p
         left_o = above_of-out p t o k.1;
         left_x = above_of-start p t;
       }
-  under_quiet false true e f =
+  no_mark_between-under false true e f =
       let k = both_false o p q t d _ _ (given (not (between t p o) && between o q t) _ (λ i. not (e i) && f i)
       (and_parts _ _ (and_parts _ _ (given _ _ same_side (under_is o p q t d))).1).0) in
       record {
@@ -168,7 +194,7 @@ module _ (o p q t : ℕ) (d : AreFourRows o p q t) (same_side : beq (between o p
         left_o = above_of-start o q;
         left_x = above_of-out o q p k.1;
       }
-  under_quiet false false e f =
+  no_mark_between-under false false e f =
       let k = both_false o p q t d _ _
       (given (not (between t p o) && not (between o q t)) _ (λ i. not (e i) && not (f i))
       (and_parts _ _ (and_parts _ _ (given _ _ same_side (under_is o p q t d))).1).1) in
@@ -200,7 +226,8 @@ module _ (g : Marks) (s : IsGrid g) (c : ℕ) (lc : c < size g) (h : are_commuti
   same_size : size there ≡ n
   same_size = length-swap g.o b c
 
-  rows_exchanged : (rows : List ℕ) → IsBijection n rows → slice_index (swap rows b c) ≡ with_exchanged (slice_index rows) b c
+  rows_exchanged : (rows : List ℕ) → IsBijection n rows
+      → slice_index (swap rows b c) ≡ with_exchanged (slice_index rows) b c
   rows_exchanged rows k = let e = k.long in let l = lc in let m = lb in
       swap-with_exchanged rows b c (omega arith) (omega arith)
 
@@ -224,10 +251,10 @@ module _ (g : Marks) (s : IsGrid g) (c : ℕ) (lc : c < size g) (h : are_commuti
   commutes_there = are_commuting-swapped Cols g s c lc h
 
   -- the crossings are in different rows, and what is between them
-  pub crossings_quiet : (corner : Corner)
-      → AreQuiet (slice_index g.o b) (slice_index g.x b) (slice_index g.x c) (slice_index g.o c)
+  pub no_mark_between-crossings : (corner : Corner)
+      → HaveNoMarkBetween (slice_index g.o b) (slice_index g.x b) (slice_index g.x c) (slice_index g.o c)
       (crossing_row g c corner) (crossing_row (swapped_columns g c) c corner)
-  crossings_quiet Over =
+  no_mark_between-crossings Over =
       let o : ℕ = slice_index g.o b in
       let p : ℕ = slice_index g.x b in
       let q : ℕ = slice_index g.x c in
@@ -236,10 +263,11 @@ module _ (g : Marks) (s : IsGrid g) (c : ℕ) (lc : c < size g) (h : are_commuti
       crossing_row-over there grid_there c below_there commutes_there
       ∙ (λ i. cond (between (left_row g.o s.o i) (right_row g.x s.x i) (right_row g.o s.o i))
       (right_row g.o s.o i) (right_row g.x s.x i)) in
-      subst (λ w. AreQuiet o p q t w (crossing_row there c Over)) (sym (crossing_row-over g s c lc h))
-      (subst (AreQuiet o p q t (cond (between o q t) t q)) (sym back)
-      (over_quiet o p q t (four_rows g s c lc h) (none_or_both g s c lc h) (between o q t) (between t p o) refl refl))
-  crossings_quiet Under =
+      subst (λ w. HaveNoMarkBetween o p q t w (crossing_row there c Over)) (sym (crossing_row-over g s c lc h))
+      (subst (HaveNoMarkBetween o p q t (cond (between o q t) t q)) (sym back)
+      (no_mark_between-over o p q t (four_rows g s c lc h) (none_or_both g s c lc h) (between o q t)
+      (between t p o) refl refl))
+  no_mark_between-crossings Under =
       let o : ℕ = slice_index g.o b in
       let p : ℕ = slice_index g.x b in
       let q : ℕ = slice_index g.x c in
@@ -248,6 +276,7 @@ module _ (g : Marks) (s : IsGrid g) (c : ℕ) (lc : c < size g) (h : are_commuti
       crossing_row-under there grid_there c below_there commutes_there
       ∙ (λ i. cond (between (right_row g.o s.o i) (left_row g.x s.x i) (left_row g.o s.o i))
       (left_row g.x s.x i) (left_row g.o s.o i)) in
-      subst (λ w. AreQuiet o p q t w (crossing_row there c Under)) (sym (crossing_row-under g s c lc h))
-      (subst (AreQuiet o p q t (cond (between t p o) p o)) (sym back)
-      (under_quiet o p q t (four_rows g s c lc h) (none_or_both g s c lc h) (between t p o) (between o q t) refl refl))
+      subst (λ w. HaveNoMarkBetween o p q t w (crossing_row there c Under)) (sym (crossing_row-under g s c lc h))
+      (subst (HaveNoMarkBetween o p q t (cond (between t p o) p o)) (sym back)
+      (no_mark_between-under o p q t (four_rows g s c lc h) (none_or_both g s c lc h) (between t p o)
+      (between o q t) refl refl))

@@ -1,0 +1,1 @@
+"""A second gridhom, written from docs/FORMATS.md and docs/DEFINITIONS.md alone, for small grids."""
