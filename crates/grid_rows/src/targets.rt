@@ -15,8 +15,8 @@ fn images_of_states(rt: HostRuntime) -> Result<(), Fail> {
     assert!(rt; commutes(&g, Axis::Cols, 2));
     let image = pentagon_targets(rt.alloc(), &g, Axis::Cols, 2, Corner::Over, &x);
     assert_eq!(rt; image.len(), 2);
-    assert_eq!(rt; image[0].rows(), &[1, 0, 2, 3]);
-    assert_eq!(rt; image[1].rows(), &[1, 2, 3, 0]);
+    assert_eq!(rt; image[0].rows(), [1, 0, 2, 3].as_slice());
+    assert_eq!(rt; image[1].rows(), [1, 2, 3, 0].as_slice());
     Ok(())
 }
 
@@ -29,6 +29,6 @@ fn homotopies_of_states(rt: HostRuntime) -> Result<(), Fail> {
     assert!(rt; commutes(&g, Axis::Cols, 1));
     let homotopy = hexagon_targets(rt.alloc(), &g, Axis::Cols, 1, Corner::Over, &x);
     assert_eq!(rt; homotopy.len(), 1);
-    assert_eq!(rt; homotopy[0].rows(), &[3, 0, 1, 2]);
+    assert_eq!(rt; homotopy[0].rows(), [3, 0, 1, 2].as_slice());
     Ok(())
 }
