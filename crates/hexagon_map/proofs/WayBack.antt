@@ -1,8 +1,12 @@
 pub mod RotatedRows
 pub mod RowFacts
+pub mod HexagonWeights
 pub mod HexagonTables
 pub mod RowShapes
 pub mod Hexagons
+pub mod HexagonsAtThree
+pub mod HexagonsAtFour
+pub mod ThinAnnuli
 pub mod ThinHexagons
 pub mod MarksBetween
 pub mod HexagonSums

@@ -10,7 +10,7 @@ use Rattle.pentagon_map.proofs.Degrees.CountedFrom.{counted_from, counted_from-a
 use Rattle.hexagon_map.proofs.WayBack.RotatedRows.{in_low, in_high, make_in, make_wrap, make_out}
 use Rattle.hexagon_map.proofs.WayBack.RowFacts as F
 use Rattle.hexagon_map.proofs.WayBack.RowFacts.{Order, early, late, above, below, Lies, lies, k, into, into_first, into_last, away, zero_in, zero_back, make_back, make_back_out, hex_rows, at_first, but_second, but_third}
-use Rattle.hexagon_map.proofs.WayBack.HexagonTables.{up, rel, arc_of, Shape, all_rel}
+use Rattle.hexagon_map.proofs.WayBack.HexagonWeights.{up, rel, arc_of, Shape, all_rel}
 use Rattle.pentagon_map.proofs.ChainMap.PentagonTests.{lacks, lacks_add}
 
 -- three arcs, from a, x and e
