@@ -8,6 +8,7 @@ pub mod ScriptLemmas
 pub mod BlockLemmas
 pub mod KeywordLemmas
 pub mod CommandLemmas
+pub mod OneCommandLemmas
 pub mod ReadLemmas
 pub mod BodyLemmas
 pub mod StabLemmas

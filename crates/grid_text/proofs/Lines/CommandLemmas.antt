@@ -1,52 +1,41 @@
 -- The lines of commands. A line with a command that may stand there has no fault before the last row of the table:
 -- its words are good for their kinds, which are those of the table, where it exchanges columns or rows they commute,
--- where it undoes a stabilisation there is the block, and where it stabilises there is room. A line is that of one
--- command.
+-- where it undoes a stabilisation there is the block, and where it stabilises there is room. No such line is `end`.
 use Rattle.std.proofs.Common.{◌≡◌, ℕ, ◌+◌, ◌-◌, ◌<◌, ◌^◌, true, false, not, ◌||◌, ◌&&◌, cond, List, [], ◌∷◌, length, map, None, Some, refl, ap, subst, ◌∙◌, sym, arith, true≢false}
 use Rattle.std.specs.Prelude.{nat_le, ◌==◌}
 use Rattle.std.specs.Option.{option_map_or}
-use Rattle.std.specs.List.Sorted.{IsPermutation}
 use Rattle.std.specs.List.{list_any, Contains, All}
 use Rattle.std.specs.Fmt.{decimal}
 use Rattle.std.proofs.lemmas.List.Sorted.{All-permutation, IsPermutation-sym}
 use Rattle.std.proofs.lemmas.List.Elements.{All-contains, All-head, All-tail}
-use Rattle.std.proofs.lemmas.Fmt.{decimal_injective}
 use Rattle.state_rank.specs.States.{state_word}
 use Rattle.state_rank.specs.Bijection.{IsBijection, greatest_size}
 use Rattle.state_rank.proofs.MemberLemmas.{member_head, member_tail}
 use Rattle.torus_geom.specs.Marks.{Marks, size}
 use Rattle.grid_moves.specs.Moves.{are_commuting}
-use Rattle.grid_moves.specs.declared.turns.Side.{Side}
-use Rattle.grid_moves.specs.declared.turns.Side.TheVariants.{Left, Right, Up, Down}
 use Rattle.grid_moves.specs.declared.commutations.Axis.{Axis}
 use Rattle.grid_moves.specs.declared.commutations.Axis.TheVariants.{Cols, Rows}
 use Rattle.grid_symmetry.specs.declared.symmetries.Symmetry.{Symmetry}
 use Rattle.grid_symmetry.specs.declared.symmetries.Symmetry.TheVariants.{Flip, Half, Mirror, Marks as ExchangeMarks}
-use Rattle.pentagon_map.specs.declared.Corner.{Corner}
-use Rattle.pentagon_map.specs.declared.Corner.TheVariants.{Over, Under}
 use Rattle.grid_text.specs.Limits.{max_commands}
-use Rattle.grid_text.specs.Words.{Word, is_comment, is_blank, is_word}
+use Rattle.grid_text.specs.Words.{Word, is_word}
 use Rattle.stabilise.specs.Stabilised.{is_block}
 use Rattle.stabilise.specs.declared.squares.Square.{Square}
-use Rattle.stabilise.specs.declared.squares.Square.TheVariants.{Nw, Ne, Sw, Se}
-use Rattle.grid_text.specs.Commands.{sign_word, side_word, corner_word, square_word, axis_word, symmetry_word, stab_word, destab_word, invert_word, state, argument_word, command_row, command_words, IsLineOf, IsAllowed, IsStateOf}
+use Rattle.grid_text.specs.Commands.{square_word, symmetry_word, stab_word, state, argument_word, command_row, command_words, IsLineOf, IsAllowed, IsStateOf}
 use Rattle.grid_text.specs.Script.{GridScript, IsScript, grid_in_force}
 use Rattle.grid_text.specs.Document.{body, end_word}
 use Rattle.grid_text.specs.Faults.{Form, exactly, any_number_of, state_of_size, kind_of, is_bad_by, form_at, has_repeated, fails_to_commute, is_not_commuting, has_no_block, is_not_block, is_at_limit, fault_in_table}
 use Rattle.grid_text.specs.Inner.Kinds.{is_bad}
-use Rattle.grid_text.specs.declared.commands.Sign.{Sign}
-use Rattle.grid_text.specs.declared.commands.Sign.TheVariants.{Plus, Minus}
 use Rattle.grid_text.specs.declared.commands.Command.{Command}
 use Rattle.grid_text.specs.declared.commands.Command.TheVariants as command
 use Rattle.grid_text.specs.declared.faults.TextFault.TheVariants as fault
 use Rattle.grid_text.proofs.Lines.WordLemmas.{is_word-same, numeral-decimal}
-use Rattle.state_rank.proofs.WordLemmas.{state_word_injective}
 use Rattle.grid_text.proofs.Lines.KindLemmas.{state-good, list_any-never, AreGood, arguments-good, arguments-count, square-found}
 use Rattle.grid_text.proofs.Lines.BlockLemmas.{has_no_block-read, below_greatest}
 use Rattle.grid_text.proofs.Lines.KeywordLemmas.{form_at-command, not_end}
 use Rattle.grid_text.proofs.Lines.FaultLemmas.{NoRowHolds, fault_in_table-last}
 use Rattle.grid_text.proofs.Lines.ScriptLemmas.{IsGrid-grid_in_force}
-use Rattle.grid_text.proofs.States.ChainLemmas.{repeated-none, one_chain}
+use Rattle.grid_text.proofs.States.ChainLemmas.{repeated-none}
 
 -- ---- the words of a chain
 
@@ -117,7 +106,7 @@ module _ (s : GridScript) (h : IsScript s) where
   n = size (grid_in_force s)
 
   -- it is small
-  n-small : n < 2 ^ 32
+  pub n-small : n < 2 ^ 32
   n-small = let most = (IsGrid-grid_in_force s h).is_size.greatest in omega arith
 
   -- a command with good arguments in their order
@@ -256,7 +245,8 @@ fault_in_table-faultless s h words f =
     ∙ ap (λ b. cond (not b && nat_le max_commands (length s.commands)) (Some fault.TooMany) None) f.no_end
 
 -- the line `end`
-pub fault_in_table-end : (s : GridScript) (words : List Word) → words ≡ end_word ∷ [] → fault_in_table (body s) words ≡ None
+pub fault_in_table-end : (s : GridScript) (words : List Word) → words ≡ end_word ∷ []
+    → fault_in_table (body s) words ≡ None
 fault_in_table-end s words e =
     ap (fault_in_table (body s)) e
     ∙ fault_in_table-last (body s) (exactly []) (end_word ∷ []) [] refl refl refl
@@ -281,221 +271,3 @@ command-not_end s h words c line allowed e =
     let whole : f.first ∷ f.arguments ≡ end_word ∷ [] = sym f.is ∙ e in
     let first : f.first ≡ end_word = cc in
     true≢false (sym (is_word-same end_word) ∙ ap (is_word end_word) (sym first) ∙ f.no_end)
-
--- ---- a line is that of one command
-
--- the words for choices are different
-sign_apart : (v w : Sign) → is_word (sign_word v) (sign_word w) ≡ true → v ≡ w
-sign_apart Plus Plus t = refl
-sign_apart Plus Minus t = cc
-sign_apart Minus Plus t = cc
-sign_apart Minus Minus t = refl
-
-side_apart : (v w : Side) → is_word (side_word v) (side_word w) ≡ true → v ≡ w
-side_apart Left Left t = refl
-side_apart Left w t = cc
-side_apart Right Right t = refl
-side_apart Right w t = cc
-side_apart Up Up t = refl
-side_apart Up w t = cc
-side_apart Down Down t = refl
-side_apart Down w t = cc
-
-corner_apart : (v w : Corner) → is_word (corner_word v) (corner_word w) ≡ true → v ≡ w
-corner_apart Over Over t = refl
-corner_apart Over Under t = cc
-corner_apart Under Over t = cc
-corner_apart Under Under t = refl
-
-square_apart : (v w : Square) → is_word (square_word v) (square_word w) ≡ true → v ≡ w
-square_apart Nw Nw t = refl
-square_apart Nw w t = cc
-square_apart Ne Ne t = refl
-square_apart Ne w t = cc
-square_apart Sw Sw t = refl
-square_apart Sw w t = cc
-square_apart Se Se t = refl
-square_apart Se w t = cc
-
-symmetry_apart : (v w : Symmetry) → is_word (symmetry_word v) (symmetry_word w) ≡ true → v ≡ w
-symmetry_apart Flip Flip t = refl
-symmetry_apart Flip w t = cc
-symmetry_apart Half Half t = refl
-symmetry_apart Half w t = cc
-symmetry_apart Mirror Mirror t = refl
-symmetry_apart Mirror w t = cc
-symmetry_apart ExchangeMarks ExchangeMarks t = refl
-symmetry_apart ExchangeMarks w t = cc
-
-axis_apart : (v w : Axis) → is_word (axis_word v) (axis_word w) ≡ true → v ≡ w
-axis_apart Cols Cols t = refl
-axis_apart Cols Rows t = cc
-axis_apart Rows Cols t = cc
-axis_apart Rows Rows t = refl
-
--- one word is the other
-same_is_word : (v w : Word) → v ≡ w → is_word v w ≡ true
-same_is_word v w e = ap (is_word v) (sym e) ∙ is_word-same v
-
--- the first words of two lines, and the others
-cons-head : (v w : Word) (x y : List Word) → v ∷ x ≡ w ∷ y → v ≡ w
-cons-head v w x y e = cc
-
-cons-tail : (v w : Word) (x y : List Word) → v ∷ x ≡ w ∷ y → x ≡ y
-cons-tail v w x y e = cc
-
-second_word : {u t v w : Word} {x y : List Word} → u ∷ v ∷ x ≡ t ∷ w ∷ y → v ≡ w
-second_word e = cc
-
-third_word : {u t v w p q : Word} {x y : List Word} → u ∷ v ∷ p ∷ x ≡ t ∷ w ∷ q ∷ y → p ≡ q
-third_word e = cc
-
-fourth_word : {u t v w p q r m : Word} {x y : List Word} → u ∷ v ∷ p ∷ r ∷ x ≡ t ∷ w ∷ q ∷ m ∷ y → r ≡ m
-fourth_word e = cc
-
--- commands of one first word are one, but for their arguments
-abbrev AreAlike : Command → Command → Type 0
-AreAlike (command.Class v) (command.Class w) = Unit {0}
-AreAlike (command.Border x) (command.Border y) = Unit {0}
-AreAlike (command.Chain z) (command.Chain w) = Unit {0}
-AreAlike (command.Turn v) (command.Turn w) = Unit {0}
-AreAlike (command.Commute i c v) (command.Commute j d w) = Unit {0}
-AreAlike (command.Stab c v) (command.Stab d w) = Unit {0}
-AreAlike (command.Destab c r v) (command.Destab d q w) = Unit {0}
-AreAlike (command.Invert i c v) (command.Invert j d w) = Unit {0}
-AreAlike (command.Symm v) (command.Symm w) = Unit {0}
-AreAlike c d = c ≡ d
-
-alike : (c d : Command) → is_word (command_row c).0 (command_row d).0 ≡ true → AreAlike c d
-alike (command.Class v) (command.Class w) t = tt
-alike (command.Border x) (command.Border y) t = tt
-alike (command.Chain z) (command.Chain w) t = tt
-alike (command.Turn v) (command.Turn w) t = tt
-alike (command.Commute i c v) (command.Commute j d w) t = tt
-alike (command.Stab c v) (command.Stab d w) t = tt
-alike (command.Destab c r v) (command.Destab d q w) t = tt
-alike (command.Invert i c v) (command.Invert j d w) t = tt
-alike (command.Symm v) (command.Symm w) t = tt
-alike (command.Symm Flip) (command.Commute Cols d w) t = cc
-alike (command.Symm Flip) (command.Commute Rows d w) t = cc
-alike (command.Symm Half) (command.Commute Cols d w) t = cc
-alike (command.Symm Half) (command.Commute Rows d w) t = cc
-alike (command.Symm Mirror) (command.Commute Cols d w) t = cc
-alike (command.Symm Mirror) (command.Commute Rows d w) t = cc
-alike (command.Symm ExchangeMarks) (command.Commute Cols d w) t = cc
-alike (command.Symm ExchangeMarks) (command.Commute Rows d w) t = cc
-alike (command.Commute Cols d w) (command.Symm Flip) t = cc
-alike (command.Commute Rows d w) (command.Symm Flip) t = cc
-alike (command.Commute Cols d w) (command.Symm Half) t = cc
-alike (command.Commute Rows d w) (command.Symm Half) t = cc
-alike (command.Commute Cols d w) (command.Symm Mirror) t = cc
-alike (command.Commute Rows d w) (command.Symm Mirror) t = cc
-alike (command.Commute Cols d w) (command.Symm ExchangeMarks) t = cc
-alike (command.Commute Rows d w) (command.Symm ExchangeMarks) t = cc
-alike (command.Commute Cols c v) d t = cc
-alike (command.Commute Rows c v) d t = cc
-alike c (command.Commute Cols d w) t = cc
-alike c (command.Commute Rows d w) t = cc
-alike (command.Symm Flip) d t = cc
-alike (command.Symm Half) d t = cc
-alike (command.Symm Mirror) d t = cc
-alike (command.Symm ExchangeMarks) d t = cc
-alike c (command.Symm Flip) t = cc
-alike c (command.Symm Half) t = cc
-alike c (command.Symm Mirror) t = cc
-alike c (command.Symm ExchangeMarks) t = cc
-alike c d t = cc
-
--- the first word of a line is that of the command
-first_of_line : (words : List Word) (c : Command) → IsLineOf words c
-    → (rest : List Word) × (words ≡ (command_row c).0 ∷ rest)
-first_of_line words (command.Chain z) l = (map argument_word (map state l.0), l.2)
-first_of_line words c l = (map argument_word (command_row c).1, l)
-
--- the line of a command is not blank
-pub command-filled : (words : List Word) (c : Command) → IsLineOf words c → is_blank words ≡ false
-command-filled words c l = ap is_blank (first_of_line words c l).1 ∙ first_filled c
-  where
-    first_filled : (c : Command) → is_comment (command_row c).0 ≡ false
-    first_filled (command.Commute Cols c v) = refl
-    first_filled (command.Commute Rows c v) = refl
-    first_filled (command.Symm Flip) = refl
-    first_filled (command.Symm Half) = refl
-    first_filled (command.Symm Mirror) = refl
-    first_filled (command.Symm ExchangeMarks) = refl
-    first_filled c = refl
-
--- commands of one line have one first word
-alike_of_line : (words : List Word) (c d : Command) → IsLineOf words c → IsLineOf words d → AreAlike c d
-alike_of_line words c d l m =
-    let first = first_of_line words c l in
-    let other = first_of_line words d m in
-    let whole : (command_row c).0 ∷ first.0 ≡ (command_row d).0 ∷ other.0 = sym first.1 ∙ other.1 in
-    alike c d (same_is_word (command_row c).0 (command_row d).0
-    (cons-head (command_row c).0 (command_row d).0 first.0 other.0 whole))
-
--- the states of one list of words are one list
-same_states : (x y : List (List ℕ)) → map state_word x ≡ map state_word y → x ≡ y
-same_states [] [] e = refl
-same_states [] (b ∷ y) e = cc
-same_states (a ∷ x) [] e = cc
-same_states (a ∷ x) (b ∷ y) e =
-    let heads : state_word a ≡ state_word b = cc in
-    let tails : map state_word x ≡ map state_word y = cc in
-    (λ i. state_word_injective a b heads i ∷ same_states x y tails i)
-
--- a line is that of one command
-pub one_command : (s : GridScript) → IsScript s → (words : List Word) (c d : Command) → IsLineOf words c
-    → IsAllowed (grid_in_force s) c → IsLineOf words d → IsAllowed (grid_in_force s) d → c ≡ d
-one_command s h words (command.Class v) (command.Class w) l a m b =
-    ap command.Class (sign_apart v w (same_is_word _ _ (second_word (sym l ∙ m))))
-one_command s h words (command.Border x) (command.Border y) l a m b =
-    ap command.Border (state_word_injective x y (second_word (sym l ∙ m)))
-one_command s h words (command.Turn v) (command.Turn w) l a m b =
-    ap command.Turn (side_apart v w (same_is_word _ _ (second_word (sym l ∙ m))))
-one_command s h words (command.Chain z) (command.Chain w) l a m b =
-    let same = same_states l.0 m.0 (cons-tail _ _ _ _ (sym (chain_words l.0) ∙ sym l.2 ∙ m.2 ∙ chain_words m.0)) in
-    ap command.Chain (one_chain m.0 z w (subst (λ x. IsPermutation x z) same l.1) m.1 a.1 b.1)
-one_command s h words (command.Commute i c v) (command.Commute j d w) l a m b =
-    let whole : axis_word i ∷ decimal c ∷ corner_word v ∷ [] ≡ axis_word j ∷ decimal d ∷ corner_word w ∷ [] =
-    sym l ∙ m in
-    let small = n-small s h in
-    let below = a.0 in
-    let below' = b.0 in
-    let axis = axis_apart i j (same_is_word _ _ (cons-head _ _ _ _ whole)) in
-    let number = decimal_injective c d (omega arith) (omega arith) (second_word whole) in
-    let corner = corner_apart v w (same_is_word _ _ (third_word whole)) in
-    (λ k. command.Commute (axis k) (number k) (corner k))
-one_command s h words (command.Stab c v) (command.Stab d w) l a m b =
-    let whole : stab_word ∷ decimal c ∷ square_word v ∷ [] ≡ stab_word ∷ decimal d ∷ square_word w ∷ [] = sym l ∙ m in
-    let small = n-small s h in
-    let below = a.0 in
-    let below' = b.0 in
-    let number = decimal_injective c d (omega arith) (omega arith) (second_word whole) in
-    let square = square_apart v w (same_is_word _ _ (third_word whole)) in
-    (λ k. command.Stab (number k) (square k))
-one_command s h words (command.Destab c r v) (command.Destab d q w) l a m b =
-    let whole : destab_word ∷ decimal c ∷ decimal r ∷ square_word v ∷ []
-    ≡ destab_word ∷ decimal d ∷ decimal q ∷ square_word w ∷ [] = sym l ∙ m in
-    let small = n-small s h in
-    let column_below = a.0 in
-    let row_below = a.1 in
-    let column_below' = b.0 in
-    let row_below' = b.1 in
-    let column = decimal_injective c d (omega arith) (omega arith) (second_word whole) in
-    let row = decimal_injective r q (omega arith) (omega arith) (third_word whole) in
-    let square = square_apart v w (same_is_word _ _ (fourth_word whole)) in
-    (λ k. command.Destab (column k) (row k) (square k))
-one_command s h words (command.Invert i c v) (command.Invert j d w) l a m b =
-    let whole : invert_word ∷ axis_word i ∷ decimal c ∷ corner_word v ∷ []
-    ≡ invert_word ∷ axis_word j ∷ decimal d ∷ corner_word w ∷ [] = sym l ∙ m in
-    let small = n-small s h in
-    let below = a.0 in
-    let below' = b.0 in
-    let axis = axis_apart i j (same_is_word _ _ (second_word whole)) in
-    let number = decimal_injective c d (omega arith) (omega arith) (third_word whole) in
-    let corner = corner_apart v w (same_is_word _ _ (fourth_word whole)) in
-    (λ k. command.Invert (axis k) (number k) (corner k))
-one_command s h words (command.Symm v) (command.Symm w) l a m b =
-    ap command.Symm (symmetry_apart v w (same_is_word _ _ (cons-head _ _ _ _ (sym l ∙ m))))
-one_command s h words c d l a m b = alike_of_line words c d l m

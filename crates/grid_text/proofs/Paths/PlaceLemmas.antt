@@ -22,7 +22,8 @@ use Rattle.grid_text.proofs.Lines.ScriptLemmas.{IsScript-with_command, IsScript-
 use Rattle.grid_text.proofs.Lines.ReadLemmas.{body-read}
 use Rattle.std.proofs.lemmas.Bool.{lt-leb, cases_Bool}
 use Rattle.grid_text.proofs.States.RepeatedLemmas.{below-IsBijection}
-use Rattle.grid_text.proofs.Lines.CommandLemmas.{faultless, fault_in_table-faultless, fault_in_table-end, command-not_end, command-filled, one_command}
+use Rattle.grid_text.proofs.Lines.CommandLemmas.{faultless, fault_in_table-faultless, fault_in_table-end, command-not_end}
+use Rattle.grid_text.proofs.Lines.OneCommandLemmas.{command-filled, one_command}
 use Rattle.grid_text.proofs.Lines.FaultLemmas.{fault_in_table-ended}
 use Rattle.grid_text.proofs.Lines.WordLemmas.{is_word-same}
 use Rattle.grid_text.proofs.Paths.HeadLemmas.{head-known, head-right, head-cases}
