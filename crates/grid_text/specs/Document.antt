@@ -7,9 +7,9 @@
 --     grid_word v, picture_word   the words that begin a head: that of its number form for each version, and that of
 --                            its picture form, which is of version 1
 --     o_word, x_word, end_word   the first words of the other lines of the number form, and the last line
---     body_of v g            in the body of a document of this version, with no command so far
---     below_row n o x        where the next line stands after a row of a picture of size n, with that row in the lists:
---                            in the picture, or after the last row in the body
+--     body_of v g            the place in the body of a document of this version, with no command so far
+--     below_row n o x        the place below a row of a picture of size n, with that row in the lists: in the picture,
+--                            or below the last row in the body
 --     LeadsOn p words q      the words have a form that is allowed at the place p, and the line leads on to q
 --     Leads p words q        a line with these words is allowed at the place p and leads to q: a blank line to p
 --                            itself, another by its form

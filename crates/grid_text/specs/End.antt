@@ -1,5 +1,6 @@
 -- Why a text has no script.
---     IsTextEnd text e     a text that is refused has this first fault at this line; memory may run out at any
+--     IsTextEnd text e     the text has the first fault that e names, at the line that it names; or e is that memory
+--                          ran out, which may be so of any text
 use Rattle.std.specs.Prelude.{ℕ, List}
 use Rattle.grid_text.specs.Faults.{IsFirstFault}
 use Rattle.grid_text.specs.declared.judgement.TextEnd.{TextEnd}

@@ -17,7 +17,7 @@
 --     arguments_at p words   the words that the form is about: those after the first, or in a row of a picture its
 --                            symbols, each as a word
 --
--- The tests, for a line with these arguments, where it is no other:
+-- The tests, each of a line with these arguments if it names nothing else:
 --     is_after_end p                   the place is after the end
 --     is_bad_count form arguments      the number of words is not that of the form
 --     is_bad_by f kind word            the word is not of the kind, and this is its fault
@@ -29,11 +29,11 @@
 --                                      exactly one O and one X, or has one in a column where a row before it has one
 --     has_same_square p arguments      on an X line, the row of some column is that of its O
 --     has_repeated_state form arguments   two states of a line `chain` are the same
---     fails_to_commute axis g word     columns, or rows, c - 1 and c of g do not commute, where the word is c
+--     fails_to_commute axis g word     the word is a number c, and columns, or rows, c - 1 and c of g do not commute
 --     fails_by_words g first word      the first word is that of an axis, and its columns or rows do not commute
 --     is_not_commuting p words         a line `cols`, `rows` or `invert` is about such columns or rows
---     has_no_block g c r v             the grid has no block in which the square v is empty, where the words are those of
---                                      its first column, its first row and this square
+--     has_no_block g c r v             the grid has no block in which the square v is empty; the words are those of its
+--                                      first column, its first row and this square
 --     is_not_block p words             a line `destab` names no block
 --     is_at_limit p words              a line `stab` follows on a grid of the greatest size
 --     is_one_too_many p words          a command follows the greatest number of them
@@ -43,12 +43,12 @@
 --     table p words                    all rows, in order, for a line with these words at the place p
 --     first_passed rows                the fault of the first row whose test passes
 --     fault_in_table p words           the fault that the table gives for such a line
---     line_fault p words               the fault of such a line: none of a blank line, and else that in the table
---     rest_fault p lines               the fault with which lines begin at the place p: that of the first of them;
---                                      where there is none, `NoEnd` if the place is not after the end
+--     line_fault p words               the fault of such a line: none if it is blank, and else that in the table
+--     rest_fault p lines               the fault that lines at the place p begin with: that of the first of them; if
+--                                      there are no lines, `NoEnd` unless the place is after the end
 --     HaveFirstFault lines f line      lines with these words have the first fault f at the line of this number,
 --                                      counted from 1
---     IsFirstFault text f line         so have the lines of the text
+--     IsFirstFault text f line         the lines of the text have this first fault at this line
 use Rattle.std.specs.Prelude.{◌≡◌, ℕ, ◌+◌, ◌-◌, Bool, true, false, ◌&&◌, ◌||◌, not, List, [], ◌∷◌, ◌++◌, length, map, replicate, drop, is_none, nat_le, slice_index_or, count_by, ◌==◌, if◌then◌else◌}
 use Rattle.std.specs.declared.option.Option.{Option}
 use Rattle.std.specs.declared.option.Option.TheVariants.{None, Some}
@@ -128,7 +128,8 @@ form_among [] word = None
 form_among (row ∷ rows) word = if is_word row.0 word then Some row.1 else form_among rows word
 
 abbrev pub form_at : Place → Word → Option Form
-form_at head word = form_among ((grid_word 1, size_form) ∷ (grid_word 2, size_form) ∷ (picture_word, size_form) ∷ []) word
+form_at head word =
+    form_among ((grid_word 1, size_form) ∷ (grid_word 2, size_form) ∷ (picture_word, size_form) ∷ []) word
 form_at (o_line v n) word = form_among ((o_word, row_form n) ∷ []) word
 form_at (x_line v n o) word = form_among ((x_word, row_form n) ∷ []) word
 form_at (picture n o x) word = Some (exactly (replicate n (choice_of symbol_words)))
@@ -185,7 +186,8 @@ fails_to_commute a g word = option_map_or (λ c. not (are_commuting a g c)) (num
 
 abbrev pub fails_by_words : Marks → Word → Word → Bool
 fails_by_words g v c =
-    (is_word (axis_word Cols) v && fails_to_commute Cols g c) || (is_word (axis_word Rows) v && fails_to_commute Rows g c)
+    (is_word (axis_word Cols) v && fails_to_commute Cols g c)
+    || (is_word (axis_word Rows) v && fails_to_commute Rows g c)
 
 abbrev pub is_not_commuting : Place → List Word → Bool
 is_not_commuting (body s) (v ∷ c ∷ w ∷ []) = fails_by_words (grid_in_force s) v c
@@ -194,7 +196,8 @@ is_not_commuting p words = false
 
 abbrev pub has_no_block : Marks → Word → Word → Word → Bool
 has_no_block g c r v = option_map_or (λ d. option_map_or (λ q. option_map_or (λ empty. not (is_block g d q empty))
-    (find (λ e. is_word (square_word e) v) squares) false) (numeral 0 (size g - 2) r) false) (numeral 0 (size g - 2) c) false
+    (find (λ e. is_word (square_word e) v) squares) false)
+    (numeral 0 (size g - 2) r) false) (numeral 0 (size g - 2) c) false
 
 abbrev pub is_not_block : Place → List Word → Bool
 is_not_block (body s) (w ∷ c ∷ r ∷ v ∷ []) = is_word destab_word w && has_no_block (grid_in_force s) c r v

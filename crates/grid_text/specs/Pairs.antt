@@ -13,7 +13,8 @@
 --                                    that of the last line
 --     IsFirstPairFault text f line   what the text is refused for: the first fault of the first part; or that there
 --                                    is no line `next`; or the first fault of the second part
---     IsPairEnd text e               a text that is refused is so for this; memory may run out at any
+--     IsPairEnd text e               the text is refused for what e names, at the line that it names; or e is that
+--                                    memory ran out, which may be so of any text
 use Rattle.std.specs.Prelude.{◌≡◌, ◌⊎◌, ℕ, ◌+◌, Bool, false, List, [], ◌∷◌, length, codes, if◌then◌else◌}
 use Rattle.std.specs.declared.option.Option.{Option}
 use Rattle.std.specs.declared.option.Option.TheVariants.{None, Some}

@@ -1,10 +1,11 @@
 -- A script: a version, a grid and the commands that are carried out on it, in order. The version says how tables are
 -- printed: 1 is that of documents that begin with `grid N` or `picture N`, 2 that of those that begin with `grid2 N`.
 --     GridScript                   a version, a grid and a list of commands
---     grid_after_all g commands    the grid in force after the commands, where it is g before them
+--     grid_after_all g commands    the grid in force after the commands, if it is g before them
 --     AreAllowed g commands        each of the commands may stand where it does
 --     IsVersion v                  v is a version
---     IsScript s                   so it is with the script's, which are not too many, and it has a version
+--     IsScript s                   the version is one, the grid is a grid, the commands are not too many, and each of
+--                                  them may stand where it does
 --     grid_in_force s              the grid in force where the next command stands
 --     with_command s c             the script with one more command
 use Rattle.std.specs.Prelude.{◌≡◌, ◌⊎◌, ℕ, ◌≤◌, List, [], ◌∷◌, ◌++◌, length}

@@ -1,7 +1,7 @@
 -- The lines and words of a text, which is a list of bytes, and which number or state a word is.
 --     Word                   a list of bytes
---     parts is_end bytes     the bytes up to each byte that ends a part, and where bytes follow the last such
---                            byte, these as one more part
+--     parts is_end bytes     the bytes up to each byte that ends a part, and if bytes follow the last such byte, these
+--                            as one more part
 --     before_parts b parts   the parts, with the byte before the first
 --     is_filled bytes        there are some
 --     without_return bytes   the bytes, without a carriage return, 13, at their end

@@ -99,9 +99,8 @@ module _ (s : GridScript) (arguments : List Word) where
       → is_bad_count (keyword_form (size (grid_in_force s)) k) arguments ≡ not (kinds == length arguments)
       → length arguments ≢ kinds → fault_in_table (body s) (keyword_word k ∷ arguments) ≡ Some fault.BadCount
   key-count k kinds form other =
-      fault_in_table-count (body s) (keyword_form (size (grid_in_force s)) k) (keyword_word k ∷ arguments) arguments refl
-      (form_at-keyword s k) refl
-      (form ∙ count-other kinds arguments other)
+      fault_in_table-count (body s) (keyword_form (size (grid_in_force s)) k) (keyword_word k ∷ arguments) arguments
+      refl (form_at-keyword s k) refl (form ∙ count-other kinds arguments other)
 
   -- a keyword that stands alone
   pub alone-count : (k : Keyword) → stands_alone k ≡ true → 0 < length arguments

@@ -56,7 +56,8 @@ two_words (w ∷ []) e = absurd (omega arith)
 two_words (v ∷ w ∷ []) e = (v, w, refl)
 two_words (v ∷ w ∷ u ∷ words) e = absurd (omega arith)
 
-pub three_words : (words : List Word) → length words ≡ 3 → (u : Word) × (v : Word) × (w : Word) × (words ≡ u ∷ v ∷ w ∷ [])
+pub three_words : (words : List Word) → length words ≡ 3
+    → (u : Word) × (v : Word) × (w : Word) × (words ≡ u ∷ v ∷ w ∷ [])
 three_words [] e = absurd (omega arith)
 three_words (w ∷ []) e = absurd (omega arith)
 three_words (v ∷ w ∷ []) e = absurd (omega arith)

@@ -21,7 +21,8 @@ module _ (is_end : ℕ → Bool) where
   -- the first part ends at the first byte that ends one
   pub parts-at : (part after : List ℕ) (end : ℕ) → All (λ b. is_end b ≡ false) part → is_end end ≡ true
       → parts is_end (part ++ end ∷ after) ≡ part ∷ parts is_end after
-  parts-at [] after end none here = ap (λ t. cond t ([] ∷ parts is_end after) (before_parts end (parts is_end after))) here
+  parts-at [] after end none here =
+      ap (λ t. cond t ([] ∷ parts is_end after) (before_parts end (parts is_end after))) here
   parts-at (b ∷ part) after end none here =
       parts-byte b (part ++ end ∷ after) (none 0 b (omega arith))
       ∙ ap (before_parts b) (parts-at part after end (λ k d l. none (suc k) d (omega arith)) here)

@@ -1,6 +1,6 @@
--- The first line of the head, `grid`, `grid2` or `picture` with a size. It has a fault by the first of: another first word,
--- another number of words, and a word that is no size (`head-word` to `head-number`); without a fault it has a size
--- (`head-read`).
+-- The first line of the head, `grid`, `grid2` or `picture` with a size. It has a fault by the first of: another first
+-- word, another number of words, and a word that is no size (`head-word` to `head-number`); without a fault it has a
+-- size (`head-read`).
 use Rattle.std.proofs.Common.{◌≡◌, ◌≢◌, ◌⊎◌, ℕ, true, false, ◌||◌, cond, List, [], ◌∷◌, length, Option, None, Some, refl, ap, subst, ◌∙◌, sym, arith, inl, inr}
 use Rattle.std.specs.Prelude.{is_none}
 use Rattle.std.specs.Fmt.{decimal}

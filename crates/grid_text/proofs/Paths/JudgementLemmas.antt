@@ -216,7 +216,8 @@ ended_script s (picture n o x) = s
 ended_script s (body t) = s
 
 -- no lines are those of two scripts
-pub one_script_of_lines : (lines : List (List Word)) (s t : GridScript) → Path head lines (ended s) → Path head lines (ended t)
+pub one_script_of_lines : (lines : List (List Word)) (s t : GridScript) → Path head lines (ended s)
+    → Path head lines (ended t)
     → s ≡ t
 unfolding ended_script
 one_script_of_lines lines s t d e = ap (ended_script s) (one_end head (ended s) (ended t) lines tt d e)

@@ -87,7 +87,8 @@ every_text text = every_outcome (words_of_lines text)
 -- the first faults of the same lines are one
 same_fault : (p q r : Place) (a b after later : List (List Word)) (v w : List Word) (f g : TextFault) → IsPlace p
     → Path p a q → Path p b r
-    → a ++ v ∷ after ≡ b ++ w ∷ later → line_fault q v ≡ Some f → line_fault r w ≡ Some g → (f ≡ g) × (length a ≡ length b)
+    → a ++ v ∷ after ≡ b ++ w ∷ later → line_fault q v ≡ Some f → line_fault r w ≡ Some g
+    → (f ≡ g) × (length a ≡ length b)
 unfolding head_of tail_of
 same_fault p q r [] [] after later v w f g h s t e x y =
     let words : v ≡ w = ap (head_of v) e in
@@ -138,7 +139,8 @@ one_fault_of_ways lines f g line number (inr x) (inr y) = (x.1 ∙ sym y.1, x.0.
 pub one_fault_of_lines : (lines : List (List Word)) (f g : TextFault) (line number : ℕ) → HaveFirstFault lines f line
     → HaveFirstFault lines g number → (f ≡ g) × (line ≡ number)
 one_fault_of_lines lines f g line number x y =
-    one_fault_of_ways lines f g line number (HaveFirstFault-cases lines f line x) (HaveFirstFault-cases lines g number y)
+    one_fault_of_ways lines f g line number (HaveFirstFault-cases lines f line x)
+    (HaveFirstFault-cases lines g number y)
 
 -- so has a text
 pub one_fault : (text : List ℕ) (f g : TextFault) (line number : ℕ) → IsFirstFault text f line

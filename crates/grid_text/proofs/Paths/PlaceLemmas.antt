@@ -64,7 +64,8 @@ few-last : (n : ℕ) → n < max_commands → nat_le max_commands n ≡ false
 few-last n few = lt-leb max_commands n few
 
 -- a line of a form that is allowed has no fault in the table
-fault_in_table-leads_on : (p q : Place) (words : List Word) → IsPlace p → LeadsOn p words q → fault_in_table p words ≡ None
+fault_in_table-leads_on : (p q : Place) (words : List Word) → IsPlace p → LeadsOn p words q
+    → fault_in_table p words ≡ None
 fault_in_table-leads_on head q words h (n, small, inl l) =
     ap (fault_in_table head) l.2 ∙ head-right (grid_word l.0) (head-known l.0 l.1) n small
 fault_in_table-leads_on head q words h (n, small, inr l) =
@@ -190,7 +191,8 @@ line_fault-blank : (p : Place) (words : List Word) → is_blank words ≡ true �
 unfolding line_fault
 line_fault-blank p words blank = ap (λ b. cond b None (fault_in_table p words)) blank
 
-pub line_fault-filled : (p : Place) (words : List Word) → is_blank words ≡ false → line_fault p words ≡ fault_in_table p words
+pub line_fault-filled : (p : Place) (words : List Word) → is_blank words ≡ false
+    → line_fault p words ≡ fault_in_table p words
 unfolding line_fault
 line_fault-filled p words filled = ap (λ b. cond b None (fault_in_table p words)) filled
 

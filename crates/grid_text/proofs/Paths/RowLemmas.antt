@@ -209,7 +209,8 @@ pub IsRowPlace-o_line : (v n : ℕ) → IsRowPlace o_word n (o_line v n)
 IsRowPlace-o_line v n = record { not_ended = refl; form = λ w. refl; arguments = λ w a. refl; permutation = λ a. refl }
 
 pub IsRowPlace-x_line : (v n : ℕ) (o : List ℕ) → IsRowPlace x_word n (x_line v n o)
-IsRowPlace-x_line v n o = record { not_ended = refl; form = λ w. refl; arguments = λ w a. refl; permutation = λ a. refl }
+IsRowPlace-x_line v n o =
+    record { not_ended = refl; form = λ w. refl; arguments = λ w a. refl; permutation = λ a. refl }
 
 -- no O is in the square of an X
 pub squares-apart : (o x : List ℕ) → length o ≡ length x

@@ -37,14 +37,15 @@ chain_arguments c z states is same =
     ∙ ap (λ d. after_space (map argument_word (command_row d).1)) (sym is)
 
 -- what was printed is the plain form
-pub plain_form-printed : (s : GridScript) (v : ℕ) (g : Marks) (commands : List Command) (k : ℕ) (start head loop all : List ℕ)
+pub plain_form-printed : (s : GridScript) (v : ℕ) (g : Marks) (commands : List Command) (k : ℕ)
+    (start head loop all : List ℕ)
     → v ≡ s.version → g ≡ s.grid → commands ≡ s.commands → length commands ≤ k
     → start ≡ [] → head ≡ start ++ head_lines v g → loop ≡ head ++ flat_map command_line (take k commands)
     → all ≡ loop ++ codes "end\n" → all ≡ plain_form s
 unfolding plain_form
-plain_form-printed s v g commands k start head loop all same_v same_g same done empty printed_head printed_loop printed_end =
-    printed_end
+plain_form-printed s v g commands k start head loop all same_v same_g same done empty with_head with_loop with_end =
+    with_end
     ∙ ap (λ t. t ++ codes "end\n")
-    (printed_loop ∙ ap (λ cs. head ++ flat_map command_line cs) (take_all k commands done ∙ same)
+    (with_loop ∙ ap (λ cs. head ++ flat_map command_line cs) (take_all k commands done ∙ same)
     ∙ ap (λ t. t ++ flat_map command_line s.commands)
-    (printed_head ∙ ap (λ t. t ++ head_lines v g) empty ∙ (λ i. head_lines (same_v i) (same_g i))))
+    (with_head ∙ ap (λ t. t ++ head_lines v g) empty ∙ (λ i. head_lines (same_v i) (same_g i))))

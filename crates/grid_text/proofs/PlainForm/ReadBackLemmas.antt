@@ -222,7 +222,8 @@ line-written (command.Chain z) = (z, IsPermutation-refl z, refl)
 line-written c = refl
 
 -- the lines of the commands and `end` lead on from the commands before them
-commands-path : (v : ℕ) (g : Marks) (done later : List Command) → IsScript (record { version = v; grid = g; commands = done })
+commands-path : (v : ℕ) (g : Marks) (done later : List Command)
+    → IsScript (record { version = v; grid = g; commands = done })
     → AreAllowed (grid_after_all g done) later → length done + length later ≤ max_commands
     → Path (body (record { version = v; grid = g; commands = done }))
     (map words_of (lines_of (flat_map command_line later ++ line_of (end_word ∷ []))))
@@ -249,7 +250,8 @@ commands-path v g done (c ∷ later) h all few =
     (append_assoc (command_line c) (flat_map command_line later) (line_of (end_word ∷ [])))
     ∙ lines-plain (command_row c).0 words (flat_map command_line later ++ line_of (end_word ∷ []))
     (plain_first c) plain in
-    subst (λ ls. Path (body s) ls (ended (record { version = v; grid = g; commands = done ++ c ∷ later }))) (sym lines) (
+    subst (λ ls. Path (body s) ls (ended (record { version = v; grid = g; commands = done ++ c ∷ later })))
+    (sym lines) (
       body (record { version = v; grid = g; commands = done ++ c ∷ [] }),
       inr (inr (c, line-written c, all.0, room, refl)),
       subst (λ cs. Path (body (record { version = v; grid = g; commands = done ++ c ∷ [] }))
@@ -306,7 +308,8 @@ IsDocument-plain_form s h =
         (
           body (record { version = s.version; grid = s.grid; commands = [] }),
           inr (x, h.grid.x, h.grid.apart, refl, refl),
-          commands-path v s.grid [] s.commands (IsScript-no_command v s.grid h.version h.grid) h.allowed (omega (arith, h.few)),
+          commands-path v s.grid [] s.commands (IsScript-no_command v s.grid h.version h.grid) h.allowed
+          (omega (arith, h.few)),
         ),
       ),
     )

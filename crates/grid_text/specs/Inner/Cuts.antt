@@ -2,14 +2,14 @@
 --     IsTakenPart ends bytes part after   the part stands first: it ends at the first byte that is one of `ends`; or it
 --                                         is all bytes, which have none
 --     EndsLine bytes                      the bytes end with a line feed
---     HasFirstLine text line after        the text is one line, which ends with a line feed where bytes follow, and
---                                         those after it
---     IsCut text rest line                lines that are not `next` stand before the rest, which begins with the line of
---                                         this number
+--     HasFirstLine text line after        the text is one line and the bytes after it; the line ends with a line feed
+--                                         if bytes follow
+--     IsCut text rest line                lines that are not `next` stand before the rest, which begins with the line
+--                                         of this number
 --     AreParts text first second          the text has a line `next`, and these are the texts of the lines before the
 --                                         first such line and after it
---     IsPartEnd part before e             a part of a text that begins after this number of lines is no document for this
---                                         reason
+--     IsPartEnd part before e             a part of a text that begins after this number of lines is no document for
+--                                         this reason
 use Rattle.std.specs.Prelude.{◌≡◌, ◌⊎◌, ℕ, ◌+◌, ◌<◌, ◌≤◌, true, false, List, [], ◌∷◌, ◌++◌, length, codes}
 use Rattle.std.specs.List.{All}
 use Rattle.std.specs.declared.option.Option.TheVariants.{Some}

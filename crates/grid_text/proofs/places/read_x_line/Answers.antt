@@ -11,7 +11,8 @@ returns-in-Err-of c =
     (record { o = c.args.o.now; x = c.in-Ok.x }) =
     λ i. record { o = c.rows.ensures.rows i; x = c.rows-2.ensures.rows i } in
     let bijection = subst (λ n. IsBijection n c.in-Ok.x) c.size.ensures.size c.in-Ok.ensures.ok.0 in
-    square-read c.args.version c.args.o.now c.in-Ok.x (seen c.args.words.now) c.rows.ensures.state bijection c.in-Ok.ensures.ok.1
+    square-read c.args.version c.args.o.now c.in-Ok.x (seen c.args.words.now) c.rows.ensures.state bijection
+    c.in-Ok.ensures.ok.1
     (fault_of_grid c.args.o.now c.in-Ok.x c.in-Err-of.field-0 c.rows.ensures.state bijection
     (λ e. subst (λ (g : Marks). AreBijections g → ⊥) marks (c.in-Err-of.ensures.not_permutation.0 (ap Err e)))
     (λ e. subst SharesSquare marks (c.in-Err-of.ensures.same_square.0 (ap Err e)).1))
