@@ -19,7 +19,7 @@ use Rattle.std.specs.Prelude.{ℕ, ◌+◌, Bool, true, false, ◌&&◌, List, [
 use Rattle.std.specs.declared.option.Option.{Option}
 use Rattle.std.specs.List.{filter, find, flat_map}
 use Rattle.std.specs.Fmt.{decimal}
-use Rattle.text_lines.specs.Parts.{is_one_of}
+use Rattle.text_lines.specs.Parts.{is_among}
 use Rattle.state_rank.specs.Bijection.{numbers}
 use Rattle.state_rank.specs.States.{states, state_word}
 
@@ -44,10 +44,10 @@ without_return (b ∷ []) = if b == 13 then [] else b ∷ []
 without_return (b ∷ c ∷ bytes) = b ∷ without_return (c ∷ bytes)
 
 abbrev pub lines_of : List ℕ → List (List ℕ)
-lines_of text = map without_return (parts (is_one_of (codes "\n")) text)
+lines_of text = map without_return (parts (is_among (codes "\n")) text)
 
 abbrev pub words_of : List ℕ → List Word
-words_of line = filter is_filled (parts (is_one_of (codes " \t")) line)
+words_of line = filter is_filled (parts (is_among (codes " \t")) line)
 
 abbrev pub words_of_lines : List ℕ → List (List Word)
 words_of_lines text = map words_of (lines_of text)

@@ -2,7 +2,7 @@
 ghost use Rattle.std.specs.Prelude.{◌≡◌, ◌≢◌, ◌↔◌, ℕ, ◌^◌, ◌<◌, ◌≤◌, [], ◌∷◌, map, length, slice_index, IsTrue, IfSome, IfNone, IfOk};
 ghost use Rattle.std.specs.Fmt.{decimal};
 ghost use Rattle.grid_text.specs.Words.{is_word as is_word_of, numeral as numeral_of, parts, lines_of, without_return as without_return_of, words_of as words_of_line, is_comment as is_comment_word, is_blank as are_blank};
-ghost use Rattle.text_lines.specs.Parts.{is_one_of};
+ghost use Rattle.text_lines.specs.Parts.{is_among};
 ghost use Rattle.grid_text.specs.Inner.Cuts.{IsTakenPart, HasFirstLine};
 
 use grid_ports::NoMemory;
@@ -81,8 +81,8 @@ fn without_return(line: &[u8]) -> &[u8]
 // The bytes up to the first of `ends`, or all, and what follows it, where there are bytes.
 fn next_part<'a>(bytes: &'a [u8], ends: &[u8]) -> Option<(&'a [u8], &'a [u8])>
     ensures none { IfNone result (bytes.now ≡ []) }
-    ensures some { IfSome result (λ p. parts (is_one_of ends.now) bytes.now
-        ≡ p.0.now ∷ parts (is_one_of ends.now) p.1.now) }
+    ensures some { IfSome result (λ p. parts (is_among ends.now) bytes.now
+        ≡ p.0.now ∷ parts (is_among ends.now) p.1.now) }
     ensures shorter { IfSome result (λ p. length p.1.now < length bytes.now) }
     ensures taken { IfSome result (λ p. IsTakenPart ends.now bytes.now p.0.now p.1.now) }
 {

@@ -1,7 +1,7 @@
 //! The parts of a list of bytes.
 ghost use Rattle.std.specs.Prelude.{◌≡◌, IfSome, IfNone};
 ghost use Rattle.std.specs.List.{position};
-ghost use Rattle.text_lines.specs.Parts.{is_one_of, HasNone, IsFirstPart};
+ghost use Rattle.text_lines.specs.Parts.{is_among, HasNone, IsFirstPart};
 
 /// The bytes before the first that is one of `ends`, and those after it, if there is one.
 pub fn first_part<'a>(bytes: &'a [u8], ends: &[u8]) -> Option<(&'a [u8], &'a [u8])>
@@ -16,7 +16,7 @@ pub fn first_part<'a>(bytes: &'a [u8], ends: &[u8]) -> Option<(&'a [u8], &'a [u8
 
 // How many bytes stand before the first that is one of `ends`.
 fn place_of(bytes: &[u8], ends: &[u8]) -> Option<usize>
-    ensures { result ≡ position (is_one_of ends.now) bytes.now }
+    ensures { result ≡ position (is_among ends.now) bytes.now }
 {
     bytes.iter().position(|byte| ends.contains(byte))
 }

@@ -5,7 +5,7 @@ use Rattle.std.specs.List.{All}
 use Rattle.std.proofs.Math.Seq.{take-append_seam}
 use Rattle.std.proofs.lemmas.List.{append-nil, append_assoc, length-map, map-append}
 use Rattle.std.proofs.lemmas.List.Elements.{All-push, All-head, All-tail}
-use Rattle.text_lines.specs.Parts.{is_one_of}
+use Rattle.text_lines.specs.Parts.{is_among}
 use Rattle.grid_text.specs.Words.{Word, parts, before_parts, without_return, lines_of, words_of, words_of_lines}
 use Rattle.grid_text.specs.Pairs.{is_next, first_part, second_part}
 use Rattle.grid_text.specs.Inner.Cuts.{IsTakenPart, EndsLine, HasFirstLine, IsCut, AreParts}
@@ -59,8 +59,8 @@ module _ (is_end : ℕ → Bool) where
 -- there are no more lines than bytes
 pub length-lines : (text : List ℕ) → length (words_of_lines text) ≤ length text
 length-lines text =
-    let few = length-parts (is_one_of (codes "\n")) text in
-    let lines = length-map (parts (is_one_of (codes "\n")) text) without_return in
+    let few = length-parts (is_among (codes "\n")) text in
+    let lines = length-map (parts (is_among (codes "\n")) text) without_return in
     let words = length-map (lines_of text) words_of in
     omega (arith, few, lines, words)
 
@@ -68,11 +68,11 @@ length-lines text =
 words_of_lines-append : (front rest : List ℕ) → EndsLine front
     → words_of_lines (front ++ rest) ≡ words_of_lines front ++ words_of_lines rest
 words_of_lines-append front rest (line, end, here, is) =
-    let ends : ℕ → Bool = is_one_of (codes "\n") in
+    let ends : ℕ → Bool = is_among (codes "\n") in
     ap (λ f. words_of_lines (f ++ rest)) is
-    ∙ ap (λ ps. map words_of (map without_return ps)) (parts-append (is_one_of (codes "\n")) line rest end here)
-    ∙ ap (map words_of) (map-append without_return (parts (is_one_of (codes "\n")) (line ++ end ∷ []))
-    (parts (is_one_of (codes "\n")) rest))
+    ∙ ap (λ ps. map words_of (map without_return ps)) (parts-append (is_among (codes "\n")) line rest end here)
+    ∙ ap (map words_of) (map-append without_return (parts (is_among (codes "\n")) (line ++ end ∷ []))
+    (parts (is_among (codes "\n")) rest))
     ∙ map-append words_of (lines_of (line ++ end ∷ [])) (lines_of rest)
     ∙ ap (λ f. words_of_lines f ++ words_of_lines rest) (sym is)
 
@@ -82,7 +82,7 @@ pub HasFirstLine-taken : (text part after : List ℕ) → IsTakenPart (codes "\n
 HasFirstLine-taken text part after (inl found) = record {
   taken = part ++ found.end ∷ [];
   split = found.split ∙ sym (append_assoc part (found.end ∷ []) after);
-  one = ap (map without_return) (parts-at (is_one_of (codes "\n")) part [] found.end found.none found.is_end);
+  one = ap (map without_return) (parts-at (is_among (codes "\n")) part [] found.end found.none found.is_end);
   ends = inr (part, found.end, found.is_end, refl);
 }
 HasFirstLine-taken text part after (inr (whole, none, some, free)) = record {

@@ -4,12 +4,12 @@
 use Rattle.std.proofs.Common.{◌≡◌, ◌≢◌, ℕ, suc, ◌<◌, Bool, true, false, cond, List, [], ◌∷◌, ◌++◌, length, length-append, codes, ap, ◌∙◌, sym, arith}
 use Rattle.std.specs.List.{filter, All}
 use Rattle.std.proofs.lemmas.Bool.{eq-eqb, ne_eqb}
-use Rattle.text_lines.specs.Parts.{is_one_of, HasNone, IsFirstPart}
+use Rattle.text_lines.specs.Parts.{is_among, HasNone, IsFirstPart}
 use Rattle.grid_text.specs.Words.{parts, before_parts, is_filled, words_of, without_return}
 
 -- the byte is a space or a tab, 32 or 9
 abbrev pub is_space : ℕ → Bool
-is_space = is_one_of (codes " \t")
+is_space = is_among (codes " \t")
 
 module _ (is_end : ℕ → Bool) where
   -- one byte more of the first part
@@ -37,9 +37,9 @@ module _ (is_end : ℕ → Bool) where
 
 -- the first part that was found, and what follows it
 pub parts-found : (ends bytes part after : List ℕ) → IsFirstPart ends bytes part after
-    → parts (is_one_of ends) bytes ≡ part ∷ parts (is_one_of ends) after
+    → parts (is_among ends) bytes ≡ part ∷ parts (is_among ends) after
 parts-found ends bytes part after h =
-    ap (parts (is_one_of ends)) h.split ∙ parts-at (is_one_of ends) part after h.end h.none h.is_end
+    ap (parts (is_among ends)) h.split ∙ parts-at (is_among ends) part after h.end h.none h.is_end
 
 -- what follows it is shorter
 pub shorter-found : (ends bytes part after : List ℕ) → IsFirstPart ends bytes part after
@@ -49,9 +49,9 @@ shorter-found ends bytes part after h =
 
 -- where none was found, all bytes are the first part
 pub parts-none : (ends bytes : List ℕ) → 0 < length bytes → HasNone ends bytes
-    → parts (is_one_of ends) bytes ≡ bytes ∷ []
+    → parts (is_among ends) bytes ≡ bytes ∷ []
 parts-none ends [] some none = absurd (omega arith)
-parts-none ends (b ∷ bytes) some none = parts-whole (is_one_of ends) b bytes none
+parts-none ends (b ∷ bytes) some none = parts-whole (is_among ends) b bytes none
 
 -- a part without bytes is no word, and any other is
 pub words_of-empty : (rest part after : List ℕ) → parts is_space rest ≡ part ∷ parts is_space after → length part ≡ 0

@@ -1,7 +1,7 @@
 -- The plain form is read back. Words that are written have no byte that ends a line or a word (`IsPlainWord`), so that
 -- the lines and words of the text are those that were written (`lines-plain`); and each line is allowed where it
 -- stands, from the head over the commands to `end` (`commands-path`).
-use Rattle.text_lines.specs.Parts.{is_one_of}
+use Rattle.text_lines.specs.Parts.{is_among}
 use Rattle.std.proofs.Common.{◌≡◌, ℕ, Bool, ◌+◌, ◌/◌, ◌%◌, ◌<◌, ◌≤◌, true, cond, false, List, [], ◌∷◌, ◌++◌, length, map, codes, refl, ap, subst, ◌∙◌, sym, arith, inl, inr, append_assoc, length-append}
 use Rattle.std.specs.Prelude.{nat_le, ◌==◌, ◌||◌}
 use Rattle.std.specs.List.{filter, flat_map}
@@ -84,7 +84,7 @@ without_return-line (b ∷ c ∷ l) h = ap (λ r. b ∷ r) (without_return-line 
 
 -- the byte is a line feed, 10
 abbrev is_line_feed : ℕ → Bool
-is_line_feed = is_one_of (codes "\n")
+is_line_feed = is_among (codes "\n")
 
 -- the first line of a text
 parts-line : (l rest : List ℕ) → IsOneLine l

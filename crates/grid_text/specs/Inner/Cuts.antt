@@ -13,7 +13,7 @@
 use Rattle.std.specs.Prelude.{◌≡◌, ◌⊎◌, ℕ, ◌+◌, ◌<◌, ◌≤◌, true, false, List, [], ◌∷◌, ◌++◌, length, codes}
 use Rattle.std.specs.List.{All}
 use Rattle.std.specs.declared.option.Option.TheVariants.{Some}
-use Rattle.text_lines.specs.Parts.{is_one_of, HasNone, IsFirstPart}
+use Rattle.text_lines.specs.Parts.{is_among, HasNone, IsFirstPart}
 use Rattle.grid_text.specs.Words.{lines_of, words_of_lines}
 use Rattle.grid_text.specs.Faults.{IsFirstFault}
 use Rattle.grid_text.specs.Pairs.{is_next, first_part, second_part}
@@ -25,7 +25,7 @@ IsTakenPart ends bytes part after =
     IsFirstPart ends bytes part after ⊎ ((part ≡ bytes) × (after ≡ []) × (0 < length bytes) × HasNone ends bytes)
 
 abbrev pub EndsLine : List ℕ → Type 0
-EndsLine bytes = (line : List ℕ) × (end : ℕ) × (is_one_of (codes "\n") end ≡ true) × (bytes ≡ line ++ end ∷ [])
+EndsLine bytes = (line : List ℕ) × (end : ℕ) × (is_among (codes "\n") end ≡ true) × (bytes ≡ line ++ end ∷ [])
 
 pub record HasFirstLine (text line after : List ℕ) : Type 0 where
   pub taken : List ℕ

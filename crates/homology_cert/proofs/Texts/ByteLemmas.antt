@@ -15,7 +15,7 @@ use Rattle.state_rank.specs.Bijection.{IsBijection}
 use Rattle.state_rank.specs.States.{IsState, state_word, factorial, rank, unrank}
 use Rattle.state_rank.proofs.RankLemmas.{length-unrank, unrank-rank}
 use Rattle.state_rank.proofs.WordLemmas.{length-state_word}
-use Rattle.text_lines.specs.Parts.{is_one_of, HasNone, IsFirstPart}
+use Rattle.text_lines.specs.Parts.{is_among, HasNone, IsFirstPart}
 use Rattle.std.proofs.lemmas.Bool.{cases_eq, eq-eqb, ne_eqb}
 use Rattle.homology_cert.specs.Certificates.{AreSmallDegrees}
 use Rattle.homology_cert.specs.CertificateText.{degree_line}
@@ -32,7 +32,7 @@ free-none b (c ∷ bytes) none = (
 )
 
 -- a byte that is the one
-is_the_one : (b c : ℕ) → is_one_of (b ∷ []) c ≡ true → c ≡ b
+is_the_one : (b c : ℕ) → is_among (b ∷ []) c ≡ true → c ≡ b
 is_the_one b c t = elim (cases_eq c b) [
   | inl e ↦ e
   | inr other ↦ absurd (true≢false (sym t ∙ ap (λ s. s || false) (ne_eqb c b other)))
