@@ -309,7 +309,7 @@ IsDocument-plain_form s h =
           body (record { version = s.version; grid = s.grid; commands = [] }),
           inr (x, h.grid.x, h.grid.apart, refl, refl),
           commands-path v s.grid [] s.commands (IsScript-no_command v s.grid h.version h.grid) h.allowed
-          (omega (arith, h.few)),
+              (omega (arith, h.few)),
         ),
       ),
     )
