@@ -13,7 +13,7 @@ use Rattle.gradings.specs.declared.degrees.Bidegree.{Bidegree}
 use Rattle.gradings.proofs.OrderLemmas.{bidegree_cmp_exact}
 use Rattle.hat_division.specs.Table.{AreOrdered, IsTable}
 use Rattle.hat_division.specs.Product.{product_rank, IsProduct}
-use Rattle.hat_division.specs.RankMaps.{key_of, Ranks, rank_in, row_of}
+use Rattle.hat_division.specs.RankMaps.{bidegree_key, Ranks, rank_in, row_of}
 use Rattle.hat_division.specs.Inner.Products.{IsRankOfProduct, IsPartOfProduct, AreShiftsPut, AreRowsPut}
 use Rattle.hat_division.specs.declared.tables.TableRow.{TableRow}
 use Rattle.hat_division.proofs.ProductLemmas.{product-step, product_rank-small}
@@ -23,36 +23,36 @@ use Rattle.hat_division.proofs.WordLemmas.{IfSome-value}
 -- ---- a rank is put into a map
 module _ (old new : Ranks) (m a : ℤ) (rank : ℕ)
     (adds : (q : Bidegree) → tree.get bidegree_cmp new q
-    ≡ cond (is_eq (bidegree_cmp (key_of (m, a)) q)) (Some rank) (tree.get bidegree_cmp old q))
+    ≡ cond (is_eq (bidegree_cmp (bidegree_key (m, a)) q)) (Some rank) (tree.get bidegree_cmp old q))
     (positive : 1 ≤ rank) where
   put-there : 0 < rank_in new a m
   put-there =
       let is : rank_in new a m ≡ rank =
-      ap (λ o. unwrap_or o 0) (adds (key_of (m, a))
-      ∙ ap (λ b. cond b (Some rank) (tree.get bidegree_cmp old (key_of (m, a)))) (key_itself (key_of (m, a)))) in
+      ap (λ o. unwrap_or o 0) (adds (bidegree_key (m, a))
+      ∙ ap (λ b. cond b (Some rank) (tree.get bidegree_cmp old (bidegree_key (m, a)))) (key_itself (bidegree_key (m, a)))) in
       omega arith
 
   put-above : (x y : ℤ) → 0 < rank_in old y x → 0 < rank_in new y x
   put-above x y taken =
-      subst (λ o. 0 < unwrap_or o 0) (sym (adds (key_of (x, y))))
-      (by (is_eq (bidegree_cmp (key_of (m, a)) (key_of (x, y)))))
+      subst (λ o. 0 < unwrap_or o 0) (sym (adds (bidegree_key (x, y))))
+      (by (is_eq (bidegree_cmp (bidegree_key (m, a)) (bidegree_key (x, y)))))
     where
-      by : (t : Bool) → 0 < unwrap_or (cond t (Some rank) (tree.get bidegree_cmp old (key_of (x, y)))) 0
+      by : (t : Bool) → 0 < unwrap_or (cond t (Some rank) (tree.get bidegree_cmp old (bidegree_key (x, y)))) 0
       by true = omega arith
       by false = taken
 
   put-part : (k : ℕ) (rows : List TableRow) → rank ≡ product_rank k rows m a → IsPartOfProduct k rows old
       → IsPartOfProduct k rows new
   put-part k rows is part x y =
-      subst (λ o. IfSome o (IsRankOfProduct k rows x y)) (sym (adds (key_of (x, y))))
-      (by (is_eq (bidegree_cmp (key_of (m, a)) (key_of (x, y)))) refl)
+      subst (λ o. IfSome o (IsRankOfProduct k rows x y)) (sym (adds (bidegree_key (x, y))))
+      (by (is_eq (bidegree_cmp (bidegree_key (m, a)) (bidegree_key (x, y)))) refl)
     where
-      by : (t : Bool) → is_eq (bidegree_cmp (key_of (m, a)) (key_of (x, y))) ≡ t
-          → IfSome (cond t (Some rank) (tree.get bidegree_cmp old (key_of (x, y)))) (IsRankOfProduct k rows x y)
+      by : (t : Bool) → is_eq (bidegree_cmp (bidegree_key (m, a)) (bidegree_key (x, y))) ≡ t
+          → IfSome (cond t (Some rank) (tree.get bidegree_cmp old (bidegree_key (x, y)))) (IsRankOfProduct k rows x y)
       by true e =
-          let same : key_of (m, a) ≡ key_of (x, y) =
-          bidegree_cmp_exact (key_of (m, a)) (key_of (x, y))
-          (is_equal (bidegree_cmp (key_of (m, a)) (key_of (x, y))) e) in
+          let same : bidegree_key (m, a) ≡ bidegree_key (x, y) =
+          bidegree_cmp_exact (bidegree_key (m, a)) (bidegree_key (x, y))
+          (is_equal (bidegree_cmp (bidegree_key (m, a)) (bidegree_key (x, y))) e) in
           (omega arith, is ∙ ap (λ (q : Bidegree). product_rank k rows q.m q.a) same)
       by false e = part x y
 
@@ -65,7 +65,7 @@ shifts-none k rows row old part =
 pub shifts-more : (k : ℕ) (rows : List TableRow) (row : TableRow) (n : ℕ) (old now new : Ranks) (m a : ℤ) (rank : ℕ)
     → m ≡ row.m -ℤ pos n → a ≡ row.a -ℤ pos n → rank ≡ product_rank k rows m a → 1 ≤ rank
     → ((q : Bidegree) → tree.get bidegree_cmp new q
-    ≡ cond (is_eq (bidegree_cmp (key_of (m, a)) q)) (Some rank) (tree.get bidegree_cmp now q))
+    ≡ cond (is_eq (bidegree_cmp (bidegree_key (m, a)) q)) (Some rank) (tree.get bidegree_cmp now q))
     → AreShiftsPut k rows row n old now → AreShiftsPut k rows row (n + 1) old new
 shifts-more k rows row n old now new m a rank em ea is positive adds so_far = record {
   part = put-part now new m a rank adds positive k rows is so_far.part;
@@ -84,7 +84,7 @@ shifts-more k rows row n old now new m a rank em ea is positive adds so_far = re
 pub rows-none : (k : ℕ) (rows : List TableRow) (part : Ranks) → tree.IsEmpty part → AreRowsPut k rows 0 part
 rows-none k rows part empty = record {
   so_far = λ m a. subst (λ o. IfSome o (IsRankOfProduct k rows m a))
-      (sym (ap (λ es. lookup (tree.is_at (bidegree_cmp (key_of (m, a)))) es) empty)) tt;
+      (sym (ap (λ es. lookup (tree.is_at (bidegree_cmp (bidegree_key (m, a)))) es) empty)) tt;
   there = λ j d i l. absurd (omega arith);
 }
 
@@ -107,7 +107,7 @@ pub rows-product : (k : ℕ) (rows : List TableRow) (part : Ranks) → AreRowsPu
     → tree.IsOrdered bidegree_cmp part → IsProduct k rows (map row_of part.entries)
 rows-product k rows part all ordered m a =
     rank_at-rows part ordered m a
-    ∙ by (tree.get bidegree_cmp part (key_of (m, a))) refl (all.so_far m a)
+    ∙ by (tree.get bidegree_cmp part (bidegree_key (m, a))) refl (all.so_far m a)
   where
     missed : 0 < product_rank k rows m a → rank_in part a m ≡ 0 → ⊥
     missed positive none =
@@ -118,7 +118,7 @@ rows-product k rows part all ordered m a =
         ≡ rank_in part a m = λ i. rank_in part (at.1 i) (at.0 i) in
         omega (arith, all.there t.2 d t.0 t.3 t.1)
 
-    by : (o : Option ℕ) → tree.get bidegree_cmp part (key_of (m, a)) ≡ o → IfSome o (IsRankOfProduct k rows m a)
+    by : (o : Option ℕ) → tree.get bidegree_cmp part (bidegree_key (m, a)) ≡ o → IfSome o (IsRankOfProduct k rows m a)
         → unwrap_or o 0 ≡ product_rank k rows m a
     by (Some d) found held = held.1
     by None none held = elim (cases_lt 0 (product_rank k rows m a)) [
@@ -136,7 +136,7 @@ rows-table k rows part l ordered small held sorted = record {
       let row = get_or (map row_of part.entries) i d in
       let found = entry_of part sorted row (Contains-get_or (map row_of part.entries) i d within) in
       let has =
-      IfSome-value (IsRankOfProduct k rows row.m row.a) (tree.get bidegree_cmp part (key_of (row.m, row.a))) row.rank
+      IfSome-value (IsRankOfProduct k rows row.m row.a) (tree.get bidegree_cmp part (bidegree_key (row.m, row.a))) row.rank
       found (held row.m row.a) in
       record {
         positive = omega (arith, has.0);

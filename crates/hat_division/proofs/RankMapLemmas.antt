@@ -20,7 +20,7 @@ use Rattle.gradings.specs.declared.degrees.Bidegree.{Bidegree}
 use Rattle.gradings.proofs.OrderLemmas.{bidegree_cmp_total, bidegree_cmp_exact, stands_before-bidegree_cmp}
 use Rattle.hat_division.specs.Table.{bidegree_of, AreOrdered}
 use Rattle.hat_division.specs.Product.{stands_at, rank_at}
-use Rattle.hat_division.specs.RankMaps.{key_of, Ranks, rank_in, row_of}
+use Rattle.hat_division.specs.RankMaps.{bidegree_key, Ranks, rank_in, row_of}
 use Rattle.hat_division.specs.declared.tables.TableRow.{TableRow}
 use Rattle.hat_division.proofs.RankLemmas.{degrees_of, stands_itself, rank_at-none, rank_at-row}
 
@@ -64,27 +64,27 @@ rows-ordered (e ∷ es) s =
 -- an entry of a row: what the map has in its bidegree
 pub entry_of : (ranks : Ranks) → tree.IsOrdered bidegree_cmp ranks → (row : TableRow)
     → Contains (map row_of ranks.entries) row
-    → tree.get bidegree_cmp ranks (key_of (row.m, row.a)) ≡ Some row.rank
+    → tree.get bidegree_cmp ranks (bidegree_key (row.m, row.a)) ≡ Some row.rank
 entry_of ranks ordered row inside =
     let (e, stood, is) = member_of_map row_of ranks.entries row inside in
-    subst (λ (r : TableRow). tree.get bidegree_cmp ranks (key_of (r.m, r.a)) ≡ Some r.rank) is
+    subst (λ (r : TableRow). tree.get bidegree_cmp ranks (bidegree_key (r.m, r.a)) ≡ Some r.rank) is
     ((btree_map_get_iff bidegree_cmp_total bidegree_cmp_exact ranks ordered e.0 e.1).1 stood)
 
 -- what the map has in a bidegree is the rank of its rows there
 pub rank_at-rows : (ranks : Ranks) → tree.IsOrdered bidegree_cmp ranks → (m a : ℤ)
     → rank_at (map row_of ranks.entries) m a ≡ rank_in ranks a m
-rank_at-rows ranks ordered m a = by (tree.get bidegree_cmp ranks (key_of (m, a))) refl
+rank_at-rows ranks ordered m a = by (tree.get bidegree_cmp ranks (bidegree_key (m, a))) refl
   where
     in_order : AreOrdered (map row_of ranks.entries)
     in_order = rows-ordered ranks.entries ordered
 
-    by : (o : Option ℕ) → tree.get bidegree_cmp ranks (key_of (m, a)) ≡ o
+    by : (o : Option ℕ) → tree.get bidegree_cmp ranks (bidegree_key (m, a)) ≡ o
         → rank_at (map row_of ranks.entries) m a ≡ unwrap_or o 0
     by (Some d) found =
-        let row : TableRow = row_of (key_of (m, a), d) in
+        let row : TableRow = row_of (bidegree_key (m, a), d) in
         let inside =
-        Contains-map row_of ranks.entries (key_of (m, a), d)
-        ((btree_map_get_iff bidegree_cmp_total bidegree_cmp_exact ranks ordered (key_of (m, a)) d).0 found) in
+        Contains-map row_of ranks.entries (bidegree_key (m, a), d)
+        ((btree_map_get_iff bidegree_cmp_total bidegree_cmp_exact ranks ordered (bidegree_key (m, a)) d).0 found) in
         rank_at-row (map row_of ranks.entries) inside.0 row m a in_order inside.1
         (subst (λ (r : TableRow). stands_at r m a ≡ true) (sym inside.2) (stands_itself row))
         ∙ ap (λ (r : TableRow). r.rank) inside.2
@@ -94,8 +94,8 @@ rank_at-rows ranks ordered m a = by (tree.get bidegree_cmp ranks (key_of (m, a))
               let row = get_or (map row_of ranks.entries) k d in
               let degrees = degrees_of row m a s in
               let found = entry_of ranks ordered row (Contains-get_or (map row_of ranks.entries) k d l) in
-              let here : tree.get bidegree_cmp ranks (key_of (m, a)) ≡ Some row.rank =
-              subst (λ (p : ℤ × ℤ). tree.get bidegree_cmp ranks (key_of p) ≡ Some row.rank)
+              let here : tree.get bidegree_cmp ranks (bidegree_key (m, a)) ≡ Some row.rank =
+              subst (λ (p : ℤ × ℤ). tree.get bidegree_cmp ranks (bidegree_key p) ≡ Some row.rank)
               (λ i. (degrees.0 i, degrees.1 i)) found in
               absurd (false≢true (ap is_some (sym none ∙ here)))
           | inr s ↦ s

@@ -1,7 +1,7 @@
 //! Cells counted by their degrees, for a table that is made of cells.
 ghost use Rattle.std.specs.Prelude.{◌≡◌, ◌≤◌, ◌<◌, ℕ, true, false, length, slice_index_or, OnOk, OnErr};
 ghost use Rattle.std.specs.List.{All};
-ghost use Rattle.hat_division.specs.DegreeLists.{stands_before};
+ghost use Rattle.hat_division.specs.DegreeLists.{stands_before_by_component};
 ghost use Rattle.hat_division.specs.MultiTable.{degrees_of, ArePositive, IsCounted};
 ghost use Rattle.hat_division.specs.declared.multi_tables.MultiRow.{MultiRow};
 
@@ -38,9 +38,9 @@ pub fn count_cell(rows: &mut Vec<MultiRow>, m: i32, d: DegreeList) -> Result<(),
 fn place_of(rows: &[MultiRow], row: &MultiRow) -> usize
     ensures within { result ≤ length rows.now }
     ensures before { (k : ℕ) (d : MultiRow) → k < result
-        → stands_before (degrees_of (slice_index_or rows.now k d)) (degrees_of row.now) ≡ true }
+        → stands_before_by_component (degrees_of (slice_index_or rows.now k d)) (degrees_of row.now) ≡ true }
     ensures rest { (d : MultiRow) → result < length rows.now
-        → stands_before (degrees_of (slice_index_or rows.now result d)) (degrees_of row.now) ≡ false }
+        → stands_before_by_component (degrees_of (slice_index_or rows.now result d)) (degrees_of row.now) ≡ false }
 {
     for (i, other) in rows.iter().enumerate() {
         if !other.comes_before(row) {

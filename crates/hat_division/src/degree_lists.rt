@@ -2,7 +2,7 @@
 ghost use Rattle.std.specs.Prelude.{◌≡◌, ◌↔◌, ℕ, ℤ, pos, ◌+ℤ◌, ◌-ℤ◌, ◌≤ℤ◌, neg_ℤ, ◌<◌, List, length, IsSome, IfSome};
 ghost use Rattle.std.specs.List.{All};
 ghost use Rattle.gradings.specs.Degrees.{IsSmallDegree};
-ghost use Rattle.hat_division.specs.DegreeLists.{IsDegreeList, is_higher as is_higher_of, same_degrees as same_degrees_of, raised, lowered};
+ghost use Rattle.hat_division.specs.DegreeLists.{IsDegreeList, is_higher as is_higher_of, same_degrees as same_degrees_of, raised_at, lowered_at};
 
 use std::marker::Model;
 
@@ -64,10 +64,10 @@ impl DegreeList {
     }
 
     /// The list with the number of component `i`, counted from 0, two higher.
-    pub(crate) fn raised(&self, i: usize) -> DegreeList
+    pub(crate) fn raised_at(&self, i: usize) -> DegreeList
         requires place { i < length self.now }
         requires small { All IsSmallDegree self.now }
-        ensures { result ≡ raised i self.now }
+        ensures { result ≡ raised_at i self.now }
     {
         let count = self.degrees().len();
         let mut degrees = self.degrees;
@@ -76,10 +76,10 @@ impl DegreeList {
     }
 
     /// The list with the number of component `i`, counted from 0, two lower.
-    pub(crate) fn lowered(&self, i: usize) -> DegreeList
+    pub(crate) fn lowered_at(&self, i: usize) -> DegreeList
         requires place { i < length self.now }
         requires small { All IsSmallDegree self.now }
-        ensures { result ≡ lowered i self.now }
+        ensures { result ≡ lowered_at i self.now }
     {
         let count = self.degrees().len();
         let mut degrees = self.degrees;

@@ -2,7 +2,7 @@
 ghost use Rattle.std.specs.Prelude.{◌≡◌, ◌↔◌, ◌≤◌, ◌<◌, ℕ, List, [], ◌∷◌, length, IsTrue, IfOk, MatchOption};
 ghost use Rattle.std.specs.List.{All};
 ghost use Rattle.hat_division.specs.Factors.{copies};
-ghost use Rattle.hat_division.specs.MultiTable.{degrees_of, rank_at as rank_at_of, AreOrdered, step_up, step_down, HasLength, IsSmall, IsQuotientBy, IsMultiQuotient, ArePositive};
+ghost use Rattle.hat_division.specs.MultiTable.{degrees_of, component_rank_at as component_rank_at_of, AreInComponentOrder, step_up, step_down, HasLength, IsSmallByComponent, IsQuotientBy, IsMultiQuotient, ArePositive};
 ghost use Rattle.hat_division.specs.Inner.Rows.{HasPlace};
 ghost use Rattle.hat_division.specs.declared.multi_tables.MultiRow.{MultiRow};
 
@@ -24,7 +24,7 @@ pub fn divide_multi(
     exps: &[u8],
 ) -> Result<Option<MultiTable>, NoMemory>
     requires lengths { All (HasLength (length exps.now)) t.now }
-    requires small { All IsSmall t.now }
+    requires small { All IsSmallByComponent t.now }
     ensures quotient { IfOk result (λ found. MatchOption found
         ((q : List MultiRow) → ¬ IsMultiQuotient exps.now t.now q)
         (λ q. IsMultiQuotient exps.now t.now q)) }
@@ -40,7 +40,7 @@ pub fn divide_multi(
 // The quotient, if there is one: component by component.
 fn quotient_of(alloc: Global, t: &MultiTable, exps: &[u8]) -> Result<Option<MultiTable>, NoMemory>
     requires lengths { All (HasLength (length exps.now)) t.now }
-    requires small { All IsSmall t.now }
+    requires small { All IsSmallByComponent t.now }
     ensures { IfOk result (λ found. MatchOption found
         ((q : List MultiRow) → ¬ IsMultiQuotient exps.now t.now q)
         (λ q. IsMultiQuotient exps.now t.now q)) }
@@ -71,7 +71,7 @@ fn divide_power(
     e: u8,
 ) -> Result<Option<Vec<MultiRow>>, NoMemory>
     requires positive { ArePositive rows.items }
-    requires small { All IsSmall rows.items }
+    requires small { All IsSmallByComponent rows.items }
     requires place { All (HasPlace i) rows.items }
     ensures { IfOk result (λ found. MatchOption found
         ((q : List MultiRow) → ¬ IsQuotientBy (copies e (step_up i)) rows.items q)
@@ -91,7 +91,7 @@ fn divide_power(
 // of each rank when the row one step up has had its part.
 fn divide_one(alloc: Global, rows: &[MultiRow], i: usize) -> Result<Option<Vec<MultiRow>>, NoMemory>
     requires positive { ArePositive rows.now }
-    requires small { All IsSmall rows.now }
+    requires small { All IsSmallByComponent rows.now }
     requires place { All (HasPlace i) rows.now }
     ensures { IfOk result (λ found. MatchOption found
         ((q : List MultiRow) → ¬ IsQuotientBy (step_up i ∷ []) rows.now q)
@@ -120,10 +120,10 @@ fn divide_one(alloc: Global, rows: &[MultiRow], i: usize) -> Result<Option<Vec<M
 
 // Whether the table has a row one step down from each row of the quotient.
 fn have_lower(rows: &[MultiRow], quotient: &[MultiRow], i: usize) -> bool
-    requires ordered { AreOrdered rows.now }
-    requires small { All IsSmall quotient.now }
+    requires ordered { AreInComponentOrder rows.now }
+    requires small { All IsSmallByComponent quotient.now }
     requires place { All (HasPlace i) quotient.now }
-    ensures { IsTrue result ↔ All (λ row. 1 ≤ rank_at_of rows.now (step_down i (degrees_of row))) quotient.now }
+    ensures { IsTrue result ↔ All (λ row. 1 ≤ component_rank_at_of rows.now (step_down i (degrees_of row))) quotient.now }
 {
     for row in quotient {
         if rank_down(rows, row, i) == 0 {
@@ -135,28 +135,28 @@ fn have_lower(rows: &[MultiRow], quotient: &[MultiRow], i: usize) -> bool
 
 // The rank one step up from a row.
 fn rank_up(rows: &[MultiRow], row: &MultiRow, i: usize) -> u64
-    requires ordered { AreOrdered rows.now }
-    requires small { IsSmall row.now }
+    requires ordered { AreInComponentOrder rows.now }
+    requires small { IsSmallByComponent row.now }
     requires place { HasPlace i row.now }
-    ensures { result ≡ rank_at_of rows.now (step_up i (degrees_of row.now)) }
+    ensures { result ≡ component_rank_at_of rows.now (step_up i (degrees_of row.now)) }
 {
-    rank_at(rows, row.m + 1, &row.d.raised(i))
+    component_rank_at(rows, row.m + 1, &row.d.raised_at(i))
 }
 
 // The rank one step down.
 fn rank_down(rows: &[MultiRow], row: &MultiRow, i: usize) -> u64
-    requires ordered { AreOrdered rows.now }
-    requires small { IsSmall row.now }
+    requires ordered { AreInComponentOrder rows.now }
+    requires small { IsSmallByComponent row.now }
     requires place { HasPlace i row.now }
-    ensures { result ≡ rank_at_of rows.now (step_down i (degrees_of row.now)) }
+    ensures { result ≡ component_rank_at_of rows.now (step_down i (degrees_of row.now)) }
 {
-    rank_at(rows, row.m - 1, &row.d.lowered(i))
+    component_rank_at(rows, row.m - 1, &row.d.lowered_at(i))
 }
 
 // The rank in these degrees of rows in order.
-fn rank_at(rows: &[MultiRow], m: i32, d: &DegreeList) -> u64
-    requires { AreOrdered rows.now }
-    ensures { result ≡ rank_at_of rows.now (m, d.now) }
+fn component_rank_at(rows: &[MultiRow], m: i32, d: &DegreeList) -> u64
+    requires { AreInComponentOrder rows.now }
+    ensures { result ≡ component_rank_at_of rows.now (m, d.now) }
 {
     for row in rows {
         if row.stands_at(m, d) {

@@ -2,8 +2,8 @@
 ghost use Rattle.std.specs.Prelude.{◌≡◌, ℕ, ◌↔◌, ◌≤◌, ◌&&◌, IsTrue, IsSome, IfSome, length};
 ghost use Rattle.std.specs.List.{All};
 ghost use Rattle.std.specs.Ordering.{int_eq};
-ghost use Rattle.hat_division.specs.DegreeLists.{same_degrees as same_degrees_of, stands_before};
-ghost use Rattle.hat_division.specs.MultiTable.{degrees_of, AreOrdered, HasRank, HasLength, IsMultiTable};
+ghost use Rattle.hat_division.specs.DegreeLists.{same_degrees as same_degrees_of, stands_before_by_component};
+ghost use Rattle.hat_division.specs.MultiTable.{degrees_of, AreInComponentOrder, HasComponentRank, HasLength, IsMultiTable};
 
 use crate::degree_lists::{is_higher, same_degrees};
 use crate::{DegreeList, MAX_RANK};
@@ -20,7 +20,7 @@ pub struct MultiRow {
 impl MultiRow {
     /// Whether this row stands before `other` in a table.
     pub(crate) fn comes_before(&self, other: &MultiRow) -> bool
-        ensures { result ≡ stands_before (degrees_of self.now) (degrees_of other.now) }
+        ensures { result ≡ stands_before_by_component (degrees_of self.now) (degrees_of other.now) }
     {
         let higher = is_higher(self.d.degrees(), other.d.degrees());
         let same = same_degrees(self.d.degrees(), other.d.degrees());
@@ -36,7 +36,7 @@ impl MultiRow {
     }
 
     fn has_rank(&self) -> bool
-        ensures { IsTrue result ↔ HasRank self.now }
+        ensures { IsTrue result ↔ HasComponentRank self.now }
     {
         1 <= self.rank && self.rank <= MAX_RANK
     }
@@ -49,7 +49,7 @@ impl MultiRow {
 }
 
 fn are_ordered(rows: &[MultiRow]) -> bool
-    ensures { IsTrue result ↔ AreOrdered rows.now }
+    ensures { IsTrue result ↔ AreInComponentOrder rows.now }
 {
     for i in 1..rows.len() {
         if !rows[i - 1].comes_before(&rows[i]) {
@@ -60,7 +60,7 @@ fn are_ordered(rows: &[MultiRow]) -> bool
 }
 
 fn have_ranks(rows: &[MultiRow]) -> bool
-    ensures { IsTrue result ↔ All HasRank rows.now }
+    ensures { IsTrue result ↔ All HasComponentRank rows.now }
 {
     rows.iter().all(|row| row.has_rank())
 }

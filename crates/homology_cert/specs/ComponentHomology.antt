@@ -3,14 +3,14 @@
 -- a finer grading.
 --     ComponentRow               a Maslov degree, the degrees at all components, and a rank
 --     HasDegrees g m ds x        x is a state of g with Maslov degree m and the degrees ds at the components
---     HaveDegrees g m ds z       so is each state in z
+--     HaveDegrees g m ds z       each state in z is of these degrees
 --     IsCycle g m ds z           z is of these degrees, and its border is empty
 --     IsBoundary g m ds z        z is the border of a chain one Maslov degree above, with the same degrees at the
 --                                components
 --     IsComponentRank g m ds d   d is the dimension of cycles modulo boundaries in these degrees
 --     IsComponentTable g rows    the rows are all (m, ds, d) with such a rank d above 0, in the order of tables
---     added_rank rows m a        the ranks of the rows with Maslov degree m and degrees that add up to twice a, added
---                                up
+--     added_rank rows m a        the sum of the ranks of the rows with Maslov degree m and degrees that add up to twice
+--                                a
 use Rattle.std.specs.Prelude.{◌≡◌, ◌↔◌, ℕ, ◌<◌, ◌&&◌, IsTrue, true, ℤ, pos, ◌+ℤ◌, ◌*ℤ◌, if◌then◌else◌, List}
 use Rattle.std.specs.List.{Contains, AllPairs, sum_by}
 use Rattle.std.specs.Ordering.{int_eq}
@@ -20,7 +20,7 @@ use Rattle.torus_geom.specs.Border.{border}
 use Rattle.torus_geom.specs.Chains.{Chain, nothing, chain_sums}
 use Rattle.torus_geom.specs.Degrees.{maslov_o}
 use Rattle.torus_geom.specs.Marks.{Marks, size}
-use Rattle.hat_division.specs.DegreeLists.{stands_before}
+use Rattle.hat_division.specs.DegreeLists.{stands_before_by_component}
 use Rattle.multi_degree.specs.ComponentDegrees.{component_degrees, total}
 
 abbrev pub ComponentRow : Type 0
@@ -44,7 +44,7 @@ abbrev pub IsComponentRank : Marks → ℤ → List ℤ → ℕ → Type 0
 IsComponentRank g m ds d = IsDimension chain_sums (IsCycle g m ds) (IsBoundary g m ds) d
 
 pub record IsComponentTable (g : Marks) (rows : List ComponentRow) : Type 0 where
-  pub ordered : AllPairs (λ (p q : ComponentRow). IsTrue (stands_before (p.0, p.1) (q.0, q.1))) rows
+  pub ordered : AllPairs (λ (p q : ComponentRow). IsTrue (stands_before_by_component (p.0, p.1) (q.0, q.1))) rows
   pub complete : (m : ℤ) (ds : List ℤ) (d : ℕ) → Contains rows (m, ds, d) ↔ ((0 < d) × IsComponentRank g m ds d)
 
 abbrev pub added_rank : List ComponentRow → ℤ → ℤ → ℕ

@@ -4,10 +4,10 @@ ghost use Rattle.std.specs.List.{All};
 ghost use Rattle.torus_geom.specs.Components.{components};
 ghost use Rattle.torus_geom.specs.Homology.{IsHomologyRank};
 ghost use Rattle.homology_cert.specs.ComponentHomology.{ComponentRow, IsComponentRank, IsComponentTable, added_rank};
-ghost use Rattle.homology_cert.specs.ComponentRows.{component_row, HasSmallRank};
+ghost use Rattle.homology_cert.specs.ComponentRows.{component_row, HasSmallComponentRank};
 ghost use Rattle.homology_cert.specs.Inner.CodeComponents.{IsComponentTable as IsCodeTable};
 ghost use Rattle.homology_cert.specs.Inner.Left.{IsCell, AreCounted};
-ghost use Rattle.hat_division.specs.MultiTable.{rank_at, ArePositive, HasLength, IsSmall};
+ghost use Rattle.hat_division.specs.MultiTable.{component_rank_at, ArePositive, HasLength, IsSmallByComponent};
 
 use crate::degrees::alexander_degrees;
 use crate::left_cells::cells_left;
@@ -32,8 +32,8 @@ use torus_geom::Grid;
 pub fn rank_table_multi(alloc: Global, g: &Grid) -> Result<MultiTable, NoMemory>
     ensures table { IfOk result (λ t. IsComponentTable g.now (map component_row t)) }
     ensures lengths { IfOk result (λ t. All (HasLength (components g.now)) t) }
-    ensures degrees { IfOk result (λ t. All IsSmall t) }
-    ensures ranks { IfOk result (λ t. All HasSmallRank t) }
+    ensures degrees { IfOk result (λ t. All IsSmallByComponent t) }
+    ensures ranks { IfOk result (λ t. All HasSmallComponentRank t) }
 
     // Whatever the call answers: in all degrees some number is the rank, and at most one is.
     ensures some_rank { (m : ℤ) (ds : List ℤ) → (d : ℕ) × IsComponentRank g.now m ds d }
@@ -56,8 +56,8 @@ pub fn rank_table_multi(alloc: Global, g: &Grid) -> Result<MultiTable, NoMemory>
 fn table_of(alloc: Global, g: &Grid) -> Result<MultiTable, NoMemory>
     ensures table { IfOk result (λ t. IsCodeTable g.now (map component_row t)) }
     ensures lengths { IfOk result (λ t. All (HasLength (components g.now)) t) }
-    ensures degrees { IfOk result (λ t. All IsSmall t) }
-    ensures ranks { IfOk result (λ t. All HasSmallRank t) }
+    ensures degrees { IfOk result (λ t. All IsSmallByComponent t) }
+    ensures ranks { IfOk result (λ t. All HasSmallComponentRank t) }
 {
     let _size = g.size();
     let degrees = alexander_degrees(alloc, g)?;
@@ -74,7 +74,7 @@ fn count_states(g: &Grid, cells: &[Cell], rows: &mut Vec<MultiRow>) -> Result<()
     requires states { All (IsCell g.now) cells.now }
     requires few { length cells.now < 2 ^ 32 }
     requires positive { ArePositive rows.old.items }
-    requires small { (k : ℤ × List ℤ) → rank_at rows.old.items k < 2 ^ 32 }
+    requires small { (k : ℤ × List ℤ) → component_rank_at rows.old.items k < 2 ^ 32 }
     ensures { OnOk result (AreCounted g.now cells.now rows.old.items rows.new.items) }
 {
     for cell in cells {

@@ -4,8 +4,8 @@ use Rattle.std.specs.Prelude.{MatchOption}
 use Rattle.std.proofs.lemmas.List.{get_or-map, length-map, take_more}
 use Rattle.std.proofs.lemmas.List.Elements.{Contains-get_or}
 use Rattle.f2_algebra.proofs.Chains.Lists.{below-map}
-use Rattle.hat_division.specs.DegreeLists.{stands_before}
-use Rattle.hat_division.specs.MultiTable.{AreOrdered, HasLength, IsMultiQuotient}
+use Rattle.hat_division.specs.DegreeLists.{stands_before_by_component}
+use Rattle.hat_division.specs.MultiTable.{AreInComponentOrder, HasLength, IsMultiQuotient}
 use Rattle.hat_division.specs.declared.multi_tables.MultiRow.{MultiRow}
 use Rattle.hat_division.proofs.Multi.MultiTableLemmas.{decide_multi_quotient}
 use Rattle.homology_cert.specs.ComponentHomology.{ComponentRow, IsComponentTable}
@@ -56,10 +56,10 @@ module _ (g : Marks) (rows : List MultiRow) (table : IsComponentTable g (map com
       → get_or (map component_row rows) k (component_row d) ≡ component_row (get_or rows k d)
   at_row k d l = get_or-map component_row rows k d (component_row d) l
 
-  in_order : AreOrdered rows
+  in_order : AreInComponentOrder rows
   in_order i j d l within =
       let pair = table.ordered i j (component_row d) l (below-map component_row rows j within) in
-      subst (λ (t : ComponentRow × ComponentRow). IsTrue (stands_before (t.0.0, t.0.1) (t.1.0, t.1.1)))
+      subst (λ (t : ComponentRow × ComponentRow). IsTrue (stands_before_by_component (t.0.0, t.0.1) (t.1.0, t.1.1)))
       (λ k. (at_row i d (omega (arith, l, within)) k, at_row j d within k)) pair
 
   above_zero : All (λ (row : MultiRow). 1 ≤ row.rank) rows

@@ -26,7 +26,7 @@ pub record IsTableOf (g : Marks) (rows : List TableRow) : Type 0 where
 pub record IsComponentTableOf (g : Marks) (rows : List MultiRow) : Type 0 where
   pub table : IsComponentTable g (map component_row rows)
   pub lengths : All (HasLength (components g)) rows
-  pub small : All multi.IsSmall rows
+  pub small : All multi.IsSmallByComponent rows
 
 abbrev pub AreTablesOf : Marks → Tables → Type 0
 AreTablesOf g tables = IfSome tables.whole (IsTableOf g) × IfSome tables.by_component (IsComponentTableOf g)

@@ -5,7 +5,7 @@ use Rattle.std.specs.Ordering.{int_eq}
 use Rattle.std.proofs.lemmas.Bool.{cases_Bool, false≢true, and_parts, and_from, or_left, or_right, or_cases}
 use Rattle.std.proofs.lemmas.Bool.Decides.{Decides-int_eq}
 use Rattle.std.proofs.lemmas.Int.{ints}
-use Rattle.hat_division.specs.DegreeLists.{is_higher, same_degrees, stands_before}
+use Rattle.hat_division.specs.DegreeLists.{is_higher, same_degrees, stands_before_by_component}
 
 -- ---- the test of two lists
 pub same_degrees-itself : (ds : List ℤ) → same_degrees ds ds ≡ true
@@ -110,7 +110,7 @@ is_higher-or (d ∷ ds) (e ∷ es) = elim (cases_Bool (int_lt e d)) [
 ]
 
 -- ---- the order of rows
-pub multidegree_before-itself : (p : ℤ × List ℤ) → stands_before p p ≡ false
+pub multidegree_before-itself : (p : ℤ × List ℤ) → stands_before_by_component p p ≡ false
 multidegree_before-itself p =
     by (is_higher p.1 p.1) (is_higher-itself p.1) (same_degrees p.1 p.1) (int_lt p.0 p.0) (int_lt-itself p.0)
   where
@@ -119,8 +119,8 @@ multidegree_before-itself p =
     by false h true c k = k
     by false h false c k = refl
 
-pub multidegree_before-transitive : (p q r : ℤ × List ℤ) → stands_before p q ≡ true → stands_before q r ≡ true
-    → stands_before p r ≡ true
+pub multidegree_before-transitive : (p q r : ℤ × List ℤ) → stands_before_by_component p q ≡ true → stands_before_by_component q r ≡ true
+    → stands_before_by_component p r ≡ true
 multidegree_before-transitive p q r h k =
     elim (or_cases (is_higher p.1 q.1) (same_degrees p.1 q.1 && int_lt q.0 p.0) h) [
       | inl pq ↦ elim (or_cases (is_higher q.1 r.1) (same_degrees q.1 r.1 && int_lt r.0 q.0) k) [
@@ -143,7 +143,7 @@ multidegree_before-transitive p q r h k =
     ]
 
 pub multidegree_before-or : (p q : ℤ × List ℤ)
-    → (stands_before p q ≡ true) ⊎ ((stands_before q p ≡ true) ⊎ (p ≡ q))
+    → (stands_before_by_component p q ≡ true) ⊎ ((stands_before_by_component q p ≡ true) ⊎ (p ≡ q))
 multidegree_before-or p q = elim (is_higher-or p.1 q.1) [
   | inl h ↦ inl (or_left (is_higher p.1 q.1) _ h)
   | inr other ↦ elim other [

@@ -8,7 +8,7 @@ use Rattle.std.proofs.lemmas.List.Elements.{Contains-get_or}
 use Rattle.gradings.specs.Degrees.{IsSmallDegree}
 use Rattle.hat_division.specs.DegreeLists.{same_degrees}
 use Rattle.hat_division.specs.Factors.{copies}
-use Rattle.hat_division.specs.MultiTable.{degrees_of, rank_at, AreOrdered, step_up, step_down, steps_below, steps_up, HasRank, HasLength, IsMultiTable, IsSmall, IsQuotientBy, ArePositive}
+use Rattle.hat_division.specs.MultiTable.{degrees_of, component_rank_at, AreInComponentOrder, step_up, step_down, steps_below, steps_up, HasComponentRank, HasLength, IsMultiTable, IsSmallByComponent, IsQuotientBy, ArePositive}
 use Rattle.hat_division.specs.Inner.Rows.{HasPlace}
 use Rattle.hat_division.specs.declared.multi_tables.MultiRow.{MultiRow}
 use Rattle.hat_division.proofs.Multi.DegreeListLemmas.{same_multidegree-is}
@@ -17,39 +17,39 @@ use Rattle.hat_division.proofs.Factors.TableShapes.{ranks_of, ranks_of-none, ran
 use Rattle.hat_division.proofs.Factors.FactorQuotients.{IsQuotientOf, quotient-le, quotient_none, quotients_next, none_next}
 use Rattle.hat_division.proofs.Factors.QuotientSteps.{IsCandidateFor, ranks_of-row}
 use Rattle.hat_division.proofs.Factors.RowSteps.{row_among, all_among, quotient_found, no_quotient}
-use Rattle.hat_division.proofs.Multi.MultiTableLemmas.{multi_shape, rank_at-ranks_of, step_up_IsStepUp, step_up-before, steps_below_AreStepsUp, quotient_by-is}
+use Rattle.hat_division.proofs.Multi.MultiTableLemmas.{multi_shape, component_rank_at-ranks_of, step_up_IsStepUp, step_up-before, steps_below_AreStepsUp, quotient_by-is}
 
 -- ---- rows in order
 pub general : (rows : List MultiRow) → ArePositive rows → shapes.ArePositive multi_shape rows
 general rows h = record { ordered = h.ordered; positive = h.positive }
 
-pub rank_at-row : (rows : List MultiRow) (row : MultiRow) (k : ℤ × List ℤ) → AreOrdered rows → Contains rows row
-    → degrees_of row ≡ k → rank_at rows k ≡ row.rank
-rank_at-row rows row k ordered inside e =
-    rank_at-ranks_of rows k ∙ ap (ranks_of multi_shape rows) (sym e) ∙ ranks_of-row multi_shape rows row ordered inside
+pub component_rank_at-row : (rows : List MultiRow) (row : MultiRow) (k : ℤ × List ℤ) → AreInComponentOrder rows → Contains rows row
+    → degrees_of row ≡ k → component_rank_at rows k ≡ row.rank
+component_rank_at-row rows row k ordered inside e =
+    component_rank_at-ranks_of rows k ∙ ap (ranks_of multi_shape rows) (sym e) ∙ ranks_of-row multi_shape rows row ordered inside
 
-pub rank_at-stands : (rows : List MultiRow) (row : MultiRow) (m : ℤ) (ds : List ℤ) → AreOrdered rows
-    → Contains rows row → (int_eq row.m m && same_degrees row.d ds) ≡ true → row.rank ≡ rank_at rows (m, ds)
-rank_at-stands rows row m ds ordered inside h =
-    sym (rank_at-row rows row (m, ds) ordered inside ((same_multidegree-is (row.m, row.d) (m, ds)).0 h))
+pub component_rank_at-stands : (rows : List MultiRow) (row : MultiRow) (m : ℤ) (ds : List ℤ) → AreInComponentOrder rows
+    → Contains rows row → (int_eq row.m m && same_degrees row.d ds) ≡ true → row.rank ≡ component_rank_at rows (m, ds)
+component_rank_at-stands rows row m ds ordered inside h =
+    sym (component_rank_at-row rows row (m, ds) ordered inside ((same_multidegree-is (row.m, row.d) (m, ds)).0 h))
 
-pub rank_at-nowhere : (rows : List MultiRow) (m : ℤ) (ds : List ℤ)
+pub component_rank_at-nowhere : (rows : List MultiRow) (m : ℤ) (ds : List ℤ)
     → ((k : ℕ) (d : MultiRow) → k < length rows
     → (int_eq (get_or rows k d).m m && same_degrees (get_or rows k d).d ds) ≡ false)
-    → 0 ≡ rank_at rows (m, ds)
-rank_at-nowhere rows m ds none =
-    sym (rank_at-ranks_of rows (m, ds) ∙ ranks_of-none multi_shape rows (m, ds) (λ row inside e.
+    → 0 ≡ component_rank_at rows (m, ds)
+component_rank_at-nowhere rows m ds none =
+    sym (component_rank_at-ranks_of rows (m, ds) ∙ ranks_of-none multi_shape rows (m, ds) (λ row inside e.
     let (k, l, is) = inside in
     false≢true (sym (none k row l)
     ∙ (same_multidegree-is ((get_or rows k row).m, (get_or rows k row).d) (m, ds)).1
     (ap degrees_of is ∙ e))))
 
-pub rank-moved : (rows : List MultiRow) (m n : ℤ) (ds es : List ℤ) (r : ℕ) → r ≡ rank_at rows (n, es) → n ≡ m
-    → es ≡ ds → r ≡ rank_at rows (m, ds)
-rank-moved rows m n ds es r is at_m at_ds = is ∙ (λ j. rank_at rows (at_m j, at_ds j))
+pub rank-moved : (rows : List MultiRow) (m n : ℤ) (ds es : List ℤ) (r : ℕ) → r ≡ component_rank_at rows (n, es) → n ≡ m
+    → es ≡ ds → r ≡ component_rank_at rows (m, ds)
+rank-moved rows m n ds es r is at_m at_ds = is ∙ (λ j. component_rank_at rows (at_m j, at_ds j))
 
 -- ---- what holds of rows by their degrees
-small_same : (t r : MultiRow) → degrees_of t ≡ degrees_of r → IsSmall t → IsSmall r
+small_same : (t r : MultiRow) → degrees_of t ≡ degrees_of r → IsSmallByComponent t → IsSmallByComponent r
 small_same t r e h = record {
   maslov = subst IsSmallDegree (ap (λ (p : ℤ × List ℤ). p.0) e) h.maslov;
   degrees = subst (All IsSmallDegree) (ap (λ (p : ℤ × List ℤ). p.1) e) h.degrees;
@@ -67,24 +67,24 @@ has_length_same n t r e h = sym (length_same t r e) ∙ h
 -- ---- at the end
 module _ (i : ℕ) (rows : List MultiRow) (positive : ArePositive rows) (c : List MultiRow)
     (all : IsCandidateFor multi_shape (step_up i) rows rows c) where
-  pub end_small : All IsSmall rows → All IsSmall c
-  end_small = all_among multi_shape rows c all.positive_so_far all.under IsSmall small_same
+  pub end_small : All IsSmallByComponent rows → All IsSmallByComponent c
+  end_small = all_among multi_shape rows c all.positive_so_far all.under IsSmallByComponent small_same
 
   pub end_place : All (HasPlace i) rows → All (HasPlace i) c
   end_place = all_among multi_shape rows c all.positive_so_far all.under (HasPlace i) (place_same i)
 
-  pub end_found : All (λ row. 1 ≤ rank_at rows (step_down i (degrees_of row))) c → IsQuotientBy (step_up i ∷ []) rows c
+  pub end_found : All (λ row. 1 ≤ component_rank_at rows (step_down i (degrees_of row))) c → IsQuotientBy (step_up i ∷ []) rows c
   end_found lower =
       (quotient_by-is (step_up i ∷ []) rows c).1
       (quotient_found multi_shape (step_up i) (step_up_IsStepUp i) rows (general rows positive) (step_up-before i) c all
-      (λ k d l. subst (λ n. 1 ≤ n) (rank_at-ranks_of rows (step_down i (degrees_of (get_or c k d)))) (lower k d l)))
+      (λ k d l. subst (λ n. 1 ≤ n) (component_rank_at-ranks_of rows (step_down i (degrees_of (get_or c k d)))) (lower k d l)))
 
-  pub end_none : (All (λ row. 1 ≤ rank_at rows (step_down i (degrees_of row))) c → ⊥) → (q : List MultiRow)
+  pub end_none : (All (λ row. 1 ≤ component_rank_at rows (step_down i (degrees_of row))) c → ⊥) → (q : List MultiRow)
       → IsQuotientBy (step_up i ∷ []) rows q → ⊥
   end_none not_lower q h =
       no_quotient multi_shape (step_up i) (step_up_IsStepUp i) rows (general rows positive) (step_up-before i) c all
       (λ lower. not_lower (λ k d l.
-      subst (λ n. 1 ≤ n) (sym (rank_at-ranks_of rows (step_down i (degrees_of (get_or c k d))))) (lower k d l)))
+      subst (λ n. 1 ≤ n) (sym (component_rank_at-ranks_of rows (step_down i (degrees_of (get_or c k d))))) (lower k d l)))
       q ((quotient_by-is (step_up i ∷ []) rows q).0 h)
 
 -- ---- quotients
@@ -96,8 +96,8 @@ module _ (ups : List (ℤ × List ℤ → ℤ × List ℤ)) (rows q : List Multi
   under_q : (k : ℤ × List ℤ) → ranks_of multi_shape rows k ≡ 0 → ranks_of multi_shape q k ≡ 0
   under_q k none = let less = quotient-le multi_shape ups rows q ((quotient_by-is ups rows q).0 h) k in omega arith
 
-  pub quotient_small : All IsSmall rows → All IsSmall q
-  quotient_small = all_among multi_shape rows q (general q (quotient_positive ups rows q h)) under_q IsSmall small_same
+  pub quotient_small : All IsSmallByComponent rows → All IsSmallByComponent q
+  quotient_small = all_among multi_shape rows q (general q (quotient_positive ups rows q h)) under_q IsSmallByComponent small_same
 
   pub quotient_place : (i : ℕ) → All (HasPlace i) rows → All (HasPlace i) q
   quotient_place i =
@@ -118,7 +118,7 @@ module _ (ups : List (ℤ × List ℤ → ℤ × List ℤ)) (rows q : List Multi
         let inside = Contains-get_or q k d l in
         let t = row_among multi_shape rows q (general q (quotient_positive ups rows q h)) under_q r inside in
         let (j, lj, is) = t.1 in
-        let held : HasRank t.0 = subst HasRank is (table.ranks j t.0 lj) in
+        let held : HasComponentRank t.0 = subst HasComponentRank is (table.ranks j t.0 lj) in
         let bound = held.bounded in
         let less = quotient-le multi_shape ups rows q ((quotient_by-is ups rows q).0 h) (degrees_of r) in
         let own = ranks_of-row multi_shape q r h.ordered inside in

@@ -8,7 +8,7 @@ use Rattle.std.proofs.lemmas.List.{get_or-take, length-take-le}
 use Rattle.std.proofs.Math.Seq.{drop-cons, take-set-lt}
 use mir.Syntax.{w32}
 use mir.Val.{SFits, to_z, of_z}
-use Rattle.hat_division.specs.DegreeLists.{is_higher, stands_before, raised, lowered}
+use Rattle.hat_division.specs.DegreeLists.{is_higher, stands_before_by_component, raised_at, lowered_at}
 use Rattle.hat_division.specs.MultiTable.{degrees_of}
 use Rattle.hat_division.specs.declared.multi_tables.MultiRow.{MultiRow}
 use Rattle.hat_division.proofs.Multi.DegreeListLemmas.{multidegree_before-transitive}
@@ -17,14 +17,14 @@ use Rattle.hat_division.proofs.Multi.DegreeListLemmas.{multidegree_before-transi
 abbrev pub AreOrderedBelow : List MultiRow → ℕ → Type 0
 AreOrderedBelow rows i =
     (k : ℕ) (d : MultiRow) → suc k < i
-    → stands_before (degrees_of (get_or rows k d)) (degrees_of (get_or rows (suc k) d)) ≡ true
+    → stands_before_by_component (degrees_of (get_or rows k d)) (degrees_of (get_or rows (suc k) d)) ≡ true
 
 -- rows in order by neighbours are in order
 pub ordered_by_neighbours : (rows : List MultiRow) → AreOrderedBelow rows (length rows)
-    → AllPairs (λ p q. IsTrue (stands_before (degrees_of p) (degrees_of q))) rows
+    → AllPairs (λ p q. IsTrue (stands_before_by_component (degrees_of p) (degrees_of q))) rows
 ordered_by_neighbours rows h i zero d l m = absurd (omega arith)
 ordered_by_neighbours rows h i (suc j) d l m = elim (cases_eq i j) [
-  | inl e ↦ ap (λ k. stands_before (degrees_of (get_or rows k d)) (degrees_of (get_or rows (suc j) d))) e ∙ h j d m
+  | inl e ↦ ap (λ k. stands_before_by_component (degrees_of (get_or rows k d)) (degrees_of (get_or rows (suc j) d))) e ∙ h j d m
   | inr p ↦
       multidegree_before-transitive (degrees_of (get_or rows i d)) (degrees_of (get_or rows j d))
       (degrees_of (get_or rows (suc j) d)) (ordered_by_neighbours rows h i j d (omega arith) (omega arith)) (h j d m)
@@ -100,15 +100,15 @@ module _ (p q : List ℤ) (i : ℕ) (d : ℤ) (lp : i < length p) where
         (is_higher (drop (i + 1) p) (drop (i + 1) q)) h (alike (get_or q i d) (get_or p i d) h k)
 
 -- ---- one number raised or lowered
-pub raised-set : (i : ℕ) (ds : List ℤ) (d : ℤ) → i < length ds → raised i ds ≡ set ds i (get_or ds i d +ℤ pos 2)
-raised-set i [] d l = absurd (omega arith)
-raised-set zero (x ∷ ds) d l = refl
-raised-set (suc i) (x ∷ ds) d l = ap (λ xs. x ∷ xs) (raised-set i ds d (omega arith))
+pub raised_at-set : (i : ℕ) (ds : List ℤ) (d : ℤ) → i < length ds → raised_at i ds ≡ set ds i (get_or ds i d +ℤ pos 2)
+raised_at-set i [] d l = absurd (omega arith)
+raised_at-set zero (x ∷ ds) d l = refl
+raised_at-set (suc i) (x ∷ ds) d l = ap (λ xs. x ∷ xs) (raised_at-set i ds d (omega arith))
 
-pub lowered-set : (i : ℕ) (ds : List ℤ) (d : ℤ) → i < length ds → lowered i ds ≡ set ds i (get_or ds i d -ℤ pos 2)
-lowered-set i [] d l = absurd (omega arith)
-lowered-set zero (x ∷ ds) d l = refl
-lowered-set (suc i) (x ∷ ds) d l = ap (λ xs. x ∷ xs) (lowered-set i ds d (omega arith))
+pub lowered_at-set : (i : ℕ) (ds : List ℤ) (d : ℤ) → i < length ds → lowered_at i ds ≡ set ds i (get_or ds i d -ℤ pos 2)
+lowered_at-set i [] d l = absurd (omega arith)
+lowered_at-set zero (x ∷ ds) d l = refl
+lowered_at-set (suc i) (x ∷ ds) d l = ap (λ xs. x ∷ xs) (lowered_at-set i ds d (omega arith))
 
 -- ---- a number of a stored list
 -- what is stored at a place of the list
@@ -125,19 +125,19 @@ set_stored ds stored i n k v counted view within l =
     let same : n ≡ k = counted ∙ long in
     take-set-lt n stored i v (omega arith) ∙ (λ j. set (take (same j) stored) i v) ∙ ap (λ xs. set xs i v) view
 
-pub stored-raised : (ds stored : List ℤ) (i n k : ℕ) (v : ℤ) → n ≡ length ds → take k stored ≡ ds → k ≤ length stored
-    → i < length ds → v ≡ get_or stored i (pos 0) +ℤ pos 2 → take n (set stored i v) ≡ raised i ds
-stored-raised ds stored i n k v counted view within l is =
+pub stored-raised_at : (ds stored : List ℤ) (i n k : ℕ) (v : ℤ) → n ≡ length ds → take k stored ≡ ds → k ≤ length stored
+    → i < length ds → v ≡ get_or stored i (pos 0) +ℤ pos 2 → take n (set stored i v) ≡ raised_at i ds
+stored-raised_at ds stored i n k v counted view within l is =
     set_stored ds stored i n k v counted view within l
     ∙ ap (set ds i) (is ∙ ap (λ z. z +ℤ pos 2) (stored_at ds stored i k view within l))
-    ∙ sym (raised-set i ds (pos 0) l)
+    ∙ sym (raised_at-set i ds (pos 0) l)
 
-pub stored-lowered : (ds stored : List ℤ) (i n k : ℕ) (v : ℤ) → n ≡ length ds → take k stored ≡ ds → k ≤ length stored
-    → i < length ds → v ≡ get_or stored i (pos 0) -ℤ pos 2 → take n (set stored i v) ≡ lowered i ds
-stored-lowered ds stored i n k v counted view within l is =
+pub stored-lowered_at : (ds stored : List ℤ) (i n k : ℕ) (v : ℤ) → n ≡ length ds → take k stored ≡ ds → k ≤ length stored
+    → i < length ds → v ≡ get_or stored i (pos 0) -ℤ pos 2 → take n (set stored i v) ≡ lowered_at i ds
+stored-lowered_at ds stored i n k v counted view within l is =
     set_stored ds stored i n k v counted view within l
     ∙ ap (set ds i) (is ∙ ap (λ z. z -ℤ pos 2) (stored_at ds stored i k view within l))
-    ∙ sym (lowered-set i ds (pos 0) l)
+    ∙ sym (lowered_at-set i ds (pos 0) l)
 
 -- two more and two less, as machine words
 pub two_up : (z : ℤ) → SFits w32 z → z ≤ℤ pos 1000

@@ -37,7 +37,7 @@ use Rattle.homology_cert.specs.Inner.CodeComponents.{multidegree, IsComponentRan
 use Rattle.state_rank.specs.Bijection.{ascending}
 use Rattle.rectangles.proofs.Homology.GridCells.{any-ascending}
 use Rattle.homology_cert.proofs.Components.LeftCells.{left-state}
-use Rattle.hat_division.specs.DegreeLists.{stands_before}
+use Rattle.hat_division.specs.DegreeLists.{stands_before_by_component}
 use Rattle.multi_degree.proofs.DegreeLaws.{total-component_degrees}
 use Rattle.hat_division.proofs.Multi.DegreeListLemmas.{same_multidegree, same_multidegree-is, multidegree_before-itself}
 use Rattle.homology_cert.proofs.Components.ComponentRanks.{IsApart-filter, one_component_rank, component_rank_counted}
@@ -263,9 +263,9 @@ module _ (g : Marks) (grid : IsGrid g) (a : ℤ) where
           (same_multidegree-is (multidegree g x) (y.0, y.1)).0 (and_parts (is_at y) (has_degrees y s) h).1 in
           let key : (m, ds) ≡ (y.0, y.1) = (λ i. (sym maslov i, ds)) ∙ same in (
             λ before. false≢true (sym (multidegree_before-itself (m, ds))
-                ∙ subst (λ p. stands_before (m, ds) p ≡ true) (sym key) before),
+                ∙ subst (λ p. stands_before_by_component (m, ds) p ≡ true) (sym key) before),
             λ before. false≢true (sym (multidegree_before-itself (m, ds))
-                ∙ subst (λ p. stands_before p (m, ds) ≡ true) (sym key) before),
+                ∙ subst (λ p. stands_before_by_component p (m, ds) ≡ true) (sym key) before),
           ))
           (and_from (is_at row) (has_degrees row s)
           (and_from (int_eq m m) (int_eq (total ds) (pos 2 *ℤ a)) ((Decides-int_eq m m).1 refl)

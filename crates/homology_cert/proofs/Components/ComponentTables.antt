@@ -3,7 +3,7 @@ use Rattle.std.proofs.Common.{◌≡◌, ℕ, ℤ, List, Contains, IsTrue, refl,
 use Rattle.std.proofs.lemmas.Bool.{false≢true}
 use Rattle.state_rank.specs.States.{factorial, unrank}
 use Rattle.torus_geom.specs.Marks.{Marks, size, IsGrid}
-use Rattle.hat_division.specs.DegreeLists.{stands_before}
+use Rattle.hat_division.specs.DegreeLists.{stands_before_by_component}
 use Rattle.homology_cert.specs.ComponentHomology.{ComponentRow}
 use Rattle.homology_cert.specs.Inner.CodeComponents.{multidegree, IsComponentRank, IsComponentTable}
 use Rattle.homology_cert.proofs.Homology.LawLemmas.{ordered_lists-same}
@@ -14,7 +14,7 @@ use Rattle.hat_division.proofs.Factors.QuotientSteps.{ranks_of-row}
 use Rattle.hat_division.proofs.Factors.TableExistence.{some_table}
 
 abbrev pub RowStandsBefore : ComponentRow → ComponentRow → Type 0
-RowStandsBefore p q = IsTrue (stands_before (p.0, p.1) (q.0, q.1))
+RowStandsBefore p q = IsTrue (stands_before_by_component (p.0, p.1) (q.0, q.1))
 
 one_way : (p q : ComponentRow) → RowStandsBefore p q → RowStandsBefore q p → ⊥
 one_way p q a b =
@@ -39,7 +39,7 @@ component_row_shape = record {
   made = λ row. refl;
   same = same_multidegree;
   same_is = same_multidegree-is;
-  before = stands_before;
+  before = stands_before_by_component;
   before_itself = multidegree_before-itself;
   before_later = multidegree_before-transitive;
   before_or = multidegree_before-or;

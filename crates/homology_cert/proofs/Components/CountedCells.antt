@@ -9,11 +9,11 @@ use Rattle.torus_geom.specs.Components.{components}
 use Rattle.torus_geom.specs.Marks.{Marks, size}
 use Rattle.sparse_complex.specs.declared.slices.Cell.{Cell}
 use Rattle.multi_degree.specs.ComponentDegrees.{component_degrees}
-use Rattle.hat_division.specs.MultiTable.{degrees_of, rank_at, ArePositive, IsCounted}
+use Rattle.hat_division.specs.MultiTable.{degrees_of, component_rank_at, ArePositive, IsCounted}
 use Rattle.homology_cert.specs.Inner.Left.{cell_degrees, cell_count, IsCell, IsKey, AreCounted}
 use Rattle.hat_division.specs.declared.multi_tables.MultiRow.{MultiRow}
 use Rattle.hat_division.proofs.Multi.DegreeListLemmas.{same_multidegree, same_multidegree-is}
-use Rattle.hat_division.proofs.Multi.DividedRows.{rank_at-row}
+use Rattle.hat_division.proofs.Multi.DividedRows.{component_rank_at-row}
 
 -- ---- how many cells have some degrees
 count_one : {A : Type 0} (p : A → Bool) (x : A) → count p (x ∷ []) ≡ (if p x then 1 else 0)
@@ -122,10 +122,10 @@ counted-cell g xs c first old new m d x is x_is m_is d_is small many one before 
 
 -- ---- the ranks stay small
 pub counted-small : (g : Marks) (xs : List Cell) (first rows : List MultiRow) → AreCounted g xs first rows
-    → ((k : ℤ × List ℤ) → rank_at first k < 2 ^ 32) → length xs < 2 ^ 32 → All (λ row. row.rank < 2 ^ 48) rows
+    → ((k : ℤ × List ℤ) → component_rank_at first k < 2 ^ 32) → length xs < 2 ^ 32 → All (λ row. row.rank < 2 ^ 48) rows
 counted-small g xs first rows h low few j d l =
     let row = get_or rows j d in
-    let own = rank_at-row rows row (degrees_of row) h.positive.ordered (Contains-get_or rows j d l) refl in
+    let own = component_rank_at-row rows row (degrees_of row) h.positive.ordered (Contains-get_or rows j d l) refl in
     let sum = h.ranks (degrees_of row) in
     let less = low (degrees_of row) in
     let most = cell_count-most g (degrees_of row) xs in

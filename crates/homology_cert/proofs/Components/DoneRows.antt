@@ -25,16 +25,16 @@ use Rattle.multi_degree.specs.ComponentDegrees.{total}
 use Rattle.homology_cert.specs.ComponentHomology.{ComponentRow}
 use Rattle.homology_cert.specs.Inner.CodeComponents.{IsComponentRank, IsComponentTable}
 use Rattle.homology_cert.specs.Inner.Ranks.{HasDegrees}
-use Rattle.homology_cert.specs.ComponentRows.{component_row, HasSmallRank}
-use Rattle.hat_division.specs.MultiTable.{degrees_of, rank_at, HasLength, IsSmall, IsMultiTable, ArePositive}
+use Rattle.homology_cert.specs.ComponentRows.{component_row, HasSmallComponentRank}
+use Rattle.hat_division.specs.MultiTable.{degrees_of, component_rank_at, HasLength, IsSmallByComponent, IsMultiTable, ArePositive}
 use Rattle.homology_cert.specs.Inner.Left.{cell_count, HasComponentRanks, IsKey, AreCounted, IsDone}
 use Rattle.hat_division.specs.declared.multi_tables.MultiRow.{MultiRow}
 use Rattle.multi_degree.proofs.DegreeLaws.{total-component_degrees}
 use Rattle.homology_cert.proofs.Components.ComponentRanks.{component_rank_elsewhere}
 use Rattle.homology_cert.proofs.Components.ComponentTables.{component_row_shape, table_of_ranks}
 use Rattle.homology_cert.proofs.Components.CountedCells.{cell_count-most, some_cell}
-use Rattle.hat_division.proofs.Multi.DividedRows.{rank_at-row}
-use Rattle.hat_division.proofs.Multi.MultiTableLemmas.{multi_shape, rank_at-ranks_of}
+use Rattle.hat_division.proofs.Multi.DividedRows.{component_rank_at-row}
+use Rattle.hat_division.proofs.Multi.MultiTableLemmas.{multi_shape, component_rank_at-ranks_of}
 use Rattle.hat_division.proofs.Factors.TableShapes as shapes
 use Rattle.hat_division.proofs.Factors.TableShapes.{ranks_of, ranks_of-cons, ranks_of-nil}
 
@@ -130,11 +130,11 @@ done-next g grid a left cells old new has counted so_far = (
   },
 )
   where
-    here : (m : ℤ) (ds : List ℤ) → total ds ≡ pos 2 *ℤ a → rank_at new (m, ds) ≡ cell_count g (m, ds) cells
+    here : (m : ℤ) (ds : List ℤ) → total ds ≡ pos 2 *ℤ a → component_rank_at new (m, ds) ≡ cell_count g (m, ds) cells
     here m ds is =
         let none = so_far.1.fresh m ds a (member_head a left) is in let sum = counted.ranks (m, ds) in omega arith
 
-    elsewhere : (m : ℤ) (ds : List ℤ) → (total ds ≡ pos 2 *ℤ a → ⊥) → rank_at new (m, ds) ≡ rank_at old (m, ds)
+    elsewhere : (m : ℤ) (ds : List ℤ) → (total ds ≡ pos 2 *ℤ a → ⊥) → component_rank_at new (m, ds) ≡ component_rank_at old (m, ds)
     elsewhere m ds other =
         let none = count-elsewhere g grid a cells has m ds other in let sum = counted.ranks (m, ds) in omega arith
 
@@ -169,19 +169,19 @@ rows_positive rows h = record {
 
 module _ (g : Marks) (grid : IsGrid g) (degrees : BTreeSet ℤ) (has : HasDegrees g (factorial (size g)) degrees)
     (rows : List MultiRow) (all : IsDone g [] rows) where
-  rank_here : (m : ℤ) (ds : List ℤ) → IsComponentRank g m ds (rank_at rows (m, ds))
+  rank_here : (m : ℤ) (ds : List ℤ) → IsComponentRank g m ds (component_rank_at rows (m, ds))
   rank_here m ds = all.done m ds (λ a inside e. no_member a inside)
 
   -- the rows are the table of the grid
   pub done-table : IsComponentTable g (map component_row rows)
   done-table = table_of_ranks g grid (map component_row rows) (rows_positive rows all.positive) (λ m ds.
-      subst (IsComponentRank g m ds) (rank_at-ranks_of rows (m, ds) ∙ sym (ranks_of-rows rows (m, ds)))
+      subst (IsComponentRank g m ds) (component_rank_at-ranks_of rows (m, ds) ∙ sym (ranks_of-rows rows (m, ds)))
       (rank_here m ds))
 
   own_rank : (k : ℕ) (d : MultiRow) → k < length rows
-      → rank_at rows (degrees_of (get_or rows k d)) ≡ (get_or rows k d).rank
+      → component_rank_at rows (degrees_of (get_or rows k d)) ≡ (get_or rows k d).rank
   own_rank k d l =
-      rank_at-row rows (get_or rows k d) (degrees_of (get_or rows k d)) all.positive.ordered
+      component_rank_at-row rows (get_or rows k d) (degrees_of (get_or rows k d)) all.positive.ordered
       (Contains-get_or rows k d l)
       refl
 
@@ -191,13 +191,13 @@ module _ (g : Marks) (grid : IsGrid g) (degrees : BTreeSet ℤ) (has : HasDegree
       let some = all.positive.positive k d l in
       all.keys (degrees_of (get_or rows k d)) (omega arith)
 
-  pub done-ranks : All HasSmallRank rows
+  pub done-ranks : All HasSmallComponentRank rows
   done-ranks k d l = subst (λ n. n < 2 ^ 32) (own_rank k d l) (all.small (degrees_of (get_or rows k d)))
 
   pub done-lengths : All (HasLength (components g)) rows
   done-lengths k d l = (own_key k d l).count
 
-  pub done-small : All IsSmall rows
+  pub done-small : All IsSmallByComponent rows
   done-small k d l =
       let key = own_key k d l in
       let (s, below, is) = key.state in

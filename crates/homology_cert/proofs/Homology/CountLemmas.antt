@@ -17,7 +17,7 @@ use Rattle.gradings.specs.Degrees.{bidegree_cmp}
 use Rattle.gradings.specs.declared.degrees.Bidegree.{Bidegree}
 use Rattle.gradings.proofs.OrderLemmas.{bidegree_cmp_total, bidegree_cmp_exact}
 use Rattle.hat_division.proofs.RankMapLemmas.{key_itself, key_other}
-use Rattle.hat_division.specs.RankMaps.{key_of, Ranks, rank_in}
+use Rattle.hat_division.specs.RankMaps.{bidegree_key, Ranks, rank_in}
 use Rattle.homology_cert.specs.Inner.Ranks.{degree_count, HasRanks, AreCounted, IsTold}
 
 -- ---- how many cells have a degree
@@ -62,8 +62,8 @@ count_at_most m (x ∷ xs) = by (int_eq x.maslov m) (count_at_most m xs)
 
 -- ---- the cells of a degree, one by one
 -- none is counted where the degree is new
-pub counted-none : (a : ℤ) (ranks : Ranks) → ((m : ℤ) → tree.get bidegree_cmp ranks (key_of (m, a)) ≡ None)
-    → ((b m : ℤ) → IfSome (tree.get bidegree_cmp ranks (key_of (m, b))) (λ d. 0 < d)) → AreCounted a [] ranks ranks
+pub counted-none : (a : ℤ) (ranks : Ranks) → ((m : ℤ) → tree.get bidegree_cmp ranks (bidegree_key (m, a)) ≡ None)
+    → ((b m : ℤ) → IfSome (tree.get bidegree_cmp ranks (bidegree_key (m, b))) (λ d. 0 < d)) → AreCounted a [] ranks ranks
 counted-none a ranks fresh positive = record {
   counts = λ m. ap (λ o. unwrap_or o 0) (fresh m);
   others = λ b m other. refl;
@@ -74,19 +74,19 @@ pub counted-next : (a : ℤ) (xs : List Cell) (c : Cell) (first old new : Ranks)
     → count ≡ rank_in old a c.maslov
     → ((q : Bidegree)
     → tree.get bidegree_cmp new q
-    ≡ cond (is_eq (bidegree_cmp (key_of (c.maslov, a)) q)) (Some (count + 1)) (tree.get bidegree_cmp old q))
+    ≡ cond (is_eq (bidegree_cmp (bidegree_key (c.maslov, a)) q)) (Some (count + 1)) (tree.get bidegree_cmp old q))
     → AreCounted a xs first old → AreCounted a (xs ++ c ∷ []) first new
 counted-next a xs c first old new count read adds before = record {
-  counts = λ m. ap (λ o. unwrap_or o 0) (adds (key_of (m, a))) ∙ at m (int_eq c.maslov m) refl
+  counts = λ m. ap (λ o. unwrap_or o 0) (adds (bidegree_key (m, a))) ∙ at m (int_eq c.maslov m) refl
       ∙ sym (count-push m xs c);
   others = λ b m other.
-      adds (key_of (m, b))
-      ∙ ap (λ t. cond t (Some (count + 1)) (tree.get bidegree_cmp old (key_of (m, b))))
-      (key_other (key_of (c.maslov, a)) (key_of (m, b)) (λ e. other (sym (ap (λ (p : Bidegree). p.a) e))))
+      adds (bidegree_key (m, b))
+      ∙ ap (λ t. cond t (Some (count + 1)) (tree.get bidegree_cmp old (bidegree_key (m, b))))
+      (key_other (bidegree_key (c.maslov, a)) (bidegree_key (m, b)) (λ e. other (sym (ap (λ (p : Bidegree). p.a) e))))
       ∙ before.others b m other;
   positive =
-      λ b m. subst (λ o. IfSome o (λ d. 0 < d)) (sym (adds (key_of (m, b))))
-      (above (is_eq (bidegree_cmp (key_of (c.maslov, a)) (key_of (m, b)))) (tree.get bidegree_cmp old (key_of (m, b)))
+      λ b m. subst (λ o. IfSome o (λ d. 0 < d)) (sym (adds (bidegree_key (m, b))))
+      (above (is_eq (bidegree_cmp (bidegree_key (c.maslov, a)) (bidegree_key (m, b)))) (tree.get bidegree_cmp old (bidegree_key (m, b)))
       (before.positive b m));
 }
   where
@@ -98,18 +98,18 @@ counted-next a xs c first old new count read adds before = record {
     no_more k = omega arith
 
     at : (m : ℤ) (t : Bool) → int_eq c.maslov m ≡ t
-        → unwrap_or (cond (is_eq (bidegree_cmp (key_of (c.maslov, a)) (key_of (m, a)))) (Some (count + 1))
-        (tree.get bidegree_cmp old (key_of (m, a)))) 0 ≡ degree_count m xs + cond (int_eq c.maslov m) 1 0
+        → unwrap_or (cond (is_eq (bidegree_cmp (bidegree_key (c.maslov, a)) (bidegree_key (m, a)))) (Some (count + 1))
+        (tree.get bidegree_cmp old (bidegree_key (m, a)))) 0 ≡ degree_count m xs + cond (int_eq c.maslov m) 1 0
     at m true e =
         let same : c.maslov ≡ m = (Decides-int_eq c.maslov m).0 e in
-        ap (λ t. unwrap_or (cond t (Some (count + 1)) (tree.get bidegree_cmp old (key_of (m, a)))) 0)
-        (ap (λ n. is_eq (bidegree_cmp (key_of (c.maslov, a)) (key_of (n, a)))) (sym same)
-        ∙ key_itself (key_of (c.maslov, a)))
+        ap (λ t. unwrap_or (cond t (Some (count + 1)) (tree.get bidegree_cmp old (bidegree_key (m, a)))) 0)
+        (ap (λ n. is_eq (bidegree_cmp (bidegree_key (c.maslov, a)) (bidegree_key (n, a)))) (sym same)
+        ∙ key_itself (bidegree_key (c.maslov, a)))
         ∙ ap (λ k. k + 1) (read ∙ ap (rank_in old a) same ∙ before.counts m)
         ∙ ap (λ b. degree_count m xs + cond b 1 0) (sym e)
     at m false e =
-        ap (λ t. unwrap_or (cond t (Some (count + 1)) (tree.get bidegree_cmp old (key_of (m, a)))) 0)
-        (key_other (key_of (c.maslov, a)) (key_of (m, a))
+        ap (λ t. unwrap_or (cond t (Some (count + 1)) (tree.get bidegree_cmp old (bidegree_key (m, a)))) 0)
+        (key_other (bidegree_key (c.maslov, a)) (bidegree_key (m, a))
         (λ s. true≢false (sym ((Decides-int_eq c.maslov m).1 (ap (λ (p : Bidegree). p.m) s)) ∙ e)))
         ∙ before.counts m ∙ no_more (degree_count m xs)
         ∙ ap (λ b. degree_count m xs + cond b 1 0) (sym e)

@@ -18,7 +18,7 @@ use Rattle.hat_division.specs.declared.tables.TableRow.{TableRow}
 use Rattle.gradings.specs.Degrees.{bidegree_cmp}
 use Rattle.gradings.specs.declared.degrees.Bidegree.{Bidegree}
 use Rattle.gradings.proofs.OrderLemmas.{bidegree_cmp_total, bidegree_cmp_exact, stands_before-bidegree_cmp}
-use Rattle.hat_division.specs.RankMaps.{key_of, Ranks, rank_in, row_of}
+use Rattle.hat_division.specs.RankMaps.{bidegree_key, Ranks, rank_in, row_of}
 use Rattle.homology_cert.specs.Inner.Ranks.{HasHomology, IsTold, IsDone, AreRows}
 use Rattle.hat_division.proofs.RankMapLemmas.{rows-ordered}
 use Rattle.homology_cert.proofs.Homology.SliceRanks.{one_homology_rank}
@@ -53,10 +53,10 @@ rows-of_ranks g ranks rows ordered all same = subst (AreRows g) (sym same) (reco
     stands row held =
         let same : rank_in ranks row.a row.m ≡ row.rank =
         one_homology_rank g row.m row.a _ _ ((everywhere row.a).told row.m) held.rank in
-        let found : tree.get bidegree_cmp ranks (key_of (row.m, row.a)) ≡ Some row.rank =
-        value (tree.get bidegree_cmp ranks (key_of (row.m, row.a))) row.rank same held.positive in
-        Contains-map row_of ranks.entries (key_of (row.m, row.a), row.rank)
-        ((btree_map_get_iff bidegree_cmp_total bidegree_cmp_exact ranks ordered (key_of (row.m, row.a)) row.rank).0
+        let found : tree.get bidegree_cmp ranks (bidegree_key (row.m, row.a)) ≡ Some row.rank =
+        value (tree.get bidegree_cmp ranks (bidegree_key (row.m, row.a))) row.rank same held.positive in
+        Contains-map row_of ranks.entries (bidegree_key (row.m, row.a), row.rank)
+        ((btree_map_get_iff bidegree_cmp_total bidegree_cmp_exact ranks ordered (bidegree_key (row.m, row.a)) row.rank).0
         found)
       where
         value : (o : Option ℕ) (d : ℕ) → unwrap_or o 0 ≡ d → 0 < d → o ≡ Some d

@@ -41,7 +41,7 @@ use Rattle.gradings.specs.Degrees.{IsSmallDegree}
 use Rattle.rectangles.proofs.Homology.GradedStates.{value_if}
 use Rattle.homology_cert.specs.Tables.{HasSmallDegrees}
 use Rattle.gradings.specs.Degrees.{bidegree_cmp}
-use Rattle.hat_division.specs.RankMaps.{key_of, Ranks, rank_in}
+use Rattle.hat_division.specs.RankMaps.{bidegree_key, Ranks, rank_in}
 use Rattle.homology_cert.specs.Inner.Ranks.{AreSmall, HasHomology, HasDegrees, HasRanks, AreCounted, IsTold, IsDone, AreRows}
 use Rattle.homology_cert.proofs.Homology.CountLemmas.{told-counted, told-other}
 use Rattle.homology_cert.proofs.Homology.SliceRanks.{one_homology_rank}
@@ -143,8 +143,8 @@ done-none g degrees ranks empty has = record {
   positive = λ a m. subst (λ o. IfSome o (λ d. 0 < d)) (sym (no_value a m)) tt;
 }
   where
-    no_value : (a m : ℤ) → tree.get bidegree_cmp ranks (key_of (m, a)) ≡ None
-    no_value a m = ap (λ es. lookup (tree.is_at (bidegree_cmp (key_of (m, a)))) es) empty
+    no_value : (a m : ℤ) → tree.get bidegree_cmp ranks (bidegree_key (m, a)) ≡ None
+    no_value a m = ap (λ es. lookup (tree.is_at (bidegree_cmp (bidegree_key (m, a)))) es) empty
 
     nothing_at : (a m : ℤ) → rank_in ranks a m ≡ 0
     nothing_at a m = ap (λ o. unwrap_or o 0) (no_value a m)

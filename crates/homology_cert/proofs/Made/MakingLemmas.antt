@@ -38,7 +38,7 @@ use Rattle.homology_cert.specs.Inner.CodeTests.{has_bidegree}
 use Rattle.gradings.specs.Degrees.{bidegree_cmp}
 use Rattle.gradings.specs.declared.degrees.Bidegree.{Bidegree}
 use Rattle.gradings.proofs.OrderLemmas.{bidegree_cmp_total, bidegree_cmp_exact, stands_before-bidegree_cmp}
-use Rattle.hat_division.specs.RankMaps.{key_of}
+use Rattle.hat_division.specs.RankMaps.{bidegree_key}
 use Rattle.homology_cert.specs.Inner.Making.{cycle_pair, left_codes, step_pair, steps_after, HasState, HasBidegrees, IsMadeCell, AreMade}
 use Rattle.homology_cert.proofs.Homology.SliceRanks.{slice_of, slice-below, reduction_of}
 use Rattle.homology_cert.proofs.Certified.CertifiedLemmas.{same_degree-is}
@@ -143,14 +143,14 @@ bidegrees-none g degrees empty = record {
 
 -- a state adds its bidegree
 pub bidegrees-next : (g : Marks) (n : ℕ) (d : Bidegree) (old new : BTreeSet Bidegree)
-    → d ≡ key_of (bidegree g (unrank (size g) n))
+    → d ≡ bidegree_key (bidegree g (unrank (size g) n))
     → ((q : Bidegree) → sorted.contains bidegree_cmp new q ≡ cond (is_eq (bidegree_cmp d q)) true
     (sorted.contains bidegree_cmp old q))
     → HasBidegrees g n old → HasBidegrees g (n + 1) new
 bidegrees-next g n d old new d_is adds before = record {
-  found = below_more (λ s. sorted.contains bidegree_cmp new (key_of (bidegree g (unrank (size g) s))) ≡ true) n
-      (λ s l. adds (key_of (bidegree g (unrank (size g) s)))
-      ∙ kept (is_eq (bidegree_cmp d (key_of (bidegree g (unrank (size g) s))))) _ (before.found s l))
+  found = below_more (λ s. sorted.contains bidegree_cmp new (bidegree_key (bidegree g (unrank (size g) s))) ≡ true) n
+      (λ s l. adds (bidegree_key (bidegree g (unrank (size g) s)))
+      ∙ kept (is_eq (bidegree_cmp d (bidegree_key (bidegree g (unrank (size g) s))))) _ (before.found s l))
       (subst (λ q. sorted.contains bidegree_cmp new q ≡ true) d_is
       (adds d ∙ ap (λ o. cond (is_eq o) true (sorted.contains bidegree_cmp old d)) (tied_itself bidegree_cmp_total d)));
   of_states = λ q h. by_test q (is_eq (bidegree_cmp d q)) refl h;
@@ -166,7 +166,7 @@ bidegrees-next g n d old new d_is adds before = record {
     equal Greater h = absurd (false≢true h)
 
     by_test : (q : Bidegree) (b : Bool) → is_eq (bidegree_cmp d q) ≡ b → sorted.contains bidegree_cmp new q ≡ true
-        → (s : ℕ) × (s < n + 1) × (key_of (bidegree g (unrank (size g) s)) ≡ q)
+        → (s : ℕ) × (s < n + 1) × (bidegree_key (bidegree g (unrank (size g) s)) ≡ q)
     by_test q true e h = (n, omega arith, sym d_is ∙ bidegree_cmp_exact d q (equal (bidegree_cmp d q) e))
     by_test q false e h =
         let (s, below, is) = before.of_states q (sym (adds q
@@ -207,7 +207,7 @@ made_cell g m a d old new log cycles steps at state built reduced cycles_are ste
 
 -- ---- cells, in order
 abbrev pub keys_of : List Cell → List Bidegree
-keys_of cells = map (λ (c : Cell). key_of c.at) cells
+keys_of cells = map (λ (c : Cell). bidegree_key c.at) cells
 
 -- what is ahead is among all
 pub ahead : (made ks all : List Bidegree) (q : Bidegree) → made ++ q ∷ ks ≡ all → Contains all q
@@ -216,11 +216,11 @@ ahead made ks all q e = subst (λ xs. Contains xs q) e (Contains-append_right ma
 -- one cell more
 pub keys-pushed : (old new : List Cell) (cell : Cell) (ks all : List Bidegree) (q : Bidegree)
     → keys_of old ++ q ∷ ks ≡ all
-    → new ≡ old ++ cell ∷ [] → key_of cell.at ≡ q → keys_of new ++ ks ≡ all
+    → new ≡ old ++ cell ∷ [] → bidegree_key cell.at ≡ q → keys_of new ++ ks ≡ all
 keys-pushed old new cell ks all q so_far pushed at =
     ap (λ cells. keys_of cells ++ ks) pushed
-    ∙ ap (λ xs. xs ++ ks) (map-append (λ (c : Cell). key_of c.at) old (cell ∷ []))
-    ∙ append_assoc (keys_of old) (key_of cell.at ∷ []) ks
+    ∙ ap (λ xs. xs ++ ks) (map-append (λ (c : Cell). bidegree_key c.at) old (cell ∷ []))
+    ∙ append_assoc (keys_of old) (bidegree_key cell.at ∷ []) ks
     ∙ ap (λ k. keys_of old ++ k ∷ ks) at
     ∙ so_far
 
@@ -248,7 +248,7 @@ keys-rise (p ∷ ks) h = pairs_cons (λ p q. bidegree_cmp p q ≡ Less) p ks (al
 cells-rise : (cells : List Cell) → AllPairs (λ p q. bidegree_cmp p q ≡ Less) (keys_of cells)
     → AllPairs (λ (p q : Cell). IsTrue (stands_before p.at q.at)) cells
 cells-rise cells pairs i j d less within =
-    let k = λ (c : Cell). key_of c.at in
+    let k = λ (c : Cell). bidegree_key c.at in
     let p = get_or cells i d in
     let q = get_or cells j d in
     let first : get_or (keys_of cells) i (k d) ≡ k p = get_or-map k cells i d (k d) (omega (arith, less, within)) in
@@ -283,9 +283,9 @@ made-all g degrees cells has ordered all made = record {
     one : (s : ℕ) → s < factorial (size g) → list_any (λ (c : Cell). has_bidegree g c.at s) cells ≡ true
     one s below =
         let d = bidegree g (unrank (size g) s) in
-        let stood = (btree_set_contains_iff bidegree_cmp_total bidegree_cmp_exact degrees (key_of d)).0
+        let stood = (btree_set_contains_iff bidegree_cmp_total bidegree_cmp_exact degrees (bidegree_key d)).0
         (has.found s below) in
-        let (cell, inside, at) = member_of_map (λ (c : Cell). key_of c.at) cells (key_of d)
-        (subst (λ ks. Contains ks (key_of d)) (sym all) stood) in
+        let (cell, inside, at) = member_of_map (λ (c : Cell). bidegree_key c.at) cells (bidegree_key d)
+        (subst (λ ks. Contains ks (bidegree_key d)) (sym all) stood) in
         any_member (λ (c : Cell). has_bidegree g c.at s) cells cell inside
         ((same_degree-is d cell.at).1 (sym (ap (λ (b : Bidegree). (b.m, b.a)) at)))

@@ -12,7 +12,7 @@ use Rattle.state_rank.specs.States.{unrank, factorial}
 use Rattle.torus_geom.specs.Degrees.{maslov_o}
 use Rattle.torus_geom.specs.Inner.GridComplex.{grid_complex}
 use Rattle.torus_geom.specs.Marks.{Marks, size}
-use Rattle.hat_division.specs.DegreeLists.{stands_before}
+use Rattle.hat_division.specs.DegreeLists.{stands_before_by_component}
 use Rattle.multi_degree.specs.ComponentDegrees.{component_degrees}
 use Rattle.homology_cert.specs.ComponentHomology.{ComponentRow}
 
@@ -34,5 +34,5 @@ abbrev pub IsComponentRank : Marks → ℤ → List ℤ → ℕ → Type 0
 IsComponentRank g m ds d = IsRank (component_complex g) (m, ds) d
 
 pub record IsComponentTable (g : Marks) (rows : List ComponentRow) : Type 0 where
-  pub ordered : AllPairs (λ (p q : ComponentRow). IsTrue (stands_before (p.0, p.1) (q.0, q.1))) rows
+  pub ordered : AllPairs (λ (p q : ComponentRow). IsTrue (stands_before_by_component (p.0, p.1) (q.0, q.1))) rows
   pub complete : (m : ℤ) (ds : List ℤ) (d : ℕ) → Contains rows (m, ds, d) ↔ ((0 < d) × IsComponentRank g m ds d)

@@ -22,7 +22,7 @@ use Rattle.sparse_complex.specs.declared.slices.Cell.{Cell}
 use Rattle.hat_division.specs.DegreeLists.{same_degrees}
 use Rattle.multi_degree.specs.ComponentDegrees.{total}
 use Rattle.homology_cert.specs.Inner.CodeComponents.{multidegree, IsComponentRank}
-use Rattle.hat_division.specs.MultiTable.{rank_at, ArePositive}
+use Rattle.hat_division.specs.MultiTable.{component_rank_at, ArePositive}
 use Rattle.hat_division.specs.declared.multi_tables.MultiRow.{MultiRow}
 
 abbrev pub cell_degrees : Marks → Cell → ℤ × List ℤ
@@ -49,13 +49,13 @@ pub record IsKey (g : Marks) (k : ℤ × List ℤ) : Type 0 where
 
 pub record AreCounted (g : Marks) (cells : List Cell) (old new : List MultiRow) : Type 0 where
   pub positive : ArePositive new
-  pub ranks : (k : ℤ × List ℤ) → rank_at new k ≡ rank_at old k + cell_count g k cells
+  pub ranks : (k : ℤ × List ℤ) → component_rank_at new k ≡ component_rank_at old k + cell_count g k cells
   pub keys : (k : ℤ × List ℤ) → 0 < cell_count g k cells → IsKey g k
 
 pub record IsDone (g : Marks) (left : List ℤ) (rows : List MultiRow) : Type 0 where
   pub positive : ArePositive rows
   pub done : (m : ℤ) (ds : List ℤ) → ((a : ℤ) → Contains left a → total ds ≡ pos 2 *ℤ a → ⊥)
-      → IsComponentRank g m ds (rank_at rows (m, ds))
-  pub fresh : (m : ℤ) (ds : List ℤ) (a : ℤ) → Contains left a → total ds ≡ pos 2 *ℤ a → rank_at rows (m, ds) ≡ 0
-  pub small : (k : ℤ × List ℤ) → rank_at rows k < 2 ^ 32
-  pub keys : (k : ℤ × List ℤ) → 0 < rank_at rows k → IsKey g k
+      → IsComponentRank g m ds (component_rank_at rows (m, ds))
+  pub fresh : (m : ℤ) (ds : List ℤ) (a : ℤ) → Contains left a → total ds ≡ pos 2 *ℤ a → component_rank_at rows (m, ds) ≡ 0
+  pub small : (k : ℤ × List ℤ) → component_rank_at rows k < 2 ^ 32
+  pub keys : (k : ℤ × List ℤ) → 0 < component_rank_at rows k → IsKey g k

@@ -32,7 +32,7 @@ use Rattle.gradings.specs.Degrees.{bidegree_cmp}
 use Rattle.gradings.specs.declared.degrees.Bidegree.{Bidegree}
 use Rattle.homology_cert.specs.CertificateCodes.{Cell}
 use Rattle.homology_cert.specs.Inner.CodeTests.{has_bidegree}
-use Rattle.hat_division.specs.RankMaps.{key_of}
+use Rattle.hat_division.specs.RankMaps.{bidegree_key}
 
 abbrev pub degree_is : ℤ → Option ℤ → Bool
 degree_is m None = false
@@ -55,9 +55,9 @@ abbrev pub HasState : Marks → ℤ × ℤ → Type 0
 HasState g d = (s : ℕ) × (s < factorial (size g)) × (bidegree g (unrank (size g) s) ≡ d)
 
 pub record HasBidegrees (g : Marks) (n : ℕ) (degrees : BTreeSet Bidegree) : Type 0 where
-  pub found : (s : ℕ) → s < n → sorted.contains bidegree_cmp degrees (key_of (bidegree g (unrank (size g) s))) ≡ true
+  pub found : (s : ℕ) → s < n → sorted.contains bidegree_cmp degrees (bidegree_key (bidegree g (unrank (size g) s))) ≡ true
   pub of_states : (q : Bidegree) → sorted.contains bidegree_cmp degrees q ≡ true
-      → (s : ℕ) × (s < n) × (key_of (bidegree g (unrank (size g) s)) ≡ q)
+      → (s : ℕ) × (s < n) × (bidegree_key (bidegree g (unrank (size g) s)) ≡ q)
 
 pub record IsMadeCell (g : Marks) (cell : Cell) : Type 0 where
   pub state : ℕ

@@ -24,7 +24,7 @@ use Rattle.torus_geom.specs.Marks.{Marks, size}
 use Rattle.torus_geom.specs.Degrees.{maslov_o, alexander}
 use Rattle.torus_geom.specs.Inner.CodeHomology.{IsHomologyRank}
 use Rattle.sparse_complex.specs.declared.slices.Cell.{Cell}
-use Rattle.hat_division.specs.RankMaps.{key_of, Ranks, rank_in}
+use Rattle.hat_division.specs.RankMaps.{bidegree_key, Ranks, rank_in}
 use Rattle.hat_division.specs.Table.{bidegree_of}
 use Rattle.hat_division.specs.declared.tables.TableRow.{TableRow}
 use Rattle.gradings.specs.Degrees.{IsSmallDegree, bidegree_cmp}
@@ -53,8 +53,8 @@ pub record HasRanks (g : Marks) (a : ℤ) (cells : List Cell) : Type 0 where
 pub record AreCounted (a : ℤ) (cells : List Cell) (old new : Ranks) : Type 0 where
   pub counts : (m : ℤ) → rank_in new a m ≡ degree_count m cells
   pub others : (b m : ℤ) → (b ≡ a → ⊥)
-      → tree.get bidegree_cmp new (key_of (m, b)) ≡ tree.get bidegree_cmp old (key_of (m, b))
-  pub positive : (b m : ℤ) → IfSome (tree.get bidegree_cmp new (key_of (m, b))) (λ d. 0 < d)
+      → tree.get bidegree_cmp new (bidegree_key (m, b)) ≡ tree.get bidegree_cmp old (bidegree_key (m, b))
+  pub positive : (b m : ℤ) → IfSome (tree.get bidegree_cmp new (bidegree_key (m, b))) (λ d. 0 < d)
 
 pub record IsTold (g : Marks) (ranks : Ranks) (a : ℤ) : Type 0 where
   pub told : (m : ℤ) → IsHomologyRank g m a (rank_in ranks a m)
@@ -62,8 +62,8 @@ pub record IsTold (g : Marks) (ranks : Ranks) (a : ℤ) : Type 0 where
 
 pub record IsDone (g : Marks) (left : List ℤ) (ranks : Ranks) : Type 0 where
   pub done : (a : ℤ) → (Contains left a → ⊥) → IsTold g ranks a
-  pub fresh : (a m : ℤ) → Contains left a → tree.get bidegree_cmp ranks (key_of (m, a)) ≡ None
-  pub positive : (a m : ℤ) → IfSome (tree.get bidegree_cmp ranks (key_of (m, a))) (λ d. 0 < d)
+  pub fresh : (a m : ℤ) → Contains left a → tree.get bidegree_cmp ranks (bidegree_key (m, a)) ≡ None
+  pub positive : (a m : ℤ) → IfSome (tree.get bidegree_cmp ranks (bidegree_key (m, a))) (λ d. 0 < d)
 
 pub record AreRows (g : Marks) (rows : List TableRow) : Type 0 where
   pub ordered : AllPairs (λ p q. IsTrue (stands_before (bidegree_of p) (bidegree_of q))) rows

@@ -6,7 +6,7 @@ use Rattle.std.proofs.lemmas.List.{get_or_default}
 use Rattle.std.proofs.lemmas.Int.{to_z-of_z}
 use mir.Syntax.{w32}
 use mir.Val.{to_z, of_z}
-use Rattle.hat_division.specs.DegreeLists.{stands_before}
+use Rattle.hat_division.specs.DegreeLists.{stands_before_by_component}
 use Rattle.hat_division.specs.MultiTable.{degrees_of, IsCounted}
 use Rattle.hat_division.specs.declared.multi_tables.MultiRow.{MultiRow}
 use Rattle.hat_division.proofs.Multi.DegreeListLemmas.{same_multidegree-is}
@@ -41,13 +41,13 @@ returns-clause-counted c =
     let new : MultiRow = record { m = to_z w32 (of_z w32 m); d = d; rank = 1 } in
     let within : place ≤ length old = omega arith in
     let before : (k : ℕ) (e : MultiRow) → k < place
-    → stands_before (degrees_of (get_or old k e)) (degrees_of new) ≡ true =
-    λ k e l. subst (λ (xs : List MultiRow). stands_before (degrees_of (get_or xs k e)) (degrees_of new) ≡ true)
+    → stands_before_by_component (degrees_of (get_or old k e)) (degrees_of new) ≡ true =
+    λ k e l. subst (λ (xs : List MultiRow). stands_before_by_component (degrees_of (get_or xs k e)) (degrees_of new) ≡ true)
     c.as_slice.ensures.value (c.place_of-place.ensures.before k e l) in
     let rest : (e : MultiRow) → place < length old
-    → stands_before (degrees_of (get_or old place e)) (degrees_of new) ≡ false =
+    → stands_before_by_component (degrees_of (get_or old place e)) (degrees_of new) ≡ false =
     λ e l. subst (λ (xs : List MultiRow). place < length xs
-    → stands_before (degrees_of (get_or xs place e)) (degrees_of new) ≡ false) c.as_slice.ensures.value
+    → stands_before_by_component (degrees_of (get_or xs place e)) (degrees_of new) ≡ false) c.as_slice.ensures.value
     (c.place_of-place.ensures.rest e) l in
     subst (λ xs. IsCounted (m, d) old xs) (sym c.in_ok-insert.ensures.items)
     (elim c.else-place-len.branch as (λ _. IsCounted (m, d) old (insert old place new)) [

@@ -1,7 +1,7 @@
 -- One factor after another.
 use Rattle.std.proofs.Common.{◌+◌, List, [], ◌∷◌, All, Vec, Global, sym, subst}
 use Rattle.hat_division.specs.Factors.{copies}
-use Rattle.hat_division.specs.MultiTable.{step_up, IsSmall, IsQuotientBy}
+use Rattle.hat_division.specs.MultiTable.{step_up, IsSmallByComponent, IsQuotientBy}
 use Rattle.hat_division.specs.declared.multi_tables.MultiRow.{MultiRow}
 use Rattle.hat_division.specs.Inner.Rows.{HasPlace}
 use Rattle.hat_division.proofs.Multi.DividedRows.{general, quotient_small, quotient_place, answer_none, answer_some}
@@ -11,7 +11,7 @@ use Rattle.hat_division.proofs.multi_quotients.divide_power.Goals as goal
 
 pub divide_one-requires-clause-small : goal.divide_one-requires-clause-small
 divide_one-requires-clause-small c =
-    subst (λ xs. All IsSmall xs) (sym c.as_slice.ensures.value)
+    subst (λ xs. All IsSmallByComponent xs) (sym c.as_slice.ensures.value)
     (quotient_small (copies c.loop.counter (step_up c.args.i)) c.args.rows.items c.loop.left.items c.loop.invariant
     c.requires.small)
 

@@ -1,7 +1,7 @@
 use Rattle.std.proofs.Common.{◌≡◌, ◌≤◌, ◌∙◌, get_or, ap, sym, subst, inl, inr, arith}
 use Rattle.std.proofs.lemmas.Bool.{cases_eq}
 use Rattle.std.proofs.lemmas.List.{get_or_default}
-use Rattle.hat_division.specs.MultiTable.{degrees_of, rank_at, step_down}
+use Rattle.hat_division.specs.MultiTable.{degrees_of, component_rank_at, step_down}
 use Rattle.hat_division.proofs.multi_quotients.have_lower.Goals as goal
 
 pub loop-row-preserved : goal.loop-row-preserved
@@ -16,6 +16,6 @@ loop-row-preserved c k d l =
           ∙ ap (λ n. get_or quotient n d) (sym e) in
           let is = c.rank_down.ensures in
           let some = c.if-rank_down-eq0.false in
-          subst (λ r. 1 ≤ rank_at rows (step_down c.args.i (degrees_of r))) same (omega arith)
+          subst (λ r. 1 ≤ component_rank_at rows (step_down c.args.i (degrees_of r))) same (omega arith)
       | inr other ↦ c.loop-row.invariant k d (omega arith)
     ]

@@ -10,4 +10,4 @@ returns c =
     let low = c.requires.small.maslov.low in
     let high = c.requires.small.maslov.high in
     let fits : SFits w32 c.args.row.now.m = search rules in
-    rank-moved c.args.rows.now _ _ _ _ _ c.rank_at.ensures (omega (arith, ints)) c.raised.ensures
+    rank-moved c.args.rows.now _ _ _ _ _ c.component_rank_at.ensures (omega (arith, ints)) c.raised_at.ensures

@@ -2,7 +2,7 @@
 use Rattle.std.proofs.Common.{◌≡◌, ◌-◌, ◌∙◌, get_or, sym, arith, refl}
 use Rattle.std.proofs.lemmas.Bool.{false≢true}
 use Rattle.std.proofs.lemmas.List.{get_or_default}
-use Rattle.hat_division.specs.DegreeLists.{stands_before}
+use Rattle.hat_division.specs.DegreeLists.{stands_before_by_component}
 use Rattle.hat_division.specs.MultiTable.{degrees_of}
 use Rattle.hat_division.proofs.Multi.RowOrder.{ordered_by_neighbours}
 use Rattle.hat_division.proofs.multi_tables.are_ordered.Goals as goal
@@ -23,6 +23,6 @@ returns-then-not-comes_before c =
     c.index-rows-i-in-loop-i.is ∙ get_or_default rows i q p inside in (
       λ h. absurd (false≢true h),
       λ all. absurd (false≢true (sym (sym c.comes_before.ensures ∙ c.if-not-comes_before.true)
-          ∙ (λ j. stands_before (degrees_of (c.index-rows-i.is j)) (degrees_of (same j)))
+          ∙ (λ j. stands_before_by_component (degrees_of (c.index-rows-i.is j)) (degrees_of (same j)))
           ∙ all (i - 1) i p (omega arith) inside)),
     )

@@ -5,8 +5,8 @@ use Rattle.std.proofs.lemmas.Int.{to_z-of_z}
 use Rattle.sparse_complex.specs.declared.slices.Cell.{Cell}
 use Rattle.torus_geom.specs.Components.{components}
 use Rattle.homology_cert.specs.Inner.CodeComponents.{IsComponentTable}
-use Rattle.homology_cert.specs.ComponentRows.{component_row, HasSmallRank}
-use Rattle.hat_division.specs.MultiTable.{HasLength, IsSmall}
+use Rattle.homology_cert.specs.ComponentRows.{component_row, HasSmallComponentRank}
+use Rattle.hat_division.specs.MultiTable.{HasLength, IsSmallByComponent}
 use Rattle.homology_cert.specs.Inner.Left.{IsCell, HasComponentRanks, AreCounted, IsDone}
 use Rattle.hat_division.proofs.WordLemmas.{IfSome-value}
 use Rattle.homology_cert.proofs.Components.DoneRows.{AreLeft, done-none, done-next, done-table, done-rows, done-lengths, done-small, done-ranks}
@@ -87,14 +87,14 @@ returns-clause-lengths c =
 
 pub returns-clause-degrees : goal.returns-clause-degrees
 returns-clause-degrees c =
-    subst (All IsSmall) (sym (made c))
+    subst (All IsSmallByComponent) (sym (made c))
     (done-small c.args.g.now c.size-size.ensures.grid c.in_ok-degrees.degrees c.in_ok-degrees.ensures
     c.loop-a.rows.items
     (at_end c))
 
 pub returns-clause-ranks : goal.returns-clause-ranks
 returns-clause-ranks c =
-    subst (All HasSmallRank) (sym (made c))
+    subst (All HasSmallComponentRank) (sym (made c))
     (done-ranks c.args.g.now c.size-size.ensures.grid c.in_ok-degrees.degrees c.in_ok-degrees.ensures
     c.loop-a.rows.items
     (at_end c))

@@ -4,7 +4,7 @@ use mir.Val.{SFits}
 use Rattle.std.proofs.lemmas.Int.{to_z-of_z}
 use Rattle.std.proofs.lemmas.List.Elements.{All-nil}
 use Rattle.homology_cert.specs.Inner.Making.{HasState, IsMadeCell}
-use Rattle.hat_division.specs.RankMaps.{key_of}
+use Rattle.hat_division.specs.RankMaps.{bidegree_key}
 use Rattle.homology_cert.proofs.Made.MakingLemmas.{keys_of, ahead, keys-pushed, made-pushed, state_of-key, made-all}
 use Rattle.homology_cert.proofs.making.cells_of.Goals as goal
 
@@ -39,7 +39,7 @@ loop-degree-preserved c =
           (ap (λ ks. keys_of c.loop-degree.cells.items ++ ks) (sym c.in-Some.ensures.steps)
           ∙ c.loop-degree.invariant.keys)
           c.in_ok-push.ensures.items
-          (ap key_of c.in_ok-cell.ensures.1
+          (ap bidegree_key c.in_ok-cell.ensures.1
           ∙ (λ i. record { m = to_z-of_z w32 q.m fits_m i; a = to_z-of_z w32 q.a fits_a i }));
     }
 

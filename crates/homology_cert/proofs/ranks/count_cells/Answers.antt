@@ -9,7 +9,7 @@ use Rattle.std.proofs.lemmas.List.{take_more, length-take-le}
 use Rattle.sparse_complex.specs.Inner.Graph.{no_cell}
 use Rattle.gradings.specs.Degrees.{bidegree_cmp}
 use Rattle.gradings.specs.declared.degrees.Bidegree.{Bidegree}
-use Rattle.hat_division.specs.RankMaps.{key_of, rank_in}
+use Rattle.hat_division.specs.RankMaps.{bidegree_key, rank_in}
 use Rattle.homology_cert.specs.Inner.Ranks.{AreCounted}
 use Rattle.homology_cert.proofs.Homology.CountLemmas.{counted-none, counted-next, count_fits}
 use Rattle.homology_cert.proofs.ranks.count_cells.Goals as goal
@@ -48,11 +48,11 @@ loop-cell-preserved c =
     c.unwrap_or-count.ensures ∙ ap (λ o. unwrap_or o 0) (c.copied.ensures ∙ c.get.ensures.value) in
     let adds : (q : Bidegree)
     → tree.get bidegree_cmp c.insert.new.self q
-    ≡ cond (is_eq (bidegree_cmp (key_of (cell.maslov, a)) q)) (Some (c.unwrap_or-count.result + 1))
+    ≡ cond (is_eq (bidegree_cmp (bidegree_key (cell.maslov, a)) q)) (Some (c.unwrap_or-count.result + 1))
     (tree.get bidegree_cmp c.loop-cell.ranks q) =
     subst (λ (m : ℤ). (q : Bidegree)
     → tree.get bidegree_cmp c.insert.new.self q
-    ≡ cond (is_eq (bidegree_cmp (key_of (m, a)) q)) (Some (c.unwrap_or-count.result + 1))
+    ≡ cond (is_eq (bidegree_cmp (bidegree_key (m, a)) q)) (Some (c.unwrap_or-count.result + 1))
     (tree.get bidegree_cmp c.loop-cell.ranks q))
     (to_z-of_z w32 cell.maslov fits) c.in_ok-insert.ensures.updates.0 in
     subst (λ xs. AreCounted a xs c.args.ranks.now c.insert.new.self)

@@ -9,7 +9,7 @@ use Rattle.torus_geom.specs.Inner.CodeHomology.{IsHomologyTable}
 use Rattle.gradings.specs.Degrees.{bidegree_cmp}
 use Rattle.hat_division.specs.Table.{homology_row}
 use Rattle.homology_cert.specs.Tables.{HasSmallDegrees, HasSmallRank}
-use Rattle.hat_division.specs.RankMaps.{key_of}
+use Rattle.hat_division.specs.RankMaps.{bidegree_key}
 use Rattle.homology_cert.specs.Inner.Ranks.{HasRanks, AreCounted, AreRows}
 use Rattle.homology_cert.proofs.Homology.DegreeLemmas.{small-degrees}
 use Rattle.homology_cert.proofs.Homology.TableLemmas.{AreLeft, done-none, done-next, rows-homology_table, rows-small, rows-homology}
@@ -35,7 +35,7 @@ count_cells-requires-clause-fresh c =
     let fits : SFits w32 c.in-Some.a.now = search rules in
     let left : AreLeft c.args.g.now (c.in-Some.a.now ∷ c.next.new.self) c.loop-a.ranks =
     subst (λ left. AreLeft c.args.g.now left c.loop-a.ranks) c.in-Some.ensures.steps c.loop-a.invariant in
-    λ m. subst (λ (a : ℤ). tree.get bidegree_cmp c.loop-a.ranks (key_of (m, a)) ≡ None)
+    λ m. subst (λ (a : ℤ). tree.get bidegree_cmp c.loop-a.ranks (bidegree_key (m, a)) ≡ None)
     (sym (to_z-of_z w32 c.in-Some.a.now fits))
     (left.1.fresh c.in-Some.a.now m (member_head c.in-Some.a.now c.next.new.self))
 

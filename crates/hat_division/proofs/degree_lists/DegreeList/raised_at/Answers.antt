@@ -3,8 +3,8 @@ use Rattle.std.proofs.lemmas.Int.{ints}
 use mir.Syntax.{w32}
 use mir.Val.{SFits, to_z, of_z}
 use Rattle.hat_division.proofs.WordLemmas.{IfSome-value}
-use Rattle.hat_division.proofs.Multi.RowOrder.{stored_at, stored-raised, two_up}
-use Rattle.hat_division.proofs.degree_lists.DegreeList.raised.Goals as goal
+use Rattle.hat_division.proofs.Multi.RowOrder.{stored_at, stored-raised_at, two_up}
+use Rattle.hat_division.proofs.degree_lists.DegreeList.raised_at.Goals as goal
 
 pub returns : goal.returns
 returns c =
@@ -20,5 +20,5 @@ returns c =
     let made : c.unwrap.result ≡ take n (set stored i v) =
     IfSome-value (λ d. d ≡ take n (set stored i v)) c.of.result c.unwrap.result c.unwrap.ensures c.of.ensures.degrees in
     made
-    ∙ stored-raised ds stored i n c.self.inside.count v (ap length c.degrees-count.ensures.degrees) c.self.view_is
+    ∙ stored-raised_at ds stored i n c.self.inside.count v (ap length c.degrees-count.ensures.degrees) c.self.view_is
     c.self.invariant.within c.requires.place (two_up old fits (omega (arith, ints)))
