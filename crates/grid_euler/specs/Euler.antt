@@ -11,7 +11,7 @@
 --     row_part a row          what a row (m, a', d) of a table adds at a: d with the sign of m if a' is a, else 0
 --     alternating_sum rows a  the sum of these over the rows of a table
 --     AreDescending rows      the rows stand by a descending, no a twice
---     IsTable rows            the rows stand so, and no value is 0
+--     AreEulerRows rows       the rows stand so, and no value is 0
 --     IsTableOf f rows        the rows are all (a, f a) with f a not 0, by a descending
 --     IsEulerTable g rows     the rows are all a with their Euler numbers that are not 0, by a descending
 use Rattle.std.specs.Prelude.{◌≡◌, ◌≢◌, ◌↔◌, ℕ, ◌%◌, ◌==◌, Bool, if◌then◌else◌, ℤ, pos, neg_ℤ, ◌+ℤ◌, ◌<ℤ◌, unsigned_abs, List, [], ◌∷◌}
@@ -48,7 +48,7 @@ alternating_sum rows a = sum_of (row_part a) rows
 abbrev pub AreDescending : List EulerRow → Type 0
 AreDescending rows = AllPairs (λ p q. q.a <ℤ p.a) rows
 
-pub record IsTable (rows : List EulerRow) : Type 0 where
+pub record AreEulerRows (rows : List EulerRow) : Type 0 where
   pub descending : AreDescending rows
   pub values : All (λ row. row.value ≢ pos 0) rows
 

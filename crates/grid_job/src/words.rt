@@ -4,7 +4,7 @@ ghost use Rattle.std.specs.List.{list_any};
 ghost use Rattle.std.specs.Str.{bytes_eq};
 ghost use Rattle.clap.specs.Words.{FailsBy, fault_of, found_of, kind_of, matches_of, rows_of};
 ghost use Rattle.clap.specs.declared.error.kind.ErrorKind.TheVariants.{OutOfMemory};
-ghost use Rattle.grid_job.specs.Words.{word_at, least as least_of, greatest as greatest_of, IsMake};
+ghost use Rattle.grid_job.specs.Words.{word_at, least_value as least_value_of, greatest_value as greatest_value_of, IsMake};
 ghost use Rattle.grid_job.specs.Inner.Parsing.{flag_id as flag_id_of, make_command, dashes, MayBeMake, HasValue};
 
 use clap::error::ErrorKind;
@@ -123,7 +123,7 @@ fn value_of(matches: &ArgMatches, flag: Flag) -> Option<u32>
     let Some(text) = matches.get_str(flag_id(flag)) else {
         return None;
     };
-    numeral(text.as_bytes(), least(flag), greatest(flag))
+    numeral(text.as_bytes(), least_value(flag), greatest_value(flag))
 }
 
 fn flag_id(flag: Flag) -> &'static str
@@ -135,8 +135,8 @@ fn flag_id(flag: Flag) -> &'static str
     }
 }
 
-fn least(flag: Flag) -> u32
-    ensures { result ≡ least_of flag }
+fn least_value(flag: Flag) -> u32
+    ensures { result ≡ least_value_of flag }
 {
     match flag {
         Flag::Size => 2,
@@ -144,8 +144,8 @@ fn least(flag: Flag) -> u32
     }
 }
 
-fn greatest(flag: Flag) -> u32
-    ensures { result ≡ greatest_of flag }
+fn greatest_value(flag: Flag) -> u32
+    ensures { result ≡ greatest_value_of flag }
 {
     match flag {
         Flag::Size => u32::from(MAX_SIZE),

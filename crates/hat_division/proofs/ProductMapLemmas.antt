@@ -29,7 +29,8 @@ module _ (old new : Ranks) (m a : ℤ) (rank : ℕ)
   put-there =
       let is : rank_in new a m ≡ rank =
       ap (λ o. unwrap_or o 0) (adds (bidegree_key (m, a))
-      ∙ ap (λ b. cond b (Some rank) (tree.get bidegree_cmp old (bidegree_key (m, a)))) (key_itself (bidegree_key (m, a)))) in
+      ∙ ap (λ b. cond b (Some rank) (tree.get bidegree_cmp old (bidegree_key (m, a))))
+      (key_itself (bidegree_key (m, a)))) in
       omega arith
 
   put-above : (x y : ℤ) → 0 < rank_in old y x → 0 < rank_in new y x
@@ -136,7 +137,8 @@ rows-table k rows part l ordered small held sorted = record {
       let row = get_or (map row_of part.entries) i d in
       let found = entry_of part sorted row (Contains-get_or (map row_of part.entries) i d within) in
       let has =
-      IfSome-value (IsRankOfProduct k rows row.m row.a) (tree.get bidegree_cmp part (bidegree_key (row.m, row.a))) row.rank
+      IfSome-value (IsRankOfProduct k rows row.m row.a)
+      (tree.get bidegree_cmp part (bidegree_key (row.m, row.a))) row.rank
       found (held row.m row.a) in
       record {
         positive = omega (arith, has.0);

@@ -123,7 +123,8 @@ fn have_lower(rows: &[MultiRow], quotient: &[MultiRow], i: usize) -> bool
     requires ordered { AreInComponentOrder rows.now }
     requires small { All IsSmallByComponent quotient.now }
     requires place { All (HasPlace i) quotient.now }
-    ensures { IsTrue result ↔ All (λ row. 1 ≤ component_rank_at_of rows.now (step_down i (degrees_of row))) quotient.now }
+    ensures { IsTrue result
+        ↔ All (λ row. 1 ≤ component_rank_at_of rows.now (step_down i (degrees_of row))) quotient.now }
 {
     for row in quotient {
         if rank_down(rows, row, i) == 0 {

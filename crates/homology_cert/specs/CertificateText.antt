@@ -5,7 +5,7 @@
 --     cycle_lines n p            a line with the cycle and one with the cocycle of a cycle pair
 --     step_lines n p             a line with the step and one with the probe of a step pair
 --     cell_lines n cell          the line of its bidegree, those of its cycle pairs, and those of its step pairs
---     head_lines g               the first line, and the three lines of the grid
+--     certificate_head_lines g   the first line, and the three lines of the grid
 --     certificate_lines c        the head, the cells, and the word `end`
 --     text_of_lines lines        each line with a line feed after it
 --     certificate_text c         the text of a certificate
@@ -34,12 +34,13 @@ step_lines n p = chain_line (codes "step") n p.step ∷ chain_line (codes "probe
 abbrev pub cell_lines : ℕ → Cell → List (List ℕ)
 cell_lines n cell = degree_line cell.at ∷ flat_map (cycle_lines n) cell.cycles ++ flat_map (step_lines n) cell.steps
 
-abbrev pub head_lines : Marks → List (List ℕ)
-head_lines g = codes "gridcert 1" ∷ (codes "grid " ++ decimal (size g)) ∷ marks_line (codes "O") g.o ∷ marks_line (codes
-    "X") g.x ∷ []
+abbrev pub certificate_head_lines : Marks → List (List ℕ)
+certificate_head_lines g =
+    codes "gridcert 1" ∷ (codes "grid " ++ decimal (size g)) ∷ marks_line (codes "O") g.o
+    ∷ marks_line (codes "X") g.x ∷ []
 
 unfoldable pub certificate_lines : Certificate → List (List ℕ)
-certificate_lines c = head_lines c.grid ++ flat_map (cell_lines (size c.grid)) c.cells ++ codes "end" ∷ []
+certificate_lines c = certificate_head_lines c.grid ++ flat_map (cell_lines (size c.grid)) c.cells ++ codes "end" ∷ []
 
 abbrev pub text_of_lines : List (List ℕ) → List ℕ
 text_of_lines lines = flat_map line lines

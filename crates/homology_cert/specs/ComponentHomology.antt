@@ -21,7 +21,7 @@ use Rattle.torus_geom.specs.Chains.{Chain, nothing, chain_sums}
 use Rattle.torus_geom.specs.Degrees.{maslov_o}
 use Rattle.torus_geom.specs.Marks.{Marks, size}
 use Rattle.hat_division.specs.DegreeLists.{stands_before_by_component}
-use Rattle.multi_degree.specs.ComponentDegrees.{component_degrees, total}
+use Rattle.multi_degree.specs.ComponentDegrees.{component_degrees, total_degree}
 
 abbrev pub ComponentRow : Type 0
 ComponentRow = ℤ × List ℤ × ℕ
@@ -48,4 +48,4 @@ pub record IsComponentTable (g : Marks) (rows : List ComponentRow) : Type 0 wher
   pub complete : (m : ℤ) (ds : List ℤ) (d : ℕ) → Contains rows (m, ds, d) ↔ ((0 < d) × IsComponentRank g m ds d)
 
 abbrev pub added_rank : List ComponentRow → ℤ → ℤ → ℕ
-added_rank rows m a = sum_by (λ r. if int_eq r.0 m && int_eq (total r.1) (pos 2 *ℤ a) then r.2 else 0) rows
+added_rank rows m a = sum_by (λ r. if int_eq r.0 m && int_eq (total_degree r.1) (pos 2 *ℤ a) then r.2 else 0) rows

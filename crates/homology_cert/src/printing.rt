@@ -4,7 +4,7 @@ ghost use Rattle.std.specs.List.{flat_map};
 ghost use Rattle.torus_geom.specs.Marks.{size};
 ghost use Rattle.homology_cert.specs.CertificateCodes.{certificate_of};
 ghost use Rattle.homology_cert.specs.Inner.CodeCertificates.{AreStates, HasCycleStates, HasStepStates, HasPairStates};
-ghost use Rattle.homology_cert.specs.CertificateText.{certificate_text, text_of_lines, head_lines, degree_line, marks_line};
+ghost use Rattle.homology_cert.specs.CertificateText.{certificate_text, text_of_lines, certificate_head_lines, degree_line, marks_line};
 ghost use Rattle.homology_cert.specs.Inner.CodeText.{cell_lines, cycle_lines, step_lines};
 ghost use Rattle.text_lines.specs.Inner.CodeLines.{set_line};
 
@@ -34,7 +34,7 @@ pub fn print_cert(alloc: Global, c: &Cert) -> Result<Vec<u8>, NoMemory>
 
 // Appends the first line, and the lines of the grid.
 fn push_head(text: &mut Vec<u8>, g: &Grid) -> Result<(), NoMemory>
-    ensures { OnOk result (text.new.items ≡ text.old.items ++ text_of_lines (head_lines g.now)) }
+    ensures { OnOk result (text.new.items ≡ text.old.items ++ text_of_lines (certificate_head_lines g.now)) }
 {
     text.extend_from_slice(b"gridcert 1\ngrid ")?;
     push_number(text, g.size())?;

@@ -29,14 +29,14 @@ use Rattle.gradings.proofs.EvennessLemmas.{two-alexander}
 use Rattle.rectangles.proofs.Square.RectangleTests.{in_range-between}
 use Rattle.rectangles.proofs.Square.BorderLemmas.{step_of_border}
 use Rattle.rectangles.proofs.Law.RectangleLaw.{IsWay, way_of_step, no_marks_of_step}
-use Rattle.multi_degree.specs.ComponentDegrees.{is_on_cycle, component_size, every, pair_balance, doubled_component_degree, component_degree, component_degrees, total, marks_in_part}
+use Rattle.multi_degree.specs.ComponentDegrees.{is_on_cycle, component_size, every, pair_balance, doubled_component_degree, component_degree, component_degrees, total_degree, marks_in_part}
 use Rattle.multi_degree.proofs.PartSums.{sum_where, sum_where_same, sum_where-sub, sum_where-add}
 use Rattle.multi_degree.specs.Inner.Around.{points_around, marks_around}
 use Rattle.multi_degree.proofs.BalanceLemmas.{around, pair_balance-sum, pair_balance-every, around-marks, around-points}
 use Rattle.multi_degree.proofs.PartExchange.{inside, balance-exchanged}
 use Rattle.multi_degree.proofs.PartEvenness.{balances_even}
 use Rattle.multi_degree.proofs.CycleTests.{is_on_cycle-kept, sum_of_components}
-use Rattle.multi_degree.proofs.FirstColumns.{map-passing, total-passing}
+use Rattle.multi_degree.proofs.FirstColumns.{map-passing, total_degree-passing}
 
 -- ---- the balance by the rows of functions
 module _ (g : Marks) (here : ℕ → Bool) where
@@ -206,10 +206,10 @@ module _ (g : Marks) (grid : IsGrid g) where
       ∙ sum_of_components g grid (λ d. pos 1) ∙ count_below-all (size g)
 
   -- the degrees add up to twice the Alexander degree
-  pub total-component_degrees : (x : List ℕ) → IsBijection (size g) x
-      → total (component_degrees g x) ≡ pos 2 *ℤ alexander g x
+  pub total_degree-component_degrees : (x : List ℕ) → IsBijection (size g) x
+      → total_degree (component_degrees g x) ≡ pos 2 *ℤ alexander g x
   unfolding component_degrees doubled_component_degree maslov
-  total-component_degrees x state =
+  total_degree-component_degrees x state =
       let n = size g in
       let D : ℕ → ℤ = λ f. component_degree g f x in
       let A : ℕ → ℤ = λ f. pair_balance g (is_on_cycle g f) (point x) in
@@ -217,7 +217,7 @@ module _ (g : Marks) (grid : IsGrid g) where
       let C : ℕ → ℤ = λ f. pair_balance g (is_on_cycle g f) (mark g.o) in
       let N : ℕ → ℤ = λ f. pos (component_size g f) in
       let I : ℕ → ℤ = λ f. pos 1 in
-      let listed = total-passing (is_first g) D n in
+      let listed = total_degree-passing (is_first g) D n in
       let each = sum_where_same n (is_first g) (λ f. D f +ℤ D f)
       (λ f. ((A f -ℤ B f) -ℤ (C f -ℤ A f)) -ℤ ((N f -ℤ I f) +ℤ (N f -ℤ I f)))
       (λ f l h. let two = two-component_degree f l x in omega (arith, ints)) in

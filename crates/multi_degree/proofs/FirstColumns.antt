@@ -8,7 +8,7 @@ use Rattle.std.proofs.lemmas.List.{length-map}
 use Rattle.std.proofs.lemmas.List.Elements.{filter-append}
 use Rattle.state_rank.specs.Bijection.{ascending}
 use Rattle.torus_geom.proofs.Sums.TabulateLemmas.{tabulate-suc}
-use Rattle.multi_degree.specs.ComponentDegrees.{total}
+use Rattle.multi_degree.specs.ComponentDegrees.{total_degree}
 use Rattle.multi_degree.proofs.PartSums.{sum_where}
 
 -- one number more
@@ -20,9 +20,9 @@ pub map_append : {A B : Type 0} (f : A → B) (xs ys : List A) → map f (xs ++ 
 map_append f [] ys = refl
 map_append f (x ∷ xs) ys = ap (λ l. f x ∷ l) (map_append f xs ys)
 
-pub total-append : (xs ys : List ℤ) → total (xs ++ ys) ≡ total xs +ℤ total ys
-total-append [] ys = omega (arith, ints)
-total-append (x ∷ xs) ys = let rest = total-append xs ys in omega (arith, ints)
+pub total_degree-append : (xs ys : List ℤ) → total_degree (xs ++ ys) ≡ total_degree xs +ℤ total_degree ys
+total_degree-append [] ys = omega (arith, ints)
+total_degree-append (x ∷ xs) ys = let rest = total_degree-append xs ys in omega (arith, ints)
 
 -- functions that agree where the test passes
 pub map-passing : {A : Type 0} (p : ℕ → Bool) (f g : ℕ → A) (n : ℕ) → ((c : ℕ) → c < n → p c ≡ true → f c ≡ g c)
@@ -37,18 +37,19 @@ map-passing p f g (suc n) h =
     by true e = ap (λ y. y ∷ []) (e refl)
     by false e = refl
 
--- the total of such a list
-pub total-passing : (p : ℕ → Bool) (f : ℕ → ℤ) (n : ℕ) → total (map f (filter p (ascending n))) ≡ sum_where n p f
-total-passing p f zero = refl
-total-passing p f (suc n) =
-    let split = ap (λ l. total (map f l)) (filter-ascending p n)
-    ∙ ap total (map_append f (filter p (ascending n)) (cond (p n) (n ∷ []) []))
-    ∙ total-append (map f (filter p (ascending n))) (map f (cond (p n) (n ∷ []) [])) in
-    let before = total-passing p f n in
+-- the sum of such a list
+pub total_degree-passing : (p : ℕ → Bool) (f : ℕ → ℤ) (n : ℕ)
+    → total_degree (map f (filter p (ascending n))) ≡ sum_where n p f
+total_degree-passing p f zero = refl
+total_degree-passing p f (suc n) =
+    let split = ap (λ l. total_degree (map f l)) (filter-ascending p n)
+    ∙ ap total_degree (map_append f (filter p (ascending n)) (cond (p n) (n ∷ []) []))
+    ∙ total_degree-append (map f (filter p (ascending n))) (map f (cond (p n) (n ∷ []) [])) in
+    let before = total_degree-passing p f n in
     let last = by (p n) in
     omega (arith, ints)
   where
-    by : (b : Bool) → total (map f (cond b (n ∷ []) [])) ≡ cond b (f n) (pos 0)
+    by : (b : Bool) → total_degree (map f (cond b (n ∷ []) [])) ≡ cond b (f n) (pos 0)
     by true = omega (arith, ints)
     by false = refl
 

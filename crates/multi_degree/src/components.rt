@@ -8,7 +8,7 @@ ghost use Rattle.torus_geom.specs.Components.{components, is_first};
 ghost use Rattle.torus_geom.specs.Counts.{one_if};
 ghost use Rattle.torus_geom.specs.Degrees.{alexander};
 ghost use Rattle.torus_geom.specs.Marks.{size};
-ghost use Rattle.multi_degree.specs.ComponentDegrees.{is_on_cycle as is_on_cycle_of, component_size as component_size_of, component_degree as component_degree_of, doubled_component_degree, component_degrees as component_degrees_of, component_exponents, total};
+ghost use Rattle.multi_degree.specs.ComponentDegrees.{is_on_cycle as is_on_cycle_of, component_size as component_size_of, component_degree as component_degree_of, doubled_component_degree, component_degrees as component_degrees_of, component_exponents, total_degree};
 ghost use Rattle.multi_degree.specs.Inner.Around.{beside as beside_of, points_around as points_around_of, marks_around as marks_around_of, mark_part as mark_part_of, column_part as column_part_of};
 
 use hat_division::{DegreeList, MAX_COMPONENTS};
@@ -31,7 +31,7 @@ pub fn component_degrees(g: &Grid, x: &State) -> DegreeList
         → pos 2 *ℤ component_degree_of g.now f x.now ≡ doubled_component_degree g.now f x.now }
 
     // They add up to twice the Alexander degree.
-    ensures sum { total (component_degrees_of g.now x.now) ≡ pos 2 *ℤ alexander g.now x.now }
+    ensures sum { total_degree (component_degrees_of g.now x.now) ≡ pos 2 *ℤ alexander g.now x.now }
 
     // The border keeps each of them.
     ensures border { (y : List ℕ) → border g.now (single x.now) y ≡ true

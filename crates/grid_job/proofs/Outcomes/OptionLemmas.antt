@@ -4,12 +4,12 @@ use Rattle.std.specs.Fmt.{decimal}
 use Rattle.std.proofs.lemmas.Fmt.{decimal_injective}
 use Rattle.std.proofs.lemmas.List.{append_cancel_left, length-append}
 use Rattle.state_rank.specs.Bijection.{IsSize}
-use Rattle.grid_job.specs.Words.{word_at, flag_word, greatest, IsOneWord, IsTwoWords, IsOptionAt, AreOptions, IsMake}
+use Rattle.grid_job.specs.Words.{word_at, flag_word, greatest_value, IsOneWord, IsTwoWords, IsOptionAt, AreOptions, IsMake}
 use Rattle.grid_job.specs.declared.words.Flag.{Flag}
 use Rattle.grid_job.specs.declared.words.Flag.TheVariants.{Size, Seed}
 
 -- ---- one value and one end
-small : (flag : Flag) (v : ℕ) → v ≤ greatest flag → v < 2 ^ 64
+small : (flag : Flag) (v : ℕ) → v ≤ greatest_value flag → v < 2 ^ 64
 small Size v le = omega (arith, le)
 small Seed v le = omega (arith, le)
 
@@ -20,7 +20,7 @@ longer f w d long short =
     omega (arith, e, s, length-append (f ++ codes "=") d, length-append f (codes "="))
 
 module _ (ws : List (List ℕ)) (k : ℕ) (flag : Flag) (v u next other : ℕ) where
-  one_option : (v ≤ greatest flag) → (u ≤ greatest flag) → IsOneWord ws k flag v next ⊎ IsTwoWords ws k flag v next
+  one_option : (v ≤ greatest_value flag) → (u ≤ greatest_value flag) → IsOneWord ws k flag v next ⊎ IsTwoWords ws k flag v next
       → IsOneWord ws k flag u other ⊎ IsTwoWords ws k flag u other → (v ≡ u) × (next ≡ other)
   one_option lv lu (inl p) (inl q) = (
     decimal_injective v u (small flag v lv) (small flag u lu)

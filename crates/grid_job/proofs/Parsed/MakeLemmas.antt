@@ -7,7 +7,7 @@ use Rattle.clap.specs.Walk.{Row, Text, used, has_row, nothing_held, first_of}
 use Rattle.clap.specs.Simple.{matches_of}
 use Rattle.clap.specs.Faults.{fault_of, level_fault}
 use Rattle.std.specs.List.{list_any}
-use Rattle.grid_job.specs.Words.{word_at, least, greatest, AreOptions, IsMake}
+use Rattle.grid_job.specs.Words.{word_at, least_value, greatest_value, AreOptions, IsMake}
 use Rattle.grid_job.specs.declared.words.Flag.{Flag}
 use Rattle.grid_job.specs.declared.words.Flag.TheVariants.{Size, Seed}
 use Rattle.grid_job.specs.Inner.Parsing.{flag_id, make_command, dashes}
@@ -68,7 +68,7 @@ pub make_of_parse : (words : List Text) (n s : ℕ) → word_at words 0 ≡ code
     → list_any (λ w. bytes_eq w dashes) words ≡ false → fault_of make_command words ≡ []
     → first_of (codes "size") (matches_of make_command words) ≡ Some (decimal n)
     → first_of (codes "seed") (matches_of make_command words) ≡ Some (decimal s)
-    → least Size ≤ n → n ≤ greatest Size → least Seed ≤ s → s ≤ greatest Seed → IsMake words n s
+    → least_value Size ≤ n → n ≤ greatest_value Size → least_value Seed ≤ s → s ≤ greatest_value Seed → IsMake words n s
 make_of_parse [] n s command none free size_is seed_is low_n high_n low_s high_s = cc
 make_of_parse (w ∷ args) n s command none free size_is seed_is low_n high_n low_s high_s =
     elim (two_read w args (decimal n) (decimal s) (NoDashes-from (w ∷ args) none).1 free size_is seed_is) [
@@ -121,7 +121,7 @@ module _ (w : Text) (f : Flag) (a b : Text) (args : List Text) (command : w ≡ 
           rw is (omega arith, omega arith, rw (no_dash_command, no_dash_option f, plain_a.no_dashes, no_dash_option (other f), plain_b.no_dashes) refl)
 
 -- a number within its bounds is a plain word
-plain_option : (f : Flag) (v : ℕ) → v ≤ greatest f → IsPlainWord (decimal v)
+plain_option : (f : Flag) (v : ℕ) → v ≤ greatest_value f → IsPlainWord (decimal v)
 plain_option Size v high = IsPlainWord-decimal v (omega (arith, high))
 plain_option Seed v high = IsPlainWord-decimal v (omega (arith, high))
 

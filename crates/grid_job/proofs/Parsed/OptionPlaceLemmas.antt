@@ -3,7 +3,7 @@ use Rattle.std.proofs.Common.{◌≡◌, ◌⊎◌, ℕ, List, [], ◌∷◌, �
 use Rattle.std.specs.Fmt.{decimal}
 use Rattle.std.specs.Prelude.{◌+◌}
 use Rattle.clap.specs.Walk.{Text}
-use Rattle.grid_job.specs.Words.{word_at, flag_word, least, greatest, IsOneWord, IsTwoWords, AreOptions}
+use Rattle.grid_job.specs.Words.{word_at, flag_word, least_value, greatest_value, IsOneWord, IsTwoWords, AreOptions}
 use Rattle.grid_job.specs.declared.words.Flag.{Flag}
 use Rattle.grid_job.specs.declared.words.Flag.TheVariants.{Size, Seed}
 use Rattle.grid_job.proofs.Parsed.WalkLemmas.{option_word_of, IsOption}
@@ -92,8 +92,8 @@ module _ (ws : List Text) (f : Flag) (n s : ℕ) (h : AreOptions ws f n (other f
             ),
           )
 
-module _ (w : Text) (f : Flag) (n s : ℕ) (low_n : least f ≤ n) (high_n : n ≤ greatest f) (low_s : least (other f) ≤ s)
-    (high_s : s ≤ greatest (other f)) where
+module _ (w : Text) (f : Flag) (n s : ℕ) (low_n : least_value f ≤ n) (high_n : n ≤ greatest_value f) (low_s : least_value (other f) ≤ s)
+    (high_s : s ≤ greatest_value (other f)) where
   pub options_of_two : (args : List Text) → AreTwo f (decimal n) (decimal s) args → AreOptions (w ∷ args) f n (other f) s
   options_of_two args two = by_words two.0 two.1 two.2
     where

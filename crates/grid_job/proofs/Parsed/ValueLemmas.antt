@@ -20,7 +20,7 @@ use Rattle.std.specs.declared.alloc.AllocError.{AllocError}
 use Rattle.clap.specs.declared.error.kind.ErrorKind.TheVariants.{OutOfMemory}
 use Rattle.clap.specs.declared.parser.matches.ArgMatches.{ArgMatches}
 use Rattle.grid_job.specs.Inner.Parsing.{flag_id, make_command, dashes, MayBeMake, HasValue}
-use Rattle.grid_job.specs.Words.{least, greatest, IsMake}
+use Rattle.grid_job.specs.Words.{least_value, greatest_value, IsMake}
 use Rattle.grid_job.specs.declared.words.Flag.{Flag}
 use Rattle.grid_job.specs.declared.words.Flag.TheVariants.{Size, Seed}
 use Rattle.grid_job.proofs.Parsed.MakeLemmas.{make_of_parse, parse_of_make}
@@ -37,7 +37,7 @@ module _ (m : ArgMatches) (f : Flag) (id : List ℕ) (r : Option (Bor (List ℕ)
       cc
 
   module _ (text : Bor (List ℕ)) (bytes : List ℕ) (low high : ℕ) (some : r ≡ Some text) (same : bytes ≡ text.now)
-      (low_is : low ≡ least f) (high_is : high ≡ greatest f) where
+      (low_is : low ≡ least_value f) (high_is : high ≡ greatest_value f) where
     text_is : first_of (flag_id f) (rows_of (found_of m)) ≡ Some bytes
     text_is = first_is ∙ ap (option_map (λ s. s.now)) some ∙ ap Some (sym same)
 
@@ -97,7 +97,7 @@ module _ (words : List (List ℕ)) (m : ArgMatches) (may_be : MayBeMake words) (
       h n s (record { first = ap (first_of (codes "size")) rows_are ∙ parsed.size; low = bounds.0; high = bounds.1 })
       (record { first = ap (first_of (codes "seed")) rows_are ∙ parsed.seed; low = bounds.2; high = bounds.3 })
     where
-      make_bounds : {n s : ℕ} → IsMake words n s → (least Size ≤ n) × (n ≤ greatest Size) × (least Seed ≤ s) × (s ≤ greatest Seed)
+      make_bounds : {n s : ℕ} → IsMake words n s → (least_value Size ≤ n) × (n ≤ greatest_value Size) × (least_value Seed ≤ s) × (s ≤ greatest_value Seed)
       make_bounds make = elim make.options [
         | inl h ↦ (h.first.low, h.first.high, h.second.low, h.second.high)
         | inr h ↦ (h.second.low, h.second.high, h.first.low, h.first.high)

@@ -14,7 +14,7 @@ use Rattle.clap.specs.Walk.{Rule, first_of, rows_of}
 use Rattle.clap.specs.Simple.{App, new_rule, new_app, with_rule, on_top}
 use Rattle.clap.specs.declared.builder.action.ArgAction.TheVariants.{Set}
 use Rattle.clap.specs.declared.parser.matches.ArgMatches.{ArgMatches}
-use Rattle.grid_job.specs.Words.{word_at, least, greatest}
+use Rattle.grid_job.specs.Words.{word_at, least_value, greatest_value}
 use Rattle.grid_job.specs.declared.words.Flag.{Flag}
 use Rattle.grid_job.specs.declared.words.Flag.TheVariants.{Size, Seed}
 
@@ -39,5 +39,5 @@ pub record MayBeMake (ws : List (List ℕ)) : Type 0 where
 
 pub record HasValue (m : ArgMatches) (f : Flag) (v : ℕ) : Type 0 where
   pub first : first_of (flag_id f) (rows_of (found_of m)) ≡ Some (decimal v)
-  pub low : least f ≤ v
-  pub high : v ≤ greatest f
+  pub low : least_value f ≤ v
+  pub high : v ≤ greatest_value f

@@ -27,8 +27,10 @@ counted_raised old p found new k h within is at_found at_new more =
 -- or it is put in its place
 pub counted_inserted : (old : List MultiRow) (p : ℕ) (new : MultiRow) (k : ℤ × List ℤ) → ArePositive old
     → degrees_of new ≡ k → new.rank ≡ 1 → p ≤ length old
-    → ((j : ℕ) (d : MultiRow) → j < p → stands_before_by_component (degrees_of (get_or old j d)) (degrees_of new) ≡ true)
-    → ((d : MultiRow) → p < length old → stands_before_by_component (degrees_of (get_or old p d)) (degrees_of new) ≡ false)
+    → ((j : ℕ) (d : MultiRow) → j < p → stands_before_by_component (degrees_of (get_or old j d)) (degrees_of new)
+    ≡ true)
+    → ((d : MultiRow) → p < length old → stands_before_by_component (degrees_of (get_or old p d)) (degrees_of new)
+    ≡ false)
     → ((d : MultiRow) → p < length old → degrees_of (get_or old p d) ≡ degrees_of new → ⊥)
     → IsCounted k old (insert old p new)
 counted_inserted old p new k h at_new one within before rest free =

@@ -119,7 +119,8 @@ multidegree_before-itself p =
     by false h true c k = k
     by false h false c k = refl
 
-pub multidegree_before-transitive : (p q r : ℤ × List ℤ) → stands_before_by_component p q ≡ true → stands_before_by_component q r ≡ true
+pub multidegree_before-transitive : (p q r : ℤ × List ℤ) → stands_before_by_component p q ≡ true
+    → stands_before_by_component q r ≡ true
     → stands_before_by_component p r ≡ true
 multidegree_before-transitive p q r h k =
     elim (or_cases (is_higher p.1 q.1) (same_degrees p.1 q.1 && int_lt q.0 p.0) h) [

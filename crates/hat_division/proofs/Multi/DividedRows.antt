@@ -23,10 +23,12 @@ use Rattle.hat_division.proofs.Multi.MultiTableLemmas.{multi_shape, component_ra
 pub general : (rows : List MultiRow) → ArePositive rows → shapes.ArePositive multi_shape rows
 general rows h = record { ordered = h.ordered; positive = h.positive }
 
-pub component_rank_at-row : (rows : List MultiRow) (row : MultiRow) (k : ℤ × List ℤ) → AreInComponentOrder rows → Contains rows row
+pub component_rank_at-row : (rows : List MultiRow) (row : MultiRow) (k : ℤ × List ℤ) → AreInComponentOrder rows
+    → Contains rows row
     → degrees_of row ≡ k → component_rank_at rows k ≡ row.rank
 component_rank_at-row rows row k ordered inside e =
-    component_rank_at-ranks_of rows k ∙ ap (ranks_of multi_shape rows) (sym e) ∙ ranks_of-row multi_shape rows row ordered inside
+    component_rank_at-ranks_of rows k ∙ ap (ranks_of multi_shape rows) (sym e)
+    ∙ ranks_of-row multi_shape rows row ordered inside
 
 pub component_rank_at-stands : (rows : List MultiRow) (row : MultiRow) (m : ℤ) (ds : List ℤ) → AreInComponentOrder rows
     → Contains rows row → (int_eq row.m m && same_degrees row.d ds) ≡ true → row.rank ≡ component_rank_at rows (m, ds)
@@ -73,18 +75,21 @@ module _ (i : ℕ) (rows : List MultiRow) (positive : ArePositive rows) (c : Lis
   pub end_place : All (HasPlace i) rows → All (HasPlace i) c
   end_place = all_among multi_shape rows c all.positive_so_far all.under (HasPlace i) (place_same i)
 
-  pub end_found : All (λ row. 1 ≤ component_rank_at rows (step_down i (degrees_of row))) c → IsQuotientBy (step_up i ∷ []) rows c
+  pub end_found : All (λ row. 1 ≤ component_rank_at rows (step_down i (degrees_of row))) c
+      → IsQuotientBy (step_up i ∷ []) rows c
   end_found lower =
       (quotient_by-is (step_up i ∷ []) rows c).1
       (quotient_found multi_shape (step_up i) (step_up_IsStepUp i) rows (general rows positive) (step_up-before i) c all
-      (λ k d l. subst (λ n. 1 ≤ n) (component_rank_at-ranks_of rows (step_down i (degrees_of (get_or c k d)))) (lower k d l)))
+      (λ k d l. subst (λ n. 1 ≤ n) (component_rank_at-ranks_of rows (step_down i (degrees_of (get_or c k d))))
+      (lower k d l)))
 
   pub end_none : (All (λ row. 1 ≤ component_rank_at rows (step_down i (degrees_of row))) c → ⊥) → (q : List MultiRow)
       → IsQuotientBy (step_up i ∷ []) rows q → ⊥
   end_none not_lower q h =
       no_quotient multi_shape (step_up i) (step_up_IsStepUp i) rows (general rows positive) (step_up-before i) c all
       (λ lower. not_lower (λ k d l.
-      subst (λ n. 1 ≤ n) (sym (component_rank_at-ranks_of rows (step_down i (degrees_of (get_or c k d))))) (lower k d l)))
+      subst (λ n. 1 ≤ n) (sym (component_rank_at-ranks_of rows (step_down i (degrees_of (get_or c k d)))))
+      (lower k d l)))
       q ((quotient_by-is (step_up i ∷ []) rows q).0 h)
 
 -- ---- quotients
@@ -97,7 +102,8 @@ module _ (ups : List (ℤ × List ℤ → ℤ × List ℤ)) (rows q : List Multi
   under_q k none = let less = quotient-le multi_shape ups rows q ((quotient_by-is ups rows q).0 h) k in omega arith
 
   pub quotient_small : All IsSmallByComponent rows → All IsSmallByComponent q
-  quotient_small = all_among multi_shape rows q (general q (quotient_positive ups rows q h)) under_q IsSmallByComponent small_same
+  quotient_small =
+      all_among multi_shape rows q (general q (quotient_positive ups rows q h)) under_q IsSmallByComponent small_same
 
   pub quotient_place : (i : ℕ) → All (HasPlace i) rows → All (HasPlace i) q
   quotient_place i =

@@ -34,7 +34,8 @@ multi_shape = record {
 }
 
 -- the ranks are those of the general kind
-pub component_rank_at-ranks_of : (rows : List MultiRow) (k : ℤ × List ℤ) → component_rank_at rows k ≡ ranks_of multi_shape rows k
+pub component_rank_at-ranks_of : (rows : List MultiRow) (k : ℤ × List ℤ)
+    → component_rank_at rows k ≡ ranks_of multi_shape rows k
 component_rank_at-ranks_of rows k = sym (ranks_of-sum multi_shape rows k)
 
 -- ---- steps
@@ -78,7 +79,8 @@ pub step_up-before : (i : ℕ) (k : ℤ × List ℤ) → stands_before_by_compon
 step_up-before i k = elim (raised_at-or i k.1) [
   | inl h ↦ or_left (is_higher (raised_at i k.1) k.1) _ h
   | inr e ↦ or_right (is_higher (raised_at i k.1) k.1) _
-      (and_from (same_degrees (raised_at i k.1) k.1) (int_lt k.0 (k.0 +ℤ pos 1)) ((same_degrees-is (raised_at i k.1) k.1).1 e)
+      (and_from (same_degrees (raised_at i k.1) k.1) (int_lt k.0 (k.0 +ℤ pos 1))
+      ((same_degrees-is (raised_at i k.1) k.1).1 e)
       (next k.0))
 ]
   where
@@ -124,7 +126,8 @@ one_multi_quotient es rows p q hp hq =
     ((quotient_by-is (steps_up es) rows q).0 hq)
 
 -- and it has one or has none
-pub decide_multi_quotient : (es : List ℕ) (rows : List MultiRow) → AreInComponentOrder rows → All (λ row. 1 ≤ row.rank) rows
+pub decide_multi_quotient : (es : List ℕ) (rows : List MultiRow) → AreInComponentOrder rows
+    → All (λ row. 1 ≤ row.rank) rows
     → ((q : List MultiRow) × IsMultiQuotient es rows q) ⊎ ((q : List MultiRow) → IsMultiQuotient es rows q → ⊥)
 decide_multi_quotient es rows ordered positive =
     elim (decide_quotient multi_shape (steps_up es) (steps_up_AreStepsUp es) rows

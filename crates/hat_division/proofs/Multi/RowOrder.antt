@@ -24,7 +24,9 @@ pub ordered_by_neighbours : (rows : List MultiRow) → AreOrderedBelow rows (len
     → AllPairs (λ p q. IsTrue (stands_before_by_component (degrees_of p) (degrees_of q))) rows
 ordered_by_neighbours rows h i zero d l m = absurd (omega arith)
 ordered_by_neighbours rows h i (suc j) d l m = elim (cases_eq i j) [
-  | inl e ↦ ap (λ k. stands_before_by_component (degrees_of (get_or rows k d)) (degrees_of (get_or rows (suc j) d))) e ∙ h j d m
+  | inl e ↦
+      ap (λ k. stands_before_by_component (degrees_of (get_or rows k d)) (degrees_of (get_or rows (suc j) d))) e
+      ∙ h j d m
   | inr p ↦
       multidegree_before-transitive (degrees_of (get_or rows i d)) (degrees_of (get_or rows j d))
       (degrees_of (get_or rows (suc j) d)) (ordered_by_neighbours rows h i j d (omega arith) (omega arith)) (h j d m)
@@ -132,7 +134,8 @@ stored-raised_at ds stored i n k v counted view within l is =
     ∙ ap (set ds i) (is ∙ ap (λ z. z +ℤ pos 2) (stored_at ds stored i k view within l))
     ∙ sym (raised_at-set i ds (pos 0) l)
 
-pub stored-lowered_at : (ds stored : List ℤ) (i n k : ℕ) (v : ℤ) → n ≡ length ds → take k stored ≡ ds → k ≤ length stored
+pub stored-lowered_at : (ds stored : List ℤ) (i n k : ℕ) (v : ℤ) → n ≡ length ds → take k stored ≡ ds
+    → k ≤ length stored
     → i < length ds → v ≡ get_or stored i (pos 0) -ℤ pos 2 → take n (set stored i v) ≡ lowered_at i ds
 stored-lowered_at ds stored i n k v counted view within l is =
     set_stored ds stored i n k v counted view within l

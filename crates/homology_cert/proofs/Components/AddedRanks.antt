@@ -31,14 +31,14 @@ use Rattle.state_rank.proofs.OrderLemmas.{member_of_ascending, ascending_rises}
 use Rattle.cancel.proofs.ListLemmas.{any-Contains}
 use Rattle.cancel.proofs.MapLemmas.{IsApart-pairs}
 use Rattle.rectangles.proofs.Law.GridComplexLemmas.{grid_complex_rules}
-use Rattle.multi_degree.specs.ComponentDegrees.{component_degrees, total}
+use Rattle.multi_degree.specs.ComponentDegrees.{component_degrees, total_degree}
 use Rattle.homology_cert.specs.ComponentHomology.{ComponentRow, added_rank}
 use Rattle.homology_cert.specs.Inner.CodeComponents.{multidegree, IsComponentRank, IsComponentTable}
 use Rattle.state_rank.specs.Bijection.{ascending}
 use Rattle.rectangles.proofs.Homology.GridCells.{any-ascending}
 use Rattle.homology_cert.proofs.Components.LeftCells.{left-state}
 use Rattle.hat_division.specs.DegreeLists.{stands_before_by_component}
-use Rattle.multi_degree.proofs.DegreeLaws.{total-component_degrees}
+use Rattle.multi_degree.proofs.DegreeLaws.{total_degree-component_degrees}
 use Rattle.hat_division.proofs.Multi.DegreeListLemmas.{same_multidegree, same_multidegree-is, multidegree_before-itself}
 use Rattle.homology_cert.proofs.Components.ComponentRanks.{IsApart-filter, one_component_rank, component_rank_counted}
 use Rattle.homology_cert.proofs.Components.ComponentTables.{RowStandsBefore}
@@ -220,7 +220,7 @@ module _ (g : Marks) (grid : IsGrid g) (a : ℤ) where
     abbrev has_degrees : ComponentRow → ℕ → Bool
     has_degrees r s = same_multidegree (multidegree g (unrank (size g) s)) (r.0, r.1)
 
-    component : (r : ComponentRow) → total r.1 ≡ pos 2 *ℤ a
+    component : (r : ComponentRow) → total_degree r.1 ≡ pos 2 *ℤ a
         → IsComponentRank g r.0 r.1 (count (has_degrees r) left_codes)
     component r sum =
         component_rank_counted g grid a log stands bare r.0 r.1 sum left_codes apart listed (has_degrees r)
@@ -238,7 +238,7 @@ module _ (g : Marks) (grid : IsGrid g) (a : ℤ) where
 
     module _ (rows : List ComponentRow) (table : IsComponentTable g rows) (m : ℤ) where
       abbrev is_at : ComponentRow → Bool
-      is_at r = int_eq r.0 m && int_eq (total r.1) (pos 2 *ℤ a)
+      is_at r = int_eq r.0 m && int_eq (total_degree r.1) (pos 2 *ℤ a)
 
       -- a listed code of this Maslov degree has the degrees of one row
       one_row : (s : ℕ) → Contains left_codes s → has_maslov m s ≡ true
@@ -248,8 +248,9 @@ module _ (g : Marks) (grid : IsGrid g) (a : ℤ) where
           let there = any-Contains left_codes s inside in
           let state = told s there in
           let maslov = (Decides-int_eq (maslov_o g x) m).0 passes in
-          let sum : total (component_degrees g x) ≡ pos 2 *ℤ a =
-          total-component_degrees g grid x (IsBijection-unrank (size g) s state.0) ∙ ap (λ b. pos 2 *ℤ b) state.2 in
+          let sum : total_degree (component_degrees g x) ≡ pos 2 *ℤ a =
+          total_degree-component_degrees g grid x (IsBijection-unrank (size g) s state.0)
+          ∙ ap (λ b. pos 2 *ℤ b) state.2 in
           let ds = component_degrees g x in
           let own : has_degrees (m, ds, 0) s ≡ true =
           (same_multidegree-is (multidegree g x) (m, ds)).1 (λ i. (maslov i, ds)) in
@@ -268,8 +269,8 @@ module _ (g : Marks) (grid : IsGrid g) (a : ℤ) where
                 ∙ subst (λ p. stands_before_by_component p (m, ds) ≡ true) (sym key) before),
           ))
           (and_from (is_at row) (has_degrees row s)
-          (and_from (int_eq m m) (int_eq (total ds) (pos 2 *ℤ a)) ((Decides-int_eq m m).1 refl)
-          ((Decides-int_eq (total ds) (pos 2 *ℤ a)).1 sum)) own)
+          (and_from (int_eq m m) (int_eq (total_degree ds) (pos 2 *ℤ a)) ((Decides-int_eq m m).1 refl)
+          ((Decides-int_eq (total_degree ds) (pos 2 *ℤ a)).1 sum)) own)
           rows table.ordered stands_there
 
       -- and of another, of none
@@ -277,7 +278,8 @@ module _ (g : Marks) (grid : IsGrid g) (a : ℤ) where
       no_row s fails = sum_by-zero (λ r. if is_at r && has_degrees r s then 1 else 0) rows (λ r inside.
           none (is_at r && has_degrees r s) (λ h.
           let (here, same) = and_parts (is_at r) (has_degrees r s) h in
-          let at_m = (Decides-int_eq r.0 m).0 (and_parts (int_eq r.0 m) (int_eq (total r.1) (pos 2 *ℤ a)) here).0 in
+          let at_m =
+          (Decides-int_eq r.0 m).0 (and_parts (int_eq r.0 m) (int_eq (total_degree r.1) (pos 2 *ℤ a)) here).0 in
           let key = (same_multidegree-is (multidegree g (unrank (size g) s)) (r.0, r.1)).0 same in
           false≢true (sym fails
           ∙ (Decides-int_eq (maslov_o g (unrank (size g) s)) m).1 (ap (λ (p : ℤ × List ℤ). p.0) key ∙ at_m))))
@@ -307,8 +309,8 @@ module _ (g : Marks) (grid : IsGrid g) (a : ℤ) where
           (λ r. if is_at r then count (has_degrees r) left_codes else 0) rows
           (λ r inside. elim (cases_Bool (is_at r)) [
             | inl h ↦
-                let sum = (Decides-int_eq (total r.1) (pos 2 *ℤ a)).0
-                (and_parts (int_eq r.0 m) (int_eq (total r.1) (pos 2 *ℤ a)) h).1 in
+                let sum = (Decides-int_eq (total_degree r.1) (pos 2 *ℤ a)).0
+                (and_parts (int_eq r.0 m) (int_eq (total_degree r.1) (pos 2 *ℤ a)) h).1 in
                 let held = ((table.complete r.0 r.1 r.2).0 inside).1 in
                 let same = one_component_rank g grid r.0 r.1 r.2 (count (has_degrees r) left_codes) held
                 (component r sum) in

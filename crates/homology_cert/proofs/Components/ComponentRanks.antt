@@ -24,11 +24,11 @@ use Rattle.torus_geom.specs.Inner.CodeBorder.{border_of_state}
 use Rattle.torus_geom.specs.Degrees.{maslov_o, alexander, bidegree}
 use Rattle.torus_geom.specs.Inner.GridComplex.{grid_complex}
 use Rattle.rectangles.proofs.Law.GridComplexLemmas.{grid_complex_rules}
-use Rattle.multi_degree.specs.ComponentDegrees.{component_degrees, total}
+use Rattle.multi_degree.specs.ComponentDegrees.{component_degrees, total_degree}
 use Rattle.homology_cert.specs.Inner.Refined.{refined, KeepsLabels}
 use Rattle.homology_cert.specs.Inner.CodeComponents.{multidegree, component_complex, IsComponentRank}
 use Rattle.hat_division.proofs.Multi.DegreeListLemmas.{same_multidegree, same_multidegree-is}
-use Rattle.multi_degree.proofs.DegreeLaws.{component_degrees-border_of_state, total-component_degrees}
+use Rattle.multi_degree.proofs.DegreeLaws.{component_degrees-border_of_state, total_degree-component_degrees}
 use Rattle.rectangles.proofs.Homology.GradedStates.{value_if}
 use Rattle.state_rank.specs.Bijection.{ascending}
 use Rattle.rectangles.proofs.Homology.GridCells.{any-ascending}
@@ -138,7 +138,7 @@ module _ (g : Marks) (grid : IsGrid g) where
         by false e = absurd (false≢true (sym (holds-nothing t) ∙ e))
 
     -- a cell of the slice with these degrees is one of the whole, and the other way round
-    cell_same : (ds : List ℤ) → total ds ≡ pos 2 *ℤ a → (s : ℕ) (m : ℤ)
+    cell_same : (ds : List ℤ) → total_degree ds ≡ pos 2 *ℤ a → (s : ℕ) (m : ℤ)
         → ((refined slice labels).degree s ≡ Some (m, ds)) ↔ ((component_complex g).degree s ≡ Some (m, ds))
     cell_same ds sum s m =
         let label_is = with_label-is (labels s) (slice.degree s) m ds in
@@ -153,8 +153,8 @@ module _ (g : Marks) (grid : IsGrid g) where
               let maslov = ap (λ (p : ℤ × List ℤ). p.0) same in
               let degrees = ap (λ (p : ℤ × List ℤ). p.1) same in
               let below = ltb-true s (factorial (size g)) live in
-              let twice = total-component_degrees g grid (state s) (IsBijection-unrank (size g) s below) in
-              let added = ap total degrees in
+              let twice = total_degree-component_degrees g grid (state s) (IsBijection-unrank (size g) s below) in
+              let added = ap total_degree degrees in
               let alexander_is : alexander g (state s) ≡ a = omega (arith, ints) in
               label_is.1 (
                 part_is.1 (there_if (within s) (bidegree g (state s)) (m, a) live
@@ -169,7 +169,7 @@ module _ (g : Marks) (grid : IsGrid g) where
         let (in_slice, _) = (with_label-is (labels s) (slice.degree s) d.0 d.1).0 e in
         ap (λ b. cond b ((grid_complex g).targets s) nothing) (ap is_some in_slice)
 
-    slice_alike : (m : ℤ) (ds : List ℤ) → total ds ≡ pos 2 *ℤ a
+    slice_alike : (m : ℤ) (ds : List ℤ) → total_degree ds ≡ pos 2 *ℤ a
         → IsAlike (component_complex g) (m, ds) (refined slice labels) (m, ds)
     slice_alike m ds sum = record {
       here = λ s. cell_same ds sum s m;
@@ -180,7 +180,7 @@ module _ (g : Marks) (grid : IsGrid g) where
 
     module _ (log : List Entry) (stands : IsLog (at_alexander a (grid_complex g)) log)
         (bare : (s : ℕ) → (after (at_alexander a (grid_complex g)) log).targets s ≡ nothing) (m : ℤ) (ds : List ℤ)
-        (sum : total ds ≡ pos 2 *ℤ a) where
+        (sum : total_degree ds ≡ pos 2 *ℤ a) where
       -- the left cells of Maslov degree m whose states have the degrees ds are as many as the rank
       pub component_rank_of_log : (cells : Chain)
           → ((s : ℕ) → (holds cells s ≡ true)
@@ -221,8 +221,8 @@ module _ (g : Marks) (grid : IsGrid g) where
 
   -- nor is there one at degrees that do not add up to twice the Alexander degree of a state
   pub component_rank_elsewhere : (m : ℤ) (ds : List ℤ)
-      → ((s : ℕ) → s < factorial (size g) → total ds ≡ pos 2 *ℤ alexander g (unrank (size g) s) → ⊥)
+      → ((s : ℕ) → s < factorial (size g) → total_degree ds ≡ pos 2 *ℤ alexander g (unrank (size g) s) → ⊥)
       → IsComponentRank g m ds 0
   component_rank_elsewhere m ds none = component_rank_none m ds (λ s l e. none s l
-      (sym (ap (λ (p : ℤ × List ℤ). total p.1) e)
-      ∙ total-component_degrees g grid (unrank (size g) s) (IsBijection-unrank (size g) s l)))
+      (sym (ap (λ (p : ℤ × List ℤ). total_degree p.1) e)
+      ∙ total_degree-component_degrees g grid (unrank (size g) s) (IsBijection-unrank (size g) s l)))

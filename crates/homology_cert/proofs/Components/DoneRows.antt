@@ -21,7 +21,7 @@ use Rattle.torus_geom.specs.Components.{components}
 use Rattle.torus_geom.specs.Degrees.{alexander}
 use Rattle.torus_geom.specs.Marks.{Marks, size, IsGrid}
 use Rattle.sparse_complex.specs.declared.slices.Cell.{Cell}
-use Rattle.multi_degree.specs.ComponentDegrees.{total}
+use Rattle.multi_degree.specs.ComponentDegrees.{total_degree}
 use Rattle.homology_cert.specs.ComponentHomology.{ComponentRow}
 use Rattle.homology_cert.specs.Inner.CodeComponents.{IsComponentRank, IsComponentTable}
 use Rattle.homology_cert.specs.Inner.Ranks.{HasDegrees}
@@ -29,7 +29,7 @@ use Rattle.homology_cert.specs.ComponentRows.{component_row, HasSmallComponentRa
 use Rattle.hat_division.specs.MultiTable.{degrees_of, component_rank_at, HasLength, IsSmallByComponent, IsMultiTable, ArePositive}
 use Rattle.homology_cert.specs.Inner.Left.{cell_count, HasComponentRanks, IsKey, AreCounted, IsDone}
 use Rattle.hat_division.specs.declared.multi_tables.MultiRow.{MultiRow}
-use Rattle.multi_degree.proofs.DegreeLaws.{total-component_degrees}
+use Rattle.multi_degree.proofs.DegreeLaws.{total_degree-component_degrees}
 use Rattle.homology_cert.proofs.Components.ComponentRanks.{component_rank_elsewhere}
 use Rattle.homology_cert.proofs.Components.ComponentTables.{component_row_shape, table_of_ranks}
 use Rattle.homology_cert.proofs.Components.CountedCells.{cell_count-most, some_cell}
@@ -79,7 +79,7 @@ AreLeft g left rows = IsStrictlySortedBy int_cmp left × IsDone g left rows
 
 -- the cells of a slice have degrees that add up to twice its Alexander degree
 count-elsewhere : (g : Marks) → IsGrid g → (a : ℤ) (cells : List Cell) → HasComponentRanks g a cells → (m : ℤ)
-    (ds : List ℤ) → (total ds ≡ pos 2 *ℤ a → ⊥) → cell_count g (m, ds) cells ≡ 0
+    (ds : List ℤ) → (total_degree ds ≡ pos 2 *ℤ a → ⊥) → cell_count g (m, ds) cells ≡ 0
 count-elsewhere g grid a cells has m ds other = elim (cases_lt 0 (cell_count g (m, ds) cells)) [
   | inl some ↦
       let (c, inside, is) = some_cell g (m, ds) cells some in
@@ -88,8 +88,8 @@ count-elsewhere g grid a cells has m ds other = elim (cases_lt 0 (cell_count g (
       subst (λ (x : Cell). x.code < factorial (size g)) at (has.states j c l).state in
       let in_slice : alexander g (unrank (size g) c.code) ≡ a =
       subst (λ (x : Cell). alexander g (unrank (size g) x.code) ≡ a) at (has.alexander j c l) in
-      absurd (other (sym (ap (λ (p : ℤ × List ℤ). total p.1) is)
-      ∙ total-component_degrees g grid (unrank (size g) c.code) (IsBijection-unrank (size g) c.code state)
+      absurd (other (sym (ap (λ (p : ℤ × List ℤ). total_degree p.1) is)
+      ∙ total_degree-component_degrees g grid (unrank (size g) c.code) (IsBijection-unrank (size g) c.code state)
       ∙ ap (λ b. pos 2 *ℤ b) in_slice))
   | inr none ↦ omega arith
 ]
@@ -102,7 +102,7 @@ done-next g grid a left cells old new has counted so_far = (
   so_far.0.1,
   record {
     positive = counted.positive;
-    done = λ m ds gone. elim (same_or_not (total ds) (pos 2 *ℤ a)) [
+    done = λ m ds gone. elim (same_or_not (total_degree ds) (pos 2 *ℤ a)) [
       | inl is ↦ subst (IsComponentRank g m ds) (sym (here m ds is)) (has.ranks m ds is)
       | inr other ↦
           subst (IsComponentRank g m ds) (sym (elsewhere m ds other))
@@ -113,9 +113,9 @@ done-next g grid a left cells old new has counted so_far = (
     ];
     fresh = λ m ds b waiting e.
         elsewhere m ds (λ at. not_later a left so_far.0.0
-        (subst (Contains left) (same_half (total ds) b a e at) waiting))
+        (subst (Contains left) (same_half (total_degree ds) b a e at) waiting))
         ∙ so_far.1.fresh m ds b (member_tail a left b waiting) e;
-    small = λ k. elim (same_or_not (total k.1) (pos 2 *ℤ a)) [
+    small = λ k. elim (same_or_not (total_degree k.1) (pos 2 *ℤ a)) [
       | inl is ↦
           let sum = here k.0 k.1 is in
           let most = cell_count-most g k cells in
@@ -130,11 +130,13 @@ done-next g grid a left cells old new has counted so_far = (
   },
 )
   where
-    here : (m : ℤ) (ds : List ℤ) → total ds ≡ pos 2 *ℤ a → component_rank_at new (m, ds) ≡ cell_count g (m, ds) cells
+    here : (m : ℤ) (ds : List ℤ) → total_degree ds ≡ pos 2 *ℤ a
+        → component_rank_at new (m, ds) ≡ cell_count g (m, ds) cells
     here m ds is =
         let none = so_far.1.fresh m ds a (member_head a left) is in let sum = counted.ranks (m, ds) in omega arith
 
-    elsewhere : (m : ℤ) (ds : List ℤ) → (total ds ≡ pos 2 *ℤ a → ⊥) → component_rank_at new (m, ds) ≡ component_rank_at old (m, ds)
+    elsewhere : (m : ℤ) (ds : List ℤ) → (total_degree ds ≡ pos 2 *ℤ a → ⊥)
+        → component_rank_at new (m, ds) ≡ component_rank_at old (m, ds)
     elsewhere m ds other =
         let none = count-elsewhere g grid a cells has m ds other in let sum = counted.ranks (m, ds) in omega arith
 

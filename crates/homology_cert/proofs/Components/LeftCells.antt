@@ -20,7 +20,7 @@ use Rattle.sparse_complex.specs.declared.slices.Cell.{Cell}
 use Rattle.sparse_complex.specs.Slices.{ListsCells}
 use Rattle.sparse_complex.proofs.BuildLemmas.{states_fit_keys}
 use Rattle.cancel.proofs.ListLemmas.{any-Contains}
-use Rattle.multi_degree.specs.ComponentDegrees.{component_degrees, total}
+use Rattle.multi_degree.specs.ComponentDegrees.{component_degrees, total_degree}
 use Rattle.homology_cert.specs.Inner.CodeComponents.{multidegree, IsComponentRank}
 use Rattle.homology_cert.specs.Inner.Left.{cell_count, HasComponentRanks}
 use Rattle.hat_division.proofs.Multi.DegreeListLemmas.{same_multidegree, same_multidegree-is}
@@ -101,7 +101,7 @@ module _ (g : Marks) (grid : IsGrid g) (a : ℤ) (left : Complex ℤ) (log : Lis
               (same_multidegree-is (multidegree g (unrank (size g) s)) (m, ds)).1 (λ i. (first i, second i)),
         )
 
-    left_rank : total ds ≡ pos 2 *ℤ a → IsComponentRank g m ds (cell_count g (m, ds) cells)
+    left_rank : total_degree ds ≡ pos 2 *ℤ a → IsComponentRank g m ds (cell_count g (m, ds) cells)
     left_rank sum =
         subst (IsComponentRank g m ds) (count-map test (λ (c : Cell). c.code) cells)
         (component_rank_counted g grid a log reduced.stands no_arrows m ds sum left_codes left_apart

@@ -63,7 +63,8 @@ count_at_most m (x ∷ xs) = by (int_eq x.maslov m) (count_at_most m xs)
 -- ---- the cells of a degree, one by one
 -- none is counted where the degree is new
 pub counted-none : (a : ℤ) (ranks : Ranks) → ((m : ℤ) → tree.get bidegree_cmp ranks (bidegree_key (m, a)) ≡ None)
-    → ((b m : ℤ) → IfSome (tree.get bidegree_cmp ranks (bidegree_key (m, b))) (λ d. 0 < d)) → AreCounted a [] ranks ranks
+    → ((b m : ℤ) → IfSome (tree.get bidegree_cmp ranks (bidegree_key (m, b))) (λ d. 0 < d))
+    → AreCounted a [] ranks ranks
 counted-none a ranks fresh positive = record {
   counts = λ m. ap (λ o. unwrap_or o 0) (fresh m);
   others = λ b m other. refl;
@@ -86,7 +87,8 @@ counted-next a xs c first old new count read adds before = record {
       ∙ before.others b m other;
   positive =
       λ b m. subst (λ o. IfSome o (λ d. 0 < d)) (sym (adds (bidegree_key (m, b))))
-      (above (is_eq (bidegree_cmp (bidegree_key (c.maslov, a)) (bidegree_key (m, b)))) (tree.get bidegree_cmp old (bidegree_key (m, b)))
+      (above (is_eq (bidegree_cmp (bidegree_key (c.maslov, a)) (bidegree_key (m, b))))
+      (tree.get bidegree_cmp old (bidegree_key (m, b)))
       (before.positive b m));
 }
   where

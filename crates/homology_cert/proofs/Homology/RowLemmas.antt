@@ -56,7 +56,8 @@ rows-of_ranks g ranks rows ordered all same = subst (AreRows g) (sym same) (reco
         let found : tree.get bidegree_cmp ranks (bidegree_key (row.m, row.a)) ≡ Some row.rank =
         value (tree.get bidegree_cmp ranks (bidegree_key (row.m, row.a))) row.rank same held.positive in
         Contains-map row_of ranks.entries (bidegree_key (row.m, row.a), row.rank)
-        ((btree_map_get_iff bidegree_cmp_total bidegree_cmp_exact ranks ordered (bidegree_key (row.m, row.a)) row.rank).0
+        ((btree_map_get_iff bidegree_cmp_total bidegree_cmp_exact ranks ordered
+        (bidegree_key (row.m, row.a)) row.rank).0
         found)
       where
         value : (o : Option ℕ) (d : ℕ) → unwrap_or o 0 ≡ d → 0 < d → o ≡ Some d

@@ -35,7 +35,7 @@ use Rattle.homology_cert.specs.Inner.CodeCertificates.{AreStates, HasCycleStates
 use Rattle.homology_cert.specs.Certificates.{AreSmallDegrees}
 use Rattle.homology_cert.specs.CertificateTests.{same_degree}
 use Rattle.homology_cert.specs.Inner.CodeTests.{has_bidegree, state_count_at}
-use Rattle.homology_cert.specs.CertificateText.{marks_line, degree_line, head_lines, text_of_lines}
+use Rattle.homology_cert.specs.CertificateText.{marks_line, degree_line, certificate_head_lines, text_of_lines}
 use Rattle.homology_cert.specs.Inner.CodeText.{cycle_lines, step_lines, cell_lines, certificate_text}
 use Rattle.text_lines.specs.Inner.CodeLines.{set_line}
 use Rattle.homology_cert.proofs.Texts.TextLemmas.{text_of_lines-append, certificate_text-parts}
@@ -319,7 +319,7 @@ marks_line-bound n letter rows small one bijection =
     short r l = let digit = ap length (decimal_digit r l) in omega (arith, digit)
 
 -- the first lines
-head-bound : (g : Marks) → IsGrid g → size g ≤ 6 → length (text_of_lines (head_lines g)) ≤ 50
+head-bound : (g : Marks) → IsGrid g → size g ≤ 6 → length (text_of_lines (certificate_head_lines g)) ≤ 50
 head-bound g grid small =
     let o = marks_line-bound (size g) (codes "O") g.o small refl grid.o in
     let x = marks_line-bound (size g) (codes "X") g.x small refl grid.x in
@@ -342,9 +342,9 @@ pub short_text : (c : Certificate) → IsGrid c.grid → size c.grid ≤ 6
     → length (certificate_text c) < 16777216
 short_text c grid small degrees states few =
     let parts = ap length (certificate_text-parts c) in
-    let outer = length-append (text_of_lines (head_lines c.grid) ++ text_of_lines
+    let outer = length-append (text_of_lines (certificate_head_lines c.grid) ++ text_of_lines
     (flat_map (cell_lines (size c.grid)) c.cells)) (codes "end\n") in
-    let inner = length-append (text_of_lines (head_lines c.grid))
+    let inner = length-append (text_of_lines (certificate_head_lines c.grid))
     (text_of_lines (flat_map (cell_lines (size c.grid)) c.cells)) in
     let head = head-bound c.grid grid small in
     let cells = cells-bound c.grid c.cells small degrees states in

@@ -22,7 +22,7 @@ use Rattle.torus_geom.specs.Marks.{size, Marks, IsGrid}
 use Rattle.homology_cert.specs.CertificateCodes as kept
 use Rattle.homology_cert.specs.Inner.CodeCertificates as code_certificates
 use Rattle.homology_cert.specs.Inner.CodeText as over_codes
-use Rattle.homology_cert.specs.CertificateText.{degree_line, head_lines, text_of_lines}
+use Rattle.homology_cert.specs.CertificateText.{degree_line, certificate_head_lines, text_of_lines}
 use Rattle.torus_geom.specs.Chains.{Chain, IsChain}
 use Rattle.torus_geom.specs.Codes.{states_of}
 use Rattle.torus_geom.specs.Inner.CodeBorder.{codes_of}
@@ -84,7 +84,7 @@ pub certificate_lines-states : (c : kept.Certificate) → code_certificates.IsCe
 unfolding over_codes.certificate_lines certificate_lines
 certificate_lines-states c is =
     let n = size c.grid in
-    ap (λ lines. head_lines c.grid ++ lines ++ codes "end" ∷ [])
+    ap (λ lines. certificate_head_lines c.grid ++ lines ++ codes "end" ∷ [])
     (flat_map-members (over_codes.cell_lines n) (λ cell. cell_lines n (cell_of n cell)) c.cells
     (λ cell m. cell_lines-states n cell (ranks_of_certificate c is cell m))
     ∙ sym (flat_map-map (cell_lines n) (cell_of n) c.cells))

@@ -15,7 +15,7 @@ use Rattle.torus_geom.specs.Marks.{Marks, size}
 use Rattle.homology_cert.specs.CertificateCodes.{Cell}
 use Rattle.homology_cert.specs.Inner.CodeCertificates.{AreStates, HasCycleStates, HasStepStates, HasPairStates}
 use Rattle.homology_cert.specs.Certificates.{AreSmallDegrees}
-use Rattle.homology_cert.specs.CertificateText.{marks_line, degree_line, head_lines}
+use Rattle.homology_cert.specs.CertificateText.{marks_line, degree_line, certificate_head_lines}
 use Rattle.homology_cert.specs.Inner.CodeText.{cycle_lines, step_lines, cell_lines}
 use Rattle.text_lines.specs.Inner.CodeLines.{set_line}
 use Rattle.homology_cert.specs.Inner.Reading.{size_line, new_cell, with_cycle, with_step, IsSmallSize, IsSmallGrid, LeadsTo, lines_in, lines_at, AreClosed, IsAt}
@@ -142,9 +142,9 @@ module _ (g : Marks) where
   -- ---- the lines of the last cell
   lines_in-last : (ds : List Cell) (c : Cell) → lines_in g (ds ++ c ∷ []) ≡ lines_in g ds ++ cell_lines (size g) c
   lines_in-last ds c =
-      ap (λ ls. head_lines g ++ ls) (flat_map-append (cell_lines (size g)) ds (c ∷ [])
+      ap (λ ls. certificate_head_lines g ++ ls) (flat_map-append (cell_lines (size g)) ds (c ∷ [])
       ∙ ap (λ ls. flat_map (cell_lines (size g)) ds ++ ls) (append-nil (cell_lines (size g) c)))
-      ∙ sym (append_assoc (head_lines g) (flat_map (cell_lines (size g)) ds) (cell_lines (size g) c))
+      ∙ sym (append_assoc (certificate_head_lines g) (flat_map (cell_lines (size g)) ds) (cell_lines (size g) c))
 
   cell_lines-with_cycle : (c : Cell) (z f : Chain) → c.steps ≡ []
       → cell_lines (size g) (with_cycle c z f) ≡ (cell_lines (size g) c ++ set_line (codes "cycle")
@@ -233,11 +233,11 @@ is_at-next (XLine o) ds line q es at (x, is, l, e, f) =
 is_at-next (NoCell g) ds line q es at (inl (l, e, f)) =
     follows-same (NoCell g) ds _ q (End g) es [] e (f ∙ at.1) (
       closed-none g at.0,
-      ap₂ (λ ls t. ls ++ t ∷ []) (append-nil (head_lines g)) (sym l),
+      ap₂ (λ ls t. ls ++ t ∷ []) (append-nil (certificate_head_lines g)) (sym l),
     )
 is_at-next (NoCell g) ds line q es at (inr (d, small, l, e, f)) =
     follows-same (NoCell g) ds _ q (InCell g (new_cell d)) es [] e (f ∙ at.1)
-    (closed-first g d small at.0, ap (λ t. head_lines g ++ t ∷ []) (sym l))
+    (closed-first g d small at.0, ap (λ t. certificate_head_lines g ++ t ∷ []) (sym l))
 is_at-next (InCell g c) ds line q es at (inl (l, e, f)) =
     follows-same (InCell g c) ds _ q (End g) es (ds ++ c ∷ []) e f (
       at,

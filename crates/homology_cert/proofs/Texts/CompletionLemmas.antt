@@ -17,7 +17,7 @@ use Rattle.torus_geom.proofs.Circles.TurnLemmas.{one_up-below, one_up-last, one_
 use Rattle.torus_geom.proofs.Sums.TabulateLemmas.{slice_index-tabulate}
 use Rattle.homology_cert.specs.CertificateCodes.{Cell, Certificate}
 use Rattle.homology_cert.specs.Inner.CodeCertificates.{IsCertificate, AreStates, HasPairStates, entry_count}
-use Rattle.homology_cert.specs.CertificateText.{marks_line, degree_line, head_lines}
+use Rattle.homology_cert.specs.CertificateText.{marks_line, degree_line, certificate_head_lines}
 use Rattle.homology_cert.specs.Inner.CodeText.{cycle_lines, step_lines, cell_lines, certificate_lines}
 use Rattle.text_lines.specs.Inner.CodeLines.{set_line}
 use Rattle.homology_cert.specs.Inner.Reading.{size_line, with_cycle, with_step, IsSmallSize, IsSmallGrid, lines_in, lines_at, AreClosed, IsAt}
@@ -140,7 +140,7 @@ completed (NoCell g) ds at few = (
   record { grid = g; cells = [] },
   certificate_of g [] (closed-none g at.0) (omega arith),
   codes "end" ∷ [],
-  lines_of_certificate g [] ∙ ap (λ ls. ls ++ codes "end" ∷ []) (append-nil (head_lines g)),
+  lines_of_certificate g [] ∙ ap (λ ls. ls ++ codes "end" ∷ []) (append-nil (certificate_head_lines g)),
 )
 completed (InCell g c) ds at few =
     let cells = ds ++ c ∷ [] in (
@@ -149,7 +149,7 @@ completed (InCell g c) ds at few =
           at (omega (
             arith,
             count-lines (size g) cells,
-            length-append (head_lines g) (flat_map (cell_lines (size g)) cells),
+            length-append (certificate_head_lines g) (flat_map (cell_lines (size g)) cells),
           )),
       codes "end" ∷ [],
       lines_of_certificate g cells,
@@ -167,7 +167,7 @@ completed (InCycle g c z) ds at few =
           (omega (
             arith,
             count-lines (size g) cells,
-            length-append (head_lines g) (flat_map (cell_lines (size g)) cells),
+            length-append (certificate_head_lines g) (flat_map (cell_lines (size g)) cells),
             ap length lines,
             length-append (lines_in g (ds ++ c ∷ []) ++ line ∷ []) (last ∷ []),
           )),
@@ -188,7 +188,7 @@ completed (InStep g c z) ds at few =
           (omega (
             arith,
             count-lines (size g) cells,
-            length-append (head_lines g) (flat_map (cell_lines (size g)) cells),
+            length-append (certificate_head_lines g) (flat_map (cell_lines (size g)) cells),
             ap length lines,
             length-append (lines_in g (ds ++ c ∷ []) ++ line ∷ []) (last ∷ []),
           )),
@@ -201,7 +201,7 @@ completed (End g) ds at few = (
   certificate_of g ds at (omega (
     arith,
     count-lines (size g) ds,
-    length-append (head_lines g) (flat_map (cell_lines (size g)) ds),
+    length-append (certificate_head_lines g) (flat_map (cell_lines (size g)) ds),
     length-append (lines_in g ds) (codes "end" ∷ []),
   )),
   [],
@@ -216,7 +216,7 @@ completed-end g ds at few = (
   certificate_of g ds at (omega (
     arith,
     count-lines (size g) ds,
-    length-append (head_lines g) (flat_map (cell_lines (size g)) ds),
+    length-append (certificate_head_lines g) (flat_map (cell_lines (size g)) ds),
     length-append (lines_in g ds) (codes "end" ∷ []),
   )),
   lines_of_certificate g ds,

@@ -13,7 +13,7 @@ use Rattle.torus_geom.specs.Marks.{size}
 use Rattle.homology_cert.specs.CertificateCodes.{Cell, Certificate}
 use Rattle.homology_cert.specs.Inner.CodeCertificates.{IsCertificate}
 use Rattle.homology_cert.specs.Certificates.{AreSmallDegrees}
-use Rattle.homology_cert.specs.CertificateText.{marks_line, degree_line, head_lines, text_of_lines}
+use Rattle.homology_cert.specs.CertificateText.{marks_line, degree_line, certificate_head_lines, text_of_lines}
 use Rattle.homology_cert.specs.Inner.CodeText.{cycle_lines, step_lines, cell_lines, certificate_lines, certificate_text}
 use Rattle.text_lines.specs.Inner.CodeLines.{set_line}
 use Rattle.homology_cert.specs.Inner.Reading.{LinesLead, IsAt, IsFree, AreFree}
@@ -151,8 +151,8 @@ unfolding certificate_lines
 free-certificate c is =
     let g = c.grid in
     let large = is.grid.is_size.greatest in
-    free_lines-append (head_lines g ++ flat_map (cell_lines (size g)) c.cells) (codes "end" ∷ [])
-    (free_lines-append (head_lines g) (flat_map (cell_lines (size g)) c.cells) (
+    free_lines-append (certificate_head_lines g ++ flat_map (cell_lines (size g)) c.cells) (codes "end" ∷ [])
+    (free_lines-append (certificate_head_lines g) (flat_map (cell_lines (size g)) c.cells) (
       free-word (codes "gridcert 1") refl,
       (
         free-append 10 (codes "grid ") (decimal (size g)) (free-word (codes "grid ") refl)

@@ -14,7 +14,7 @@ use Rattle.homology_cert.specs.CertificateCodes.{Cell, Certificate}
 use Rattle.homology_cert.specs.Inner.CodeCertificates.{IsCertificate, HasCycleStates, HasStepStates, HasPairStates}
 use Rattle.homology_cert.specs.Certificates.{AreSmallDegrees}
 use Rattle.homology_cert.specs.Inner.CodeText.{cycle_lines, step_lines, cell_lines, certificate_lines}
-use Rattle.homology_cert.specs.CertificateText.{head_lines}
+use Rattle.homology_cert.specs.CertificateText.{certificate_head_lines}
 use Rattle.homology_cert.specs.Inner.Reading.{new_cell, with_cycle, with_step, LinesLead}
 use Rattle.homology_cert.specs.declared.places.Place.{Place}
 use Rattle.homology_cert.specs.declared.places.Place.TheVariants.{Start, Size, OLine, XLine, NoCell, InCell, InCycle, InStep, End}
@@ -180,8 +180,8 @@ unfolding certificate_lines
 path_of_certificate c is =
     let g = c.grid in
     let body = path_of_body g c.cells is.ordered is.degrees is.states in
-    let lines = append_assoc (head_lines g) (flat_map (cell_lines (size g)) c.cells) (codes "end" ∷ []) in
-    let head : LinesLead Start [] (head_lines g) (NoCell g) [] = (
+    let lines = append_assoc (certificate_head_lines g) (flat_map (cell_lines (size g)) c.cells) (codes "end" ∷ []) in
+    let head : LinesLead Start [] (certificate_head_lines g) (NoCell g) [] = (
       Size,
       [],
       (refl, refl, refl),
@@ -203,5 +203,5 @@ path_of_certificate c is =
       ),
     ) in
     subst (λ (ls : List (List ℕ)). LinesLead Start [] ls (End g) c.cells) (sym lines)
-    (path-append Start (NoCell g) (End g) [] [] c.cells (head_lines g) (flat_map
+    (path-append Start (NoCell g) (End g) [] [] c.cells (certificate_head_lines g) (flat_map
     (cell_lines (size g)) c.cells ++ codes "end" ∷ []) head body)

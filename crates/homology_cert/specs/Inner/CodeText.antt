@@ -13,7 +13,7 @@ use Rattle.f2_algebra.specs.Certificate.{CyclePair, StepPair}
 use Rattle.torus_geom.specs.Marks.{size}
 use Rattle.text_lines.specs.Inner.CodeLines.{set_line}
 use Rattle.homology_cert.specs.CertificateCodes.{Cell, Certificate}
-use Rattle.homology_cert.specs.CertificateText.{degree_line, head_lines, text_of_lines}
+use Rattle.homology_cert.specs.CertificateText.{degree_line, certificate_head_lines, text_of_lines}
 use Rattle.homology_cert.specs.Inner.CodeCertificates.{IsCertificate}
 
 abbrev pub cycle_lines : ℕ → CyclePair → List (List ℕ)
@@ -26,7 +26,7 @@ abbrev pub cell_lines : ℕ → Cell → List (List ℕ)
 cell_lines n cell = degree_line cell.at ∷ flat_map (cycle_lines n) cell.cycles ++ flat_map (step_lines n) cell.steps
 
 unfoldable pub certificate_lines : Certificate → List (List ℕ)
-certificate_lines c = head_lines c.grid ++ flat_map (cell_lines (size c.grid)) c.cells ++ codes "end" ∷ []
+certificate_lines c = certificate_head_lines c.grid ++ flat_map (cell_lines (size c.grid)) c.cells ++ codes "end" ∷ []
 
 abbrev pub certificate_text : Certificate → List ℕ
 certificate_text c = text_of_lines (certificate_lines c)

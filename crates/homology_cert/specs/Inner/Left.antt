@@ -20,7 +20,7 @@ use Rattle.torus_geom.specs.Degrees.{maslov_o, alexander}
 use Rattle.torus_geom.specs.Marks.{Marks, size}
 use Rattle.sparse_complex.specs.declared.slices.Cell.{Cell}
 use Rattle.hat_division.specs.DegreeLists.{same_degrees}
-use Rattle.multi_degree.specs.ComponentDegrees.{total}
+use Rattle.multi_degree.specs.ComponentDegrees.{total_degree}
 use Rattle.homology_cert.specs.Inner.CodeComponents.{multidegree, IsComponentRank}
 use Rattle.hat_division.specs.MultiTable.{component_rank_at, ArePositive}
 use Rattle.hat_division.specs.declared.multi_tables.MultiRow.{MultiRow}
@@ -37,7 +37,7 @@ pub record IsCell (g : Marks) (c : Cell) : Type 0 where
   pub maslov : maslov_o g (unrank (size g) c.code) ≡ c.maslov
 
 pub record HasComponentRanks (g : Marks) (a : ℤ) (cells : List Cell) : Type 0 where
-  pub ranks : (m : ℤ) (ds : List ℤ) → total ds ≡ pos 2 *ℤ a → IsComponentRank g m ds (cell_count g (m, ds) cells)
+  pub ranks : (m : ℤ) (ds : List ℤ) → total_degree ds ≡ pos 2 *ℤ a → IsComponentRank g m ds (cell_count g (m, ds) cells)
   pub states : All (IsCell g) cells
   pub alexander : All (λ c. alexander g (unrank (size g) c.code) ≡ a) cells
   pub few : length cells < 2 ^ 32
@@ -54,8 +54,9 @@ pub record AreCounted (g : Marks) (cells : List Cell) (old new : List MultiRow) 
 
 pub record IsDone (g : Marks) (left : List ℤ) (rows : List MultiRow) : Type 0 where
   pub positive : ArePositive rows
-  pub done : (m : ℤ) (ds : List ℤ) → ((a : ℤ) → Contains left a → total ds ≡ pos 2 *ℤ a → ⊥)
+  pub done : (m : ℤ) (ds : List ℤ) → ((a : ℤ) → Contains left a → total_degree ds ≡ pos 2 *ℤ a → ⊥)
       → IsComponentRank g m ds (component_rank_at rows (m, ds))
-  pub fresh : (m : ℤ) (ds : List ℤ) (a : ℤ) → Contains left a → total ds ≡ pos 2 *ℤ a → component_rank_at rows (m, ds) ≡ 0
+  pub fresh : (m : ℤ) (ds : List ℤ) (a : ℤ) → Contains left a → total_degree ds ≡ pos 2 *ℤ a
+      → component_rank_at rows (m, ds) ≡ 0
   pub small : (k : ℤ × List ℤ) → component_rank_at rows k < 2 ^ 32
   pub keys : (k : ℤ × List ℤ) → 0 < component_rank_at rows k → IsKey g k

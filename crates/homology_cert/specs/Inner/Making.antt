@@ -55,7 +55,8 @@ abbrev pub HasState : Marks → ℤ × ℤ → Type 0
 HasState g d = (s : ℕ) × (s < factorial (size g)) × (bidegree g (unrank (size g) s) ≡ d)
 
 pub record HasBidegrees (g : Marks) (n : ℕ) (degrees : BTreeSet Bidegree) : Type 0 where
-  pub found : (s : ℕ) → s < n → sorted.contains bidegree_cmp degrees (bidegree_key (bidegree g (unrank (size g) s))) ≡ true
+  pub found : (s : ℕ) → s < n
+      → sorted.contains bidegree_cmp degrees (bidegree_key (bidegree g (unrank (size g) s))) ≡ true
   pub of_states : (q : Bidegree) → sorted.contains bidegree_cmp degrees q ≡ true
       → (s : ℕ) × (s < n) × (bidegree_key (bidegree g (unrank (size g) s)) ≡ q)
 

@@ -27,7 +27,7 @@ use Rattle.homology_cert.specs.CertificateLimits.{max_certified_size}
 use Rattle.homology_cert.specs.CertificateCodes.{Cell}
 use Rattle.homology_cert.specs.Inner.CodeCertificates.{AreStates, HasPairStates}
 use Rattle.homology_cert.specs.Certificates.{AreSmallDegrees}
-use Rattle.homology_cert.specs.CertificateText.{marks_line, degree_line, head_lines, text_of_lines}
+use Rattle.homology_cert.specs.CertificateText.{marks_line, degree_line, certificate_head_lines, text_of_lines}
 use Rattle.homology_cert.specs.Inner.CodeText.{cell_lines}
 use Rattle.text_lines.specs.Inner.CodeLines.{set_line}
 pub use Rattle.homology_cert.specs.Inner.Cells.{new_cell, with_cycle, with_step}
@@ -79,14 +79,14 @@ LinesLead p ds [] q es = (p ≡ q) × (ds ≡ es)
 LinesLead p ds (line ∷ lines) q es = (r : Place) × (fs : List Cell) × LeadsTo p ds line r fs × LinesLead r fs lines q es
 
 abbrev pub lines_in : Marks → List Cell → List (List ℕ)
-lines_in g ds = head_lines g ++ flat_map (cell_lines (size g)) ds
+lines_in g ds = certificate_head_lines g ++ flat_map (cell_lines (size g)) ds
 
 abbrev pub lines_at : Place → List Cell → List (List ℕ)
 lines_at Start ds = []
 lines_at Size ds = codes "gridcert 1" ∷ []
 lines_at (OLine n) ds = codes "gridcert 1" ∷ size_line n ∷ []
 lines_at (XLine o) ds = codes "gridcert 1" ∷ size_line (length o) ∷ marks_line (codes "O") o ∷ []
-lines_at (NoCell g) ds = head_lines g
+lines_at (NoCell g) ds = certificate_head_lines g
 lines_at (InCell g c) ds = lines_in g (ds ++ c ∷ [])
 lines_at (InCycle g c z) ds = lines_in g (ds ++ c ∷ []) ++ set_line (codes "cycle") (size g) z ∷ []
 lines_at (InStep g c z) ds = lines_in g (ds ++ c ∷ []) ++ set_line (codes "step") (size g) z ∷ []

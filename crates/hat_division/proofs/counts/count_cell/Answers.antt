@@ -42,7 +42,8 @@ returns-clause-counted c =
     let within : place ≤ length old = omega arith in
     let before : (k : ℕ) (e : MultiRow) → k < place
     → stands_before_by_component (degrees_of (get_or old k e)) (degrees_of new) ≡ true =
-    λ k e l. subst (λ (xs : List MultiRow). stands_before_by_component (degrees_of (get_or xs k e)) (degrees_of new) ≡ true)
+    λ k e l. subst (λ (xs : List MultiRow). stands_before_by_component (degrees_of (get_or xs k e)) (degrees_of new)
+    ≡ true)
     c.as_slice.ensures.value (c.place_of-place.ensures.before k e l) in
     let rest : (e : MultiRow) → place < length old
     → stands_before_by_component (degrees_of (get_or old place e)) (degrees_of new) ≡ false =

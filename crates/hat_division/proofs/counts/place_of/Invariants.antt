@@ -7,4 +7,5 @@ use Rattle.hat_division.proofs.counts.place_of.Given as goal
 
 abbrev pub invariant-loop-i : goal.invariant-loop-i
 invariant-loop-i l =
-    (k : ℕ) (d : MultiRow) → k < l.i → stands_before_by_component (degrees_of (get_or l.rows k d)) (degrees_of l.row) ≡ true
+    (k : ℕ) (d : MultiRow) → k < l.i
+    → stands_before_by_component (degrees_of (get_or l.rows k d)) (degrees_of l.row) ≡ true

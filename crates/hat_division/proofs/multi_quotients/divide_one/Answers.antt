@@ -35,7 +35,8 @@ loop-row-preserved c =
     let above = c.rank_up-above.result in
     let fits : SFits w32 row.m = search rules in
     let positive = general rows c.requires.positive in
-    let is = c.rank_up-above.ensures ∙ ap (λ xs. component_rank_at xs (step_up i (degrees_of row))) c.as_slice.ensures.value
+    let is =
+    c.rank_up-above.ensures ∙ ap (λ xs. component_rank_at xs (step_up i (degrees_of row))) c.as_slice.ensures.value
     ∙ component_rank_at-ranks_of now (step_up i (degrees_of row)) in
     let enough = c.if-row-above.false in
     let new : MultiRow = record { m = to_z w32 (of_z w32 row.m); d = row.d; rank = row.rank - above } in

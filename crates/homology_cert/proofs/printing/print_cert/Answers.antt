@@ -4,7 +4,7 @@ use Rattle.std.specs.List.{flat_map}
 use Rattle.torus_geom.specs.Marks.{Marks, size}
 use Rattle.homology_cert.specs.CertificateCodes.{Cell}
 use Rattle.homology_cert.specs.Inner.CodeCertificates.{HasPairStates}
-use Rattle.homology_cert.specs.CertificateText.{text_of_lines, head_lines}
+use Rattle.homology_cert.specs.CertificateText.{text_of_lines, certificate_head_lines}
 use Rattle.homology_cert.specs.Inner.CodeText.{cell_lines}
 use Rattle.homology_cert.proofs.Texts.TextLemmas.{certificate_pieces}
 use Rattle.homology_cert.proofs.printing.print_cert.Goals as goal
@@ -18,7 +18,7 @@ pub returns : goal.returns
 returns c =
     let cert = c.args.c.now in
     let head = c.in_ok-push_head.ensures
-    ∙ ap (λ (g : Marks). c.new-text.result.items ++ text_of_lines (head_lines g)) c.grid-g.ensures.grid in
+    ∙ ap (λ (g : Marks). c.new-text.result.items ++ text_of_lines (certificate_head_lines g)) c.grid-g.ensures.grid in
     let cells = c.in_ok-push_cells.ensures
     ∙ ap₂ (λ (g : Marks) (cells : List Cell). c.push_head.new.text.items
     ++ text_of_lines (flat_map (cell_lines (size g)) cells)) c.grid-g.ensures.grid c.cells.ensures.cells in

@@ -4,7 +4,7 @@ use Rattle.gradings.specs.Degrees.{IsSmallDegree}
 use Rattle.state_rank.specs.Bijection.{IsBijection}
 use Rattle.torus_geom.specs.Marks.{size}
 use Rattle.multi_degree.proofs.ListedDegrees.{listed-room, IsListed-more, IsListed-other, IsListed-same, listed-degrees, length-listed, listed-accepted, word_of}
-use Rattle.multi_degree.proofs.DegreeLaws.{two-component_degree, total-component_degrees, component_degrees-in_border}
+use Rattle.multi_degree.proofs.DegreeLaws.{two-component_degree, total_degree-component_degrees, component_degrees-in_border}
 use Rattle.multi_degree.proofs.components.component_degrees.Goals.{then-is_first_column, else-is_first_column}
 use Rattle.multi_degree.proofs.components.component_degrees.Goals as goal
 
@@ -73,7 +73,7 @@ pub returns-clause-whole : goal.returns-clause-whole
 returns-clause-whole c f l = two-component_degree c.args.g.now c.size-f-end.ensures.grid f l c.args.x.now
 
 pub returns-clause-sum : goal.returns-clause-sum
-returns-clause-sum c = total-component_degrees c.args.g.now c.size-f-end.ensures.grid c.args.x.now (state_of c)
+returns-clause-sum c = total_degree-component_degrees c.args.g.now c.size-f-end.ensures.grid c.args.x.now (state_of c)
 
 pub returns-clause-border : goal.returns-clause-border
 returns-clause-border c y h =
