@@ -3,8 +3,8 @@
 --                                 checked
 --     IsCertified text answer     the text is a document, and the answer such a text for the grid in force after its
 --                                 commands
---     IsTooLarge text answer      the text is a document of a grid that is too large, and the answer tells the line
---                                 where its head begins
+--     IsTooLarge text answer      the text is a document of a grid that is too large, and the answer states the line at
+--                                 which its head begins
 use Rattle.std.specs.Prelude.{◌≡◌, ℕ, ◌<◌, ◌≤◌, List, length, codes}
 use Rattle.torus_geom.specs.Marks.{Marks, size}
 use Rattle.grid_text.specs.Document.{IsDocument, IsHeadLine}

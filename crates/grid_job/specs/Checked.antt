@@ -4,10 +4,10 @@
 --     no_line entry test      the line of one that fails: the number of its first entry that does not pass, and the
 --                             test
 --     IsPassed text answer    the text is that of a certificate that passes, and the answer says so
---     IsFailed text answer    the text is that of a certificate that fails, and the answer tells the first test that
+--     IsFailed text answer    the text is that of a certificate that fails, and the answer states the first test that
 --                             it fails
 --     IsNoCertificate text answer
---                             the text is that of no certificate, and the answer tells its first bad line
+--                             the text is that of no certificate, and the answer states its first bad line
 use Rattle.std.specs.Prelude.{◌≡◌, ℕ, ◌≤◌, List, ◌∷◌, ◌++◌, length, codes}
 use Rattle.std.specs.Fmt.{decimal}
 use Rattle.homology_cert.specs.CertificateLimits.{max_certificate}

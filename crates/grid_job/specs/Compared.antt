@@ -1,10 +1,10 @@
 -- What `compare` answers to a text of two documents.
---     IsFacts g f                 what two grids are compared by is this for the grid: its tb and rot, its table, its
---                                 hat or that it has none, and whether the classes of x+ and x- are alive
+--     IsFacts g f                 f has what the grid g is compared by: its tb and rot, its table, its hat or that it
+--                                 has none, and whether the classes of x+ and x- are alive
 --     IsComparison g h text       the text has the lines that compare these facts of the two grids
---     IsCompared text answer      the text is a pair of documents, and the answer compares the grids in force at the ends
---                                 of the two
---     IsPairFaulty text answer    the text is no pair of documents, and the answer tells what it is refused for
+--     IsCompared text answer      the text is a pair of documents, and the answer compares the grids in force at the
+--                                 ends of the two
+--     IsPairFaulty text answer    the text is no pair of documents, and the answer states what it is refused for
 use Rattle.std.specs.Prelude.{◌≡◌, ℕ, ◌≤◌, List, length, map}
 use Rattle.torus_geom.specs.Front.{thurston_bennequin, rotation}
 use Rattle.torus_geom.specs.Homology.{IsHomologyTable}

@@ -4,14 +4,15 @@
 --     IsHat g hat        the rows are of positive ranks, in the order of tables, and their product with the factors
 --                        is the table of the grid
 --     HasHat g hat       this is the hat of the grid; or the grid has none
---     IsHatText g text   the exponent and the rows of the hat; or that there is none, exactly if there is none
+--     IsHatText g text   the text states the exponent and the rows of the hat; or that there is none, exactly if there
+--                        is none
 -- The hat by component is the quotient of the table by component by as many factors 1 + q^-1 t_i^-1 as component i has
 -- columns beyond one, where q^-1 t_i^-1 lowers the doubled degree of component i by two. A grid has at most one.
 --     IsComponentHat g hat       the rows are of positive ranks, in the order of tables, and their product with the
 --                                factors is the table of the grid by component
 --     HasComponentHat g hat      this is the hat of the grid by component; or the grid has none
---     IsComponentHatText g text  the exponents, in the order of the components, and the rows of this hat; or that
---                                there is none, exactly if there is none
+--     IsComponentHatText g text  the text states the exponents, in the order of the components, and the rows of this
+--                                hat; or that there is none, exactly if there is none
 use Rattle.std.specs.Prelude.{◌≡◌, ℕ, ◌-◌, List, map, Option, MatchOption}
 use Rattle.hat_division.specs.MultiTable.{IsMultiQuotient}
 use Rattle.hat_division.specs.Product.{IsQuotient}

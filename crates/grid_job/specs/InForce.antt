@@ -2,7 +2,7 @@
 -- to a command depends on these two alone.
 --     InForce                a grid and a chain
 --     at_start g             before the first command: the grid of the document, and the empty chain
---     chain_after p c        the chain after the command c, where p was in force before it
+--     chain_after p c        the chain after the command c, if p was in force before it
 --     after_command p c      the grid and the chain after it
 --     after_commands p cs    after these commands, in order
 use Rattle.std.specs.Prelude.{List, [], ◌∷◌}

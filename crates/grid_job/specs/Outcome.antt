@@ -3,7 +3,7 @@
 --     IsForm words mode             the words after the program's name ask for this mode
 --     most_read mode                the number of bytes that a call takes at most
 --     IsTooLong limit text answer   the text is longer than what is judged, and the answer is the line that says so
---     IsFaulty text answer          the text is no document, and the answer tells its first fault
+--     IsFaulty text answer          the text is no document, and the answer states its first fault
 --     IsRefusal text answer         the text is refused as a document, and the answer is the line that says so
 --     IsReported text answer        the text is a document, and the answer a report of its script
 --     IsOutcome mode text status answer

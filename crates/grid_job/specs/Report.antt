@@ -4,7 +4,7 @@
 --     IsComponentTableText g text
 --                              the text has the lines of the table of the grid by component
 --     IsRanksText v g text     the first of these in version 1, the second in version 2
---     IsHatTextIn v g text     the same of the hat, and the hat by component
+--     IsHatTextIn v g text     the text is that of the hat in version 1, and that of the hat by component in version 2
 --     IsCorankText g text      the text has the lines of the table of coranks of the grid
 --     IsEulerText g text       the text has the lines of the Euler numbers of the grid
 --     IsAnswer v p c text      the text may be the answer, in this version, to the command c where p is in force
@@ -66,11 +66,11 @@ pub record IsEulerText (g : Marks) (text : List ℕ) : Type 0 where
   pub numbers : IsEulerTable g rows
   pub lines : text ≡ euler_lines rows
 
--- the classical invariants of the front; the table of ranks; the hat, or that there is none, where these two have one
--- degree for each component in version 2; the verdict of the
--- class of x+ or x-, and of the chain in force, each with its evidence; the states of the border, those of the chain in
--- force, and those of its image there and back across a commutation and of its homotopy, in ascending order; the table of
--- coranks; the Euler numbers; nothing if a command makes what is in force
+-- the answer to each command: the classical invariants of the front; the table of ranks; the hat, or that there is
+-- none (in version 2 the table and the hat have one degree for each component); the verdict of the class of x+ or x-,
+-- and of the chain in force, each with its evidence; the states of the border, those of the chain in force, and those
+-- of its image there and back across a commutation and of its homotopy, in ascending order; the table of coranks; the
+-- Euler numbers; nothing if the command makes what is in force
 abbrev pub IsAnswer : ℕ → InForce → Command → List ℕ → Type 0
 IsAnswer v p command.Front text = text ≡ front_line (thurston_bennequin p.grid) (rotation p.grid) (components p.grid)
 IsAnswer v p command.Ranks text = IsRanksText v p.grid text

@@ -1,5 +1,5 @@
 -- The exit statuses.
---     code s    the exit status of the program where its call ended so
+--     code s    the exit status of the program if its call ended so
 use Rattle.std.specs.Prelude.{ℕ}
 use Rattle.grid_job.specs.declared.statuses.Status.{Status}
 use Rattle.grid_job.specs.declared.statuses.Status.TheVariants.{Done, Usage, Refused, ReadFault, WriteFault, NoMemory, No}

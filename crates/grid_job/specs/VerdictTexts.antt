@@ -1,10 +1,10 @@
--- The texts that tell what a chain of states is in the homology of a grid, with the evidence. The evidence may be any
+-- The texts that state what a chain of states is in the homology of a grid, with the evidence. The evidence may be any
 -- that the verdict allows.
 --     class_state g sign     the state that a sign stands for: x+ or x-
 --     verdict_line g sign alive   the line of a class that is alive, or null
---     IsClassText g sign text     the text tells that the class is null, with a bound, or alive, with a cocycle
+--     IsClassText g sign text     the text states that the class is null, with a bound, or alive, with a cocycle
 --     bounds_text g v        the lines of a verdict
---     IsBoundsText g z text  the text tells a verdict of the chain z
+--     IsBoundsText g z text  the text states a verdict of the chain z
 use Rattle.std.specs.Prelude.{◌≡◌, ℕ, Bool, true, false, List, ◌++◌, codes}
 use Rattle.torus_geom.specs.Chains.{Chain, single}
 use Rattle.torus_geom.specs.Degrees.{maslov_o, alexander}
@@ -25,7 +25,7 @@ abbrev pub verdict_line : Marks → Sign → Bool → List ℕ
 verdict_line g sign alive =
     class_line sign (class_state g sign) (maslov_o g (class_state g sign)) (alexander g (class_state g sign)) alive
 
--- the text tells this verdict of a class: it is null or alive, and never "not a cycle"
+-- the text states this verdict of a class: it is null or alive, and never "not a cycle"
 abbrev pub TellsClass : Marks → Sign → Verdict → List ℕ → Type 0
 TellsClass g sign (NotCycle s) text = ⊥
 TellsClass g sign (Null bound) text = text ≡ verdict_line g sign false ++ line (chain_line (codes "bound") (size g) bound)

@@ -1,7 +1,7 @@
 -- The tables that a report keeps while its grid stands.
 --     IsTableOf g rows    the rows are the table of the grid, and small enough to be divided
 --     IsComponentTableOf g rows
---                         so they are of its table by component
+--                         the rows are the table of the grid by component, and small enough to be divided
 --     AreTablesOf g tables
 --                         each of the two that is kept is that of the grid
 use Rattle.std.specs.Prelude.{List, map, IfSome}

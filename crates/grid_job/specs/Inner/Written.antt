@@ -2,11 +2,11 @@
 --     HasWritten Outcome result faults_before faults_after before after
 --         a call that may come to an outcome (a status with an answer) has this result; the count of faults and the
 --         bytes of its sink were these before, and are these after
---     Tells left Outcome    the outcomes of the text that was left, where the source tells it
+--     Tells left Outcome    the outcomes of the text that was left, if the source tells it
 --     TellsVerdict v        the outcome of a certificate with this verdict
 --     IsAnswerOfGrid s number
 --                           the outcomes of a document of the script s, whose head begins at the line of this number,
---                           where a certificate is asked for
+--                           if a certificate is asked for
 use Rattle.std.specs.Prelude.{◌≡◌, ◌≢◌, ◌⊎◌, ℕ, ◌<◌, ◌≤◌, List, Option, IfSome, codes}
 use Rattle.std.specs.Io.KnownBytes.{Appends}
 use Rattle.grid_ports.specs.Bytes.{AppendsPrefix}
