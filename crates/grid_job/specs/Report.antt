@@ -76,7 +76,8 @@ IsAnswer v p command.Front text = text ≡ front_line (thurston_bennequin p.grid
 IsAnswer v p command.Ranks text = IsRanksText v p.grid text
 IsAnswer v p command.Hat text = IsHatTextIn v p.grid text
 IsAnswer v p (command.Class sign) text = IsClassText p.grid sign text
-IsAnswer v p (command.Border x) text = text ≡ line (chain_line (codes "border") (size p.grid) (border p.grid (single x)))
+IsAnswer v p (command.Border x) text =
+    text ≡ line (chain_line (codes "border") (size p.grid) (border p.grid (single x)))
 IsAnswer v p command.Show text = text ≡ line (chain_line (codes "chain") (size p.grid) p.chain)
 IsAnswer v p command.Bounds text = IsBoundsText p.grid p.chain text
 IsAnswer v p (command.Invert axis c corner) text = text

@@ -28,8 +28,10 @@ verdict_line g sign alive =
 -- the text states this verdict of a class: it is null or alive, and never "not a cycle"
 abbrev pub TellsClass : Marks → Sign → Verdict → List ℕ → Type 0
 TellsClass g sign (NotCycle s) text = ⊥
-TellsClass g sign (Null bound) text = text ≡ verdict_line g sign false ++ line (chain_line (codes "bound") (size g) bound)
-TellsClass g sign (Alive cocycle) text = text ≡ verdict_line g sign true ++ line (chain_line (codes "cocycle") (size g) cocycle)
+TellsClass g sign (Null bound) text =
+    text ≡ verdict_line g sign false ++ line (chain_line (codes "bound") (size g) bound)
+TellsClass g sign (Alive cocycle) text =
+    text ≡ verdict_line g sign true ++ line (chain_line (codes "cocycle") (size g) cocycle)
 
 pub record IsClassText (g : Marks) (sign : Sign) (text : List ℕ) : Type 0 where
   pub verdict : Verdict

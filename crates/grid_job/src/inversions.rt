@@ -29,8 +29,10 @@ pub(crate) fn invert_lines(
     requires commutes { IsTrue (are_commuting axis g.now c) }
     requires indices { HasIndices (size g.now) z.now }
     ensures { IfOk result (λ text. text.items
-        ≡ line_of (chain_line (codes "return") (size g.now) (return_image axis g.now c corner (states_of (size g.now) z.now)))
-        ++ line_of (chain_line (codes "homotopy") (size g.now) (homotopy_of axis g.now c corner (states_of (size g.now) z.now)))) }
+        ≡ line_of (chain_line (codes "return") (size g.now)
+        (return_image axis g.now c corner (states_of (size g.now) z.now)))
+        ++ line_of (chain_line (codes "homotopy") (size g.now)
+        (homotopy_of axis g.now c corner (states_of (size g.now) z.now)))) }
 {
     let n = g.size();
     let returned = image_there_and_back(alloc, g, axis, c, corner, z)?;

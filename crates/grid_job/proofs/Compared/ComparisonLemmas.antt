@@ -17,7 +17,8 @@ use Rattle.grid_job.proofs.Outcomes.WrittenLemmas.{HasWritten-weaker, HasWritten
 -- the grids in force at the ends of the two documents
 pub HasWritten-compared : (text : List ℕ) (s t : GridScript) (result : Status) (f g : ℕ) (a b : Option (List ℕ))
     → length text ≤ max_text → IsPair text s t
-    → HasWritten (λ status answer. (status ≡ Done) × IsComparison (grid_in_force s) (grid_in_force t) answer) result f g a b
+    → HasWritten (λ status answer. (status ≡ Done) × IsComparison (grid_in_force s) (grid_in_force t) answer)
+    result f g a b
     → HasWritten (IsOutcome Compare text) result f g a b
 HasWritten-compared text s t result f g a b within pair h =
     HasWritten-weaker (λ status answer. (status ≡ Done) × IsComparison (grid_in_force s) (grid_in_force t) answer)

@@ -284,7 +284,8 @@ exists_script n seed size =
       record {
         version = refl;
         grid =
-            IsGridThrough-put cs rs places (tabulate 10 fo) (tabulate 10 fx) n size in_cs in_rs in_places back in_o in_x;
+            IsGridThrough-put cs rs places (tabulate 10 fo) (tabulate 10 fx) n size in_cs in_rs in_places
+            back in_o in_x;
         commands = refl;
       },
       IsGrid-put cs rs places (tabulate 10 fo) (tabulate 10 fx) n size in_cs in_rs in_places back in_o in_x,

@@ -20,7 +20,8 @@ longer f w d long short =
     omega (arith, e, s, length-append (f ++ codes "=") d, length-append f (codes "="))
 
 module _ (ws : List (List ℕ)) (k : ℕ) (flag : Flag) (v u next other : ℕ) where
-  one_option : (v ≤ greatest_value flag) → (u ≤ greatest_value flag) → IsOneWord ws k flag v next ⊎ IsTwoWords ws k flag v next
+  one_option : (v ≤ greatest_value flag) → (u ≤ greatest_value flag)
+      → IsOneWord ws k flag v next ⊎ IsTwoWords ws k flag v next
       → IsOneWord ws k flag u other ⊎ IsTwoWords ws k flag u other → (v ≡ u) × (next ≡ other)
   one_option lv lu (inl p) (inl q) = (
     decimal_injective v u (small flag v lv) (small flag u lu)

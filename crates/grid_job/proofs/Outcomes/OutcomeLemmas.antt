@@ -53,7 +53,8 @@ CheckCase text s a =
     ⊎ ((s ≡ Refused) × (IsTooLong max_certificate text a ⊎ IsNoCertificate text a))
 
 CompareCase : List ℕ → Status → List ℕ → Type 0
-CompareCase text s a = ((s ≡ Done) × IsCompared text a) ⊎ ((s ≡ Refused) × (IsTooLong max_text text a ⊎ IsPairFaulty text a))
+CompareCase text s a =
+    ((s ≡ Done) × IsCompared text a) ⊎ ((s ≡ Refused) × (IsTooLong max_text text a ⊎ IsPairFaulty text a))
 
 run_case : (text : List ℕ) (s : Status) (a : List ℕ) → IsOutcome Run text s a → RunCase text s a
 unfolding RunCase
@@ -171,7 +172,8 @@ pub one_status : (mode : Mode) (text : List ℕ) (s t : Status) (a b : List ℕ)
 one_status Run text s t a b x y = one_status_of_run text s t a b (run_case text s a x) (run_case text t b y)
 one_status Cert text s t a b x y = one_status_of_cert text s t a b (cert_case text s a x) (cert_case text t b y)
 one_status Check text s t a b x y = one_status_of_check text s t a b (check_case text s a x) (check_case text t b y)
-one_status Compare text s t a b x y = one_status_of_compare text s t a b (compare_case text s a x) (compare_case text t b y)
+one_status Compare text s t a b x y =
+    one_status_of_compare text s t a b (compare_case text s a x) (compare_case text t b y)
 one_status (Make n k) text s t a b x y = make_done n k text s a x ∙ sym (make_done n k text t b y)
 
 -- ---- an outcome
@@ -233,7 +235,14 @@ some_certified text = some_refusal Cert text (λ answer refusal. inl refusal) ce
         let grid = IsGrid-grid_in_force s (is_script text s document) in
         let c = exists_certificate (grid_in_force s) grid small in
         let certified : IsCertificateText (grid_in_force s) (certificate_text c.0) =
-        record { certificate = c.0; is_certificate = c.1; same_grid = c.2; passes = c.3; lines = refl; short = c.4 } in (
+        record {
+          certificate = c.0;
+          is_certificate = c.1;
+          same_grid = c.2;
+          passes = c.3;
+          lines = refl;
+          short = c.4;
+        } in (
           Done,
           certificate_text c.0,
           record {

@@ -98,7 +98,8 @@ count-up n below = grind arith
 -- where the source tells the text, a call that ended has ended so
 pub HasEnded-written : (words : List (List ℕ)) (mode : Mode) (result : Status) (left left' : Option (List ℕ)) (f g : ℕ)
     (a b : Option (List ℕ)) → IsForm words mode → IsEnd result
-    → IfSome left (λ text. left' ≡ Some (drop (most_read mode) text)) → HasWritten (Tells left (IsOutcome mode)) result f g a b
+    → IfSome left (λ text. left' ≡ Some (drop (most_read mode) text))
+    → HasWritten (Tells left (IsOutcome mode)) result f g a b
     → IfSome left (λ text. HasEnded words text result left' a b)
 HasEnded-written words mode result None left' f g a b form is_end read h = tt
 HasEnded-written words mode result (Some text) left' f g a b form is_end read h =

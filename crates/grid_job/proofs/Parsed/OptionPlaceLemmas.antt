@@ -21,7 +21,8 @@ list-four : (ws : List Text) → length ws ≡ 4 → ws ≡ word_at ws 0 ∷ wor
 list-four [] e = absurd (omega (arith, e))
 list-four (a ∷ ws) e = ap (λ us. a ∷ us) (list-three ws (omega (arith, e)))
 
-list-five : (ws : List Text) → length ws ≡ 5 → ws ≡ word_at ws 0 ∷ word_at ws 1 ∷ word_at ws 2 ∷ word_at ws 3 ∷ word_at ws 4 ∷ []
+list-five : (ws : List Text) → length ws ≡ 5
+    → ws ≡ word_at ws 0 ∷ word_at ws 1 ∷ word_at ws 2 ∷ word_at ws 3 ∷ word_at ws 4 ∷ []
 list-five [] e = absurd (omega (arith, e))
 list-five (a ∷ ws) e = ap (λ us. a ∷ us) (list-four ws (omega (arith, e)))
 
@@ -92,37 +93,90 @@ module _ (ws : List Text) (f : Flag) (n s : ℕ) (h : AreOptions ws f n (other f
             ),
           )
 
-module _ (w : Text) (f : Flag) (n s : ℕ) (low_n : least_value f ≤ n) (high_n : n ≤ greatest_value f) (low_s : least_value (other f) ≤ s)
+module _ (w : Text) (f : Flag) (n s : ℕ) (low_n : least_value f ≤ n) (high_n : n ≤ greatest_value f)
+    (low_s : least_value (other f) ≤ s)
     (high_s : s ≤ greatest_value (other f)) where
-  pub options_of_two : (args : List Text) → AreTwo f (decimal n) (decimal s) args → AreOptions (w ∷ args) f n (other f) s
+  pub options_of_two : (args : List Text) → AreTwo f (decimal n) (decimal s) args
+      → AreOptions (w ∷ args) f n (other f) s
   options_of_two args two = by_words two.0 two.1 two.2
     where
-      by_words : (rest : List Text) → IsOption f (decimal n) rest args → IsOption (other f) (decimal s) [] rest → AreOptions (w ∷ args) f n (other f) s
+      by_words : (rest : List Text) → IsOption f (decimal n) rest args → IsOption (other f) (decimal s) [] rest
+          → AreOptions (w ∷ args) f n (other f) s
       by_words rest (inl e) (inl d) =
-          let is : args ≡ (option_word_of f ++ 61 ∷ decimal n) ∷ (option_word_of (other f) ++ 61 ∷ decimal s) ∷ [] = e ∙ ap (λ r. (option_word_of f ++ 61 ∷ decimal n) ∷ r) d in
+          let is : args ≡ (option_word_of f ++ 61 ∷ decimal n) ∷ (option_word_of (other f) ++ 61 ∷ decimal s) ∷ [] =
+          e ∙ ap (λ r. (option_word_of f ++ 61 ∷ decimal n) ∷ r) d in
           subst (λ us. AreOptions (w ∷ us) f n (other f) s) (sym is) (record {
             between = 2;
-            first = record { low = low_n; high = high_n; words = inl (record { within = omega arith; word = sym (flag_value-is f (decimal n)); after = refl }) };
-            second = record { low = low_s; high = high_s; words = inl (record { within = omega arith; word = sym (flag_value-is (other f) (decimal s)); after = refl }) };
+            first = record {
+              low = low_n;
+              high = high_n;
+              words = inl (record { within = omega arith; word = sym (flag_value-is f (decimal n)); after = refl });
+            };
+            second = record {
+              low = low_s;
+              high = high_s;
+              words =
+                  inl (record { within = omega arith; word = sym (flag_value-is (other f) (decimal s)); after = refl });
+            };
           })
       by_words rest (inl e) (inr d) =
-          let is : args ≡ (option_word_of f ++ 61 ∷ decimal n) ∷ option_word_of (other f) ∷ decimal s ∷ [] = e ∙ ap (λ r. (option_word_of f ++ 61 ∷ decimal n) ∷ r) d in
+          let is : args ≡ (option_word_of f ++ 61 ∷ decimal n) ∷ option_word_of (other f) ∷ decimal s ∷ [] =
+          e ∙ ap (λ r. (option_word_of f ++ 61 ∷ decimal n) ∷ r) d in
           subst (λ us. AreOptions (w ∷ us) f n (other f) s) (sym is) (record {
             between = 2;
-            first = record { low = low_n; high = high_n; words = inl (record { within = omega arith; word = sym (flag_value-is f (decimal n)); after = refl }) };
-            second = record { low = low_s; high = high_s; words = inr (record { within = omega arith; first = sym (flag_word-is (other f)); second = refl; after = refl }) };
+            first = record {
+              low = low_n;
+              high = high_n;
+              words = inl (record { within = omega arith; word = sym (flag_value-is f (decimal n)); after = refl });
+            };
+            second = record {
+              low = low_s;
+              high = high_s;
+              words =
+                  inr (record {
+                    within = omega arith;
+                    first = sym (flag_word-is (other f));
+                    second = refl;
+                    after = refl;
+                  });
+            };
           })
       by_words rest (inr e) (inl d) =
-          let is : args ≡ option_word_of f ∷ decimal n ∷ (option_word_of (other f) ++ 61 ∷ decimal s) ∷ [] = e ∙ ap (λ r. option_word_of f ∷ decimal n ∷ r) d in
+          let is : args ≡ option_word_of f ∷ decimal n ∷ (option_word_of (other f) ++ 61 ∷ decimal s) ∷ [] =
+          e ∙ ap (λ r. option_word_of f ∷ decimal n ∷ r) d in
           subst (λ us. AreOptions (w ∷ us) f n (other f) s) (sym is) (record {
             between = 3;
-            first = record { low = low_n; high = high_n; words = inr (record { within = omega arith; first = sym (flag_word-is f); second = refl; after = refl }) };
-            second = record { low = low_s; high = high_s; words = inl (record { within = omega arith; word = sym (flag_value-is (other f) (decimal s)); after = refl }) };
+            first = record {
+              low = low_n;
+              high = high_n;
+              words = inr (record { within = omega arith; first = sym (flag_word-is f); second = refl; after = refl });
+            };
+            second = record {
+              low = low_s;
+              high = high_s;
+              words =
+                  inl (record { within = omega arith; word = sym (flag_value-is (other f) (decimal s)); after = refl });
+            };
           })
       by_words rest (inr e) (inr d) =
-          let is : args ≡ option_word_of f ∷ decimal n ∷ option_word_of (other f) ∷ decimal s ∷ [] = e ∙ ap (λ r. option_word_of f ∷ decimal n ∷ r) d in
+          let is : args ≡ option_word_of f ∷ decimal n ∷ option_word_of (other f) ∷ decimal s ∷ [] =
+          e ∙ ap (λ r. option_word_of f ∷ decimal n ∷ r) d in
           subst (λ us. AreOptions (w ∷ us) f n (other f) s) (sym is) (record {
             between = 3;
-            first = record { low = low_n; high = high_n; words = inr (record { within = omega arith; first = sym (flag_word-is f); second = refl; after = refl }) };
-            second = record { low = low_s; high = high_s; words = inr (record { within = omega arith; first = sym (flag_word-is (other f)); second = refl; after = refl }) };
+            first = record {
+              low = low_n;
+              high = high_n;
+              words = inr (record { within = omega arith; first = sym (flag_word-is f); second = refl; after = refl });
+            };
+            second = record {
+              low = low_s;
+              high = high_s;
+              words =
+                  inr (record {
+                    within = omega arith;
+                    first = sym (flag_word-is (other f));
+                    second = refl;
+                    after = refl;
+                  });
+            };
           })

@@ -74,21 +74,28 @@ not_dashes f more = by_test f (bytes_eq (option_word_of f ++ more) dashes) refl
     by_test g true e = absurd (longer f ((bytes_eq-Decides (option_word_of f ++ more) dashes).0 e))
 
 -- from one place between options to the next, no word is at fault
-record Passes (rows : List Row) (pending : Option (Text × List Text)) (words : List Text) (f : Flag) (v : Text) (rest : List Text) : Type 0 where
+record Passes (rows : List Row) (pending : Option (Text × List Text)) (words : List Text) (f : Flag) (v : Text)
+    (rest : List Text) : Type 0 where
   rows_after : List Row
   pending_after : Option (Text × List Text)
-  used_once : settled_rows rules pending_after rows_after ≡ used (read_rule f) (v ∷ []) (settled_rows rules pending rows)
+  used_once : settled_rows rules pending_after rows_after
+      ≡ used (read_rule f) (v ∷ []) (settled_rows rules pending rows)
   settles : settle_fault rules false (held rows_after pending_after) ≡ []
-  same_fault : walk_fault shape [] (ready rows pending) words ≡ walk_fault shape [] (ready rows_after pending_after) rest
-  same_walk : fold (walked rules []) (ready rows pending) words ≡ fold (walked rules []) (ready rows_after pending_after) rest
+  same_fault : walk_fault shape [] (ready rows pending) words
+      ≡ walk_fault shape [] (ready rows_after pending_after) rest
+  same_walk : fold (walked rules []) (ready rows pending) words
+      ≡ fold (walked rules []) (ready rows_after pending_after) rest
 
-walk_step : (w next : Walk) (word : Text) (rest : List Text) → turn_fault shape [] w word ≡ [] → walked rules [] w word ≡ next
+walk_step : (w next : Walk) (word : Text) (rest : List Text) → turn_fault shape [] w word ≡ []
+    → walked rules [] w word ≡ next
     → walk_fault shape [] w (word ∷ rest) ≡ walk_fault shape [] next rest
 unfolding walk_fault
 walk_step w next word rest none walks = rw none (ap (λ v. walk_fault shape [] v rest) walks)
 
-module _ (rows : List Row) (pending : Option (Text × List Text)) (free : settle_fault rules false (held rows pending) ≡ []) where
-  passes_attached : (f : Flag) (v : Text) (rest : List Text) → has_row (flag_id f) (settled_rows rules pending rows) ≡ false
+module _ (rows : List Row) (pending : Option (Text × List Text))
+    (free : settle_fault rules false (held rows pending) ≡ []) where
+  passes_attached : (f : Flag) (v : Text) (rest : List Text)
+      → has_row (flag_id f) (settled_rows rules pending rows) ≡ false
       → Passes rows pending ((option_word_of f ++ 61 ∷ v) ∷ rest) f v rest
   passes_attached f v rest fresh =
       let word = option_word_of f ++ 61 ∷ v in
@@ -104,10 +111,15 @@ module _ (rows : List Row) (pending : Option (Text × List Text)) (free : settle
     where
       turn : (g : Flag) → has_row (flag_id g) (settled_rows rules pending rows) ≡ false
           → turn_fault shape [] (ready rows pending) (option_word_of g ++ 61 ∷ v) ≡ []
-      turn Size none = idle_turn (option_word_of Size ++ 61 ∷ v) rows pending _ (not_dashes Size (61 ∷ v)) (long_attached Size v) ∙ rw (free, none) refl
-      turn Seed none = idle_turn (option_word_of Seed ++ 61 ∷ v) rows pending _ (not_dashes Seed (61 ∷ v)) (long_attached Seed v) ∙ rw (free, none) refl
+      turn Size none =
+          idle_turn (option_word_of Size ++ 61 ∷ v) rows pending _ (not_dashes Size (61 ∷ v)) (long_attached Size v)
+          ∙ rw (free, none) refl
+      turn Seed none =
+          idle_turn (option_word_of Seed ++ 61 ∷ v) rows pending _ (not_dashes Seed (61 ∷ v)) (long_attached Seed v)
+          ∙ rw (free, none) refl
 
-  passes_two : (f : Flag) (v : Text) (rest : List Text) → IsPlainWord v → has_row (flag_id f) (settled_rows rules pending rows) ≡ false
+  passes_two : (f : Flag) (v : Text) (rest : List Text) → IsPlainWord v
+      → has_row (flag_id f) (settled_rows rules pending rows) ≡ false
       → Passes rows pending (option_word_of f ∷ v ∷ rest) f v rest
   passes_two f v rest plain_word fresh =
       let now = settled_rows rules pending rows in
@@ -120,7 +132,8 @@ module _ (rows : List Row) (pending : Option (Text × List Text)) (free : settle
         settles = settled_use f now fresh;
         same_fault = walk_step (ready rows pending) (waits f now) (option_word_of f) (v ∷ rest) (turn f) first
             ∙ walk_step (waits f now) (ready now (Some (flag_id f, v ∷ []))) v rest (value_turn f now) second;
-        same_walk = ap (λ w. fold (walked rules []) w (v ∷ rest)) first ∙ ap (λ w. fold (walked rules []) w rest) second;
+        same_walk =
+            ap (λ w. fold (walked rules []) w (v ∷ rest)) first ∙ ap (λ w. fold (walked rules []) w rest) second;
       }
     where
       no_dash : (g : Flag) → bytes_eq (option_word_of g) dashes ≡ false
@@ -130,26 +143,33 @@ module _ (rows : List Row) (pending : Option (Text × List Text)) (free : settle
       turn Size = idle_turn (option_word_of Size) rows pending _ (no_dash Size) (long_alone Size) ∙ rw free refl
       turn Seed = idle_turn (option_word_of Seed) rows pending _ (no_dash Seed) (long_alone Seed) ∙ rw free refl
 
-      value_walked : (g : Flag) (now : List Row) → walked rules [] (waits g now) v ≡ ready now (Some (flag_id g, v ∷ []))
+      value_walked : (g : Flag) (now : List Row)
+          → walked rules [] (waits g now) v ≡ ready now (Some (flag_id g, v ∷ []))
       value_walked Size now = waiting_walked Size v now None plain_word.no_dashes plain_word.no_long
-          ∙ ap (λ m. after_step rules v (waits Size now) m.0 m.1) (not_long (option (flag_id Size)) v now (Some (flag_id Size, [])))
+          ∙ ap (λ m. after_step rules v (waits Size now) m.0 m.1)
+          (not_long (option (flag_id Size)) v now (Some (flag_id Size, [])))
       value_walked Seed now = waiting_walked Seed v now None plain_word.no_dashes plain_word.no_long
-          ∙ ap (λ m. after_step rules v (waits Seed now) m.0 m.1) (not_long (option (flag_id Seed)) v now (Some (flag_id Seed, [])))
+          ∙ ap (λ m. after_step rules v (waits Seed now) m.0 m.1)
+          (not_long (option (flag_id Seed)) v now (Some (flag_id Seed, [])))
 
       no_flags : (g : Flag) (now : List Row) → flag_word_fault rules false None v (waits g now).held ≡ []
       no_flags g now = rw plain_word.no_short refl
 
       value_turn : (g : Flag) (now : List Row) → turn_fault shape [] (waits g now) v ≡ []
       value_turn Size now = waiting_turn Size v now None plain_word.no_dashes plain_word.no_long
-          ∙ rw (no_flags Size now) (ap (λ m. step_fault shape 1 m.0 m.1) (not_long (option (flag_id Size)) v now (Some (flag_id Size, []))))
+          ∙ rw (no_flags Size now)
+          (ap (λ m. step_fault shape 1 m.0 m.1) (not_long (option (flag_id Size)) v now (Some (flag_id Size, []))))
       value_turn Seed now = waiting_turn Seed v now None plain_word.no_dashes plain_word.no_long
-          ∙ rw (no_flags Seed now) (ap (λ m. step_fault shape 1 m.0 m.1) (not_long (option (flag_id Seed)) v now (Some (flag_id Seed, []))))
+          ∙ rw (no_flags Seed now)
+          (ap (λ m. step_fault shape 1 m.0 m.1) (not_long (option (flag_id Seed)) v now (Some (flag_id Seed, []))))
 
-      used_when_settled : (g : Flag) (now : List Row) → settled_rows rules (Some (flag_id g, v ∷ [])) now ≡ used (read_rule g) (v ∷ []) now
+      used_when_settled : (g : Flag) (now : List Row)
+          → settled_rows rules (Some (flag_id g, v ∷ [])) now ≡ used (read_rule g) (v ∷ []) now
       used_when_settled Size now = refl
       used_when_settled Seed now = refl
 
-      settled_use : (g : Flag) (now : List Row) → has_row (flag_id g) now ≡ false → settle_fault rules false (held now (Some (flag_id g, v ∷ []))) ≡ []
+      settled_use : (g : Flag) (now : List Row) → has_row (flag_id g) now ≡ false
+          → settle_fault rules false (held now (Some (flag_id g, v ∷ []))) ≡ []
       settled_use Size now none = rw none refl
       settled_use Seed now none = rw none refl
 
@@ -171,11 +191,13 @@ no_default_fault f rows = by_row (has_row (flag_id f) rows) refl
 no_defaults_fault : (rows : List Row) → defaults_fault rows rules ≡ []
 unfolding defaults_fault
 no_defaults_fault rows =
-    ap (λ k. or_else k (or_else (default_fault (with_default rows (read_rule Size)) (read_rule Seed)) [])) (no_default_fault Size rows)
+    ap (λ k. or_else k (or_else (default_fault (with_default rows (read_rule Size)) (read_rule Seed)) []))
+    (no_default_fault Size rows)
     ∙ ap (λ k. or_else k []) (no_default_fault Seed (with_default rows (read_rule Size)))
 
 level_free : (read : Kinds) (end : Walk) → read ≡ [] → settle_fault rules false end.held ≡ []
-    → or_else read (or_else [] (or_else (settle_fault rules false end.held) (or_else (defaults_fault (settled rules end.held).rows rules)
+    → or_else read (or_else [] (or_else (settle_fault rules false end.held)
+    (or_else (defaults_fault (settled rules end.held).rows rules)
     (check_fault shape (finished rules end.held) false)))) ≡ []
 level_free read end none free = rw (none, free, no_defaults_fault (settled rules end.held).rows) refl
 

@@ -23,7 +23,8 @@ cut_again : (t : Text) → t ≡ (name_and_value t).0 ++ joined (name_and_value 
 cut_again [] = refl
 cut_again (x ∷ xs) = by_equals (cut_again xs) (x == 61) refl
   where
-    by_equals : xs ≡ (name_and_value xs).0 ++ joined (name_and_value xs).1 → (b : Bool) → (x == 61) ≡ b → x ∷ xs ≡ (name_and_value (x ∷ xs)).0 ++ joined (name_and_value (x ∷ xs)).1
+    by_equals : xs ≡ (name_and_value xs).0 ++ joined (name_and_value xs).1 → (b : Bool) → (x == 61) ≡ b
+        → x ∷ xs ≡ (name_and_value (x ∷ xs)).0 ++ joined (name_and_value (x ∷ xs)).1
     by_equals parts true e =
         let is : x ≡ 61 = grind (arith, nat_tests) in
         ap (λ y. y ∷ xs) is ∙ rw e refl
@@ -54,13 +55,15 @@ strip_again c (x ∷ xs) r e = by_first (x == c) refl
 long_again : (w name : Text) (val : Option Text) → long_of w ≡ Some (name, val) → w ≡ 45 ∷ 45 ∷ name ++ joined val
 long_again w name val e = by_first (strip_byte 45 w) refl
   where
-    by_rest : (u rest : Text) → w ≡ 45 ∷ u → u ≡ 45 ∷ rest → long_of_rest rest ≡ Some (name, val) → w ≡ 45 ∷ 45 ∷ name ++ joined val
+    by_rest : (u rest : Text) → w ≡ 45 ∷ u → u ≡ 45 ∷ rest → long_of_rest rest ≡ Some (name, val)
+        → w ≡ 45 ∷ 45 ∷ name ++ joined val
     by_rest u [] w_is u_is is = cc
     by_rest u (x ∷ xs) w_is u_is is =
         let parts : name_and_value (x ∷ xs) ≡ (name, val) = some_same is in
         w_is ∙ ap (λ r. 45 ∷ r) (u_is ∙ ap (λ r. 45 ∷ r) (cut_again (x ∷ xs) ∙ ap (λ q. q.0 ++ joined q.1) parts))
 
-    by_second : (u : Text) (o : Option Text) → strip_byte 45 w ≡ Some u → strip_byte 45 u ≡ o → w ≡ 45 ∷ 45 ∷ name ++ joined val
+    by_second : (u : Text) (o : Option Text) → strip_byte 45 w ≡ Some u → strip_byte 45 u ≡ o
+        → w ≡ 45 ∷ 45 ∷ name ++ joined val
     by_second u None first second =
         absurd (none≢some (name, val) (rw (first, second) at e))
     by_second u (Some rest) first second =
@@ -72,7 +75,8 @@ long_again w name val e = by_first (strip_byte 45 w) refl
     by_first (Some u) first = by_second u (strip_byte 45 u) first refl
 
 -- ---- an option is read
-module _ (rows : List Row) (pending : Option (Text × List Text)) (w : Text) (ws : List Text) (no_dashes : NoDashes (w ∷ ws))
+module _ (rows : List Row) (pending : Option (Text × List Text)) (w : Text) (ws : List Text)
+    (no_dashes : NoDashes (w ∷ ws))
     (e : Ends (ready rows pending) (w ∷ ws)) where
   read_attached : (f : Flag) (v : Text) → long_of w ≡ Some (flag_id f, Some v)
       → option_fault rules false (read_rule f) (Some v) (held rows pending) ≡ [] → ReadsOption rows pending (w ∷ ws)
@@ -84,7 +88,9 @@ module _ (rows : List Row) (pending : Option (Text × List Text)) (w : Text) (ws
         value = v;
         rest = ws;
         words_are = inl (ap (λ x. x ∷ ws) (long_again w (flag_id f) (Some v) is));
-        fresh = use_fresh f v (settled_rows rules pending rows) (or_else-second (settle_fault rules false (held rows pending)) _ free);
+        fresh =
+            use_fresh f v (settled_rows rules pending rows)
+            (or_else-second (settle_fault rules false (held rows pending)) _ free);
         rows_after = after;
         pending_after = None;
         used_once = refl;
@@ -94,7 +100,8 @@ module _ (rows : List Row) (pending : Option (Text × List Text)) (w : Text) (ws
       }
 
   read_two : (f : Flag) → long_of w ≡ Some (flag_id f, None) → ReadsOption rows pending (w ∷ ws)
-  read_two f is = by_rest f ws no_dashes.1 (Ends-next (ready rows pending) (waits f (settled_rows rules pending rows)) w ws walks e)
+  read_two f is =
+      by_rest f ws no_dashes.1 (Ends-next (ready rows pending) (waits f (settled_rows rules pending rows)) w ws walks e)
       (final-next (ready rows pending) (waits f (settled_rows rules pending rows)) w ws walks) refl
     where
       walks : walked rules [] (ready rows pending) w ≡ waits f (settled_rows rules pending rows)
@@ -104,12 +111,14 @@ module _ (rows : List Row) (pending : Option (Text × List Text)) (w : Text) (ws
       unsettled Size ends = cons≢nil _ _ ends.settles
       unsettled Seed ends = cons≢nil _ _ ends.settles
 
-      used_when_settled : (f : Flag) (v : Text) → settled_rows rules (Some (flag_id f, v ∷ [])) (settled_rows rules pending rows)
+      used_when_settled : (f : Flag) (v : Text)
+          → settled_rows rules (Some (flag_id f, v ∷ [])) (settled_rows rules pending rows)
           ≡ used (read_rule f) (v ∷ []) (settled_rows rules pending rows)
       used_when_settled Size v = refl
       used_when_settled Seed v = refl
 
-      fresh_when_settled : (f : Flag) (v : Text) → settle_fault rules false (held (settled_rows rules pending rows) (Some (flag_id f, v ∷ []))) ≡ []
+      fresh_when_settled : (f : Flag) (v : Text)
+          → settle_fault rules false (held (settled_rows rules pending rows) (Some (flag_id f, v ∷ []))) ≡ []
           → has_row (flag_id f) (settled_rows rules pending rows) ≡ false
       fresh_when_settled Size v free = use_fresh Size v (settled_rows rules pending rows) free
       fresh_when_settled Seed v free = use_fresh Seed v (settled_rows rules pending rows) free
@@ -126,7 +135,10 @@ module _ (rows : List Row) (pending : Option (Text × List Text)) (w : Text) (ws
             flag = f;
             value = v;
             rest = rest;
-            words_are = inr (ap (λ us. w ∷ us) is_rest ∙ ap (λ x. x ∷ v ∷ rest) (long_again w (flag_id f) None is ∙ ap (λ n. 45 ∷ 45 ∷ n) (append-nil (flag_id f))));
+            words_are =
+                inr (ap (λ us. w ∷ us) is_rest
+                ∙ ap (λ x. x ∷ v ∷ rest)
+                (long_again w (flag_id f) None is ∙ ap (λ n. 45 ∷ 45 ∷ n) (append-nil (flag_id f))));
             fresh = fresh_when_settled f v (Ends-settles now (Some (flag_id f, v ∷ [])) rest none.1 next);
             rows_after = now;
             pending_after = Some (flag_id f, v ∷ []);
@@ -162,7 +174,9 @@ pub record ReadsBoth (words : List Text) : Type 0 where
   pub same_end : final (ready [] None) words ≡ used (read_rule second) (b ∷ []) (used (read_rule first) (a ∷ []) [])
 
 abbrev pub Reads : List Text → Type 0
-Reads words = (final (ready [] None) words ≡ []) ⊎ ((f : Flag) × (a : Text) × (final (ready [] None) words ≡ used (read_rule f) (a ∷ []) []))
+Reads words =
+    (final (ready [] None) words ≡ [])
+    ⊎ ((f : Flag) × (a : Text) × (final (ready [] None) words ≡ used (read_rule f) (a ∷ []) []))
     ⊎ ReadsBoth words
 
 reads_option : (rows : List Row) (pending : Option (Text × List Text)) (words : List Text) → NoDashes words
@@ -199,10 +213,13 @@ reads words no_dashes e = from_first (reads_option [] None words no_dashes e)
     }))
     from_third p q (inr r) = absurd (no_third p.flag q.flag r.flag p.value q.value
         (ap (has_row (flag_id q.flag)) (sym p.used_once) ∙ q.fresh)
-        (ap (has_row (flag_id r.flag)) (sym (q.used_once ∙ ap (used (read_rule q.flag) (q.value ∷ [])) p.used_once)) ∙ r.fresh))
+        (ap (has_row (flag_id r.flag)) (sym (q.used_once ∙ ap (used (read_rule q.flag) (q.value ∷ [])) p.used_once))
+        ∙ r.fresh))
 
-    from_second : (p : ReadsOption [] None words) → (p.rest ≡ []) ⊎ ReadsOption p.rows_after p.pending_after p.rest → Reads words
-    from_second p (inl none) = inr (inl (p.flag, p.value, p.same_end ∙ ap (final (ready p.rows_after p.pending_after)) none ∙ p.used_once))
+    from_second : (p : ReadsOption [] None words) → (p.rest ≡ []) ⊎ ReadsOption p.rows_after p.pending_after p.rest
+        → Reads words
+    from_second p (inl none) =
+        inr (inl (p.flag, p.value, p.same_end ∙ ap (final (ready p.rows_after p.pending_after)) none ∙ p.used_once))
     from_second p (inr q) = from_third p q (reads_option q.rows_after q.pending_after q.rest q.no_dashes q.ends)
 
     from_first : (words ≡ []) ⊎ ReadsOption [] None words → Reads words
@@ -211,13 +228,15 @@ reads words no_dashes e = from_first (reads_option [] None words no_dashes e)
 
 -- ---- the parse
 -- a parse that fails by nothing has walked to the end
-pub ends_of_parse : (words : List Text) → level_fault shape [] nothing_held words false [] ≡ [] → Ends (ready [] None) words
+pub ends_of_parse : (words : List Text) → level_fault shape [] nothing_held words false [] ≡ []
+    → Ends (ready [] None) words
 ends_of_parse words free = record {
   read = or_else-first _ _ free;
   settles = or_else-first _ _ (or_else-second (walk_fault shape [] (walk_from nothing_held) words) _ free);
 }
 
-pub level_of_app : (word : Text) (args : List Text) → fault_of make_command (word ∷ args) ≡ level_fault shape [] nothing_held args false []
+pub level_of_app : (word : Text) (args : List Text)
+    → fault_of make_command (word ∷ args) ≡ level_fault shape [] nothing_held args false []
 level_of_app word args = leaf_fault (built make_command) nothing_held args refl
 
 pub rows_of_app : (word : Text) (args : List Text) → matches_of make_command (word ∷ args) ≡ final (ready [] None) args

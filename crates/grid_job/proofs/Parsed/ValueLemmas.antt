@@ -41,7 +41,8 @@ module _ (m : ArgMatches) (f : Flag) (id : List ℕ) (r : Option (Bor (List ℕ)
     text_is : first_of (flag_id f) (rows_of (found_of m)) ≡ Some bytes
     text_is = first_is ∙ ap (option_map (λ s. s.now)) some ∙ ap Some (sym same)
 
-    pub has_value : (n : Option ℕ) → IfSome n (λ v. (bytes ≡ decimal v) × (low ≤ v) × (v ≤ high)) → IfSome n (HasValue m f)
+    pub has_value : (n : Option ℕ) → IfSome n (λ v. (bytes ≡ decimal v) × (low ≤ v) × (v ≤ high))
+        → IfSome n (HasValue m f)
     has_value None h = tt
     has_value (Some v) h = record {
       first = text_is ∙ ap Some h.0;
@@ -55,7 +56,8 @@ module _ (m : ArgMatches) (f : Flag) (id : List ℕ) (r : Option (Bor (List ℕ)
     lacks_value None h = λ v has.
         let least_is = has.low in
         let greatest_is = has.high in
-        h v (omega (arith, low_is, least_is)) (omega (arith, high_is, greatest_is)) (same_text (sym text_is ∙ has.first))
+        h v (omega (arith, low_is, least_is)) (omega (arith, high_is, greatest_is))
+        (same_text (sym text_is ∙ has.first))
       where
         same_text : {a b : List ℕ} → Some a ≡ Some b → a ≡ b
         same_text e = cc
@@ -84,7 +86,8 @@ module _ (words : List (List ℕ)) (m : ArgMatches) (may_be : MayBeMake words) (
   make_found None h = tt
   make_found (Some p) h =
       make_of_parse words p.0 p.1 may_be.command may_be.no_dashes free
-      (ap (first_of (codes "size")) (sym rows_are) ∙ h.0.first) (ap (first_of (codes "seed")) (sym rows_are) ∙ h.1.first)
+      (ap (first_of (codes "size")) (sym rows_are) ∙ h.0.first)
+      (ap (first_of (codes "seed")) (sym rows_are) ∙ h.1.first)
       h.0.low h.0.high h.1.low h.1.high
 
   pub no_make_found : (r : Option (ℕ × ℕ))
@@ -97,7 +100,8 @@ module _ (words : List (List ℕ)) (m : ArgMatches) (may_be : MayBeMake words) (
       h n s (record { first = ap (first_of (codes "size")) rows_are ∙ parsed.size; low = bounds.0; high = bounds.1 })
       (record { first = ap (first_of (codes "seed")) rows_are ∙ parsed.seed; low = bounds.2; high = bounds.3 })
     where
-      make_bounds : {n s : ℕ} → IsMake words n s → (least_value Size ≤ n) × (n ≤ greatest_value Size) × (least_value Seed ≤ s) × (s ≤ greatest_value Seed)
+      make_bounds : {n s : ℕ} → IsMake words n s
+          → (least_value Size ≤ n) × (n ≤ greatest_value Size) × (least_value Seed ≤ s) × (s ≤ greatest_value Seed)
       make_bounds make = elim make.options [
         | inl h ↦ (h.first.low, h.first.high, h.second.low, h.second.high)
         | inr h ↦ (h.second.low, h.second.high, h.first.low, h.first.high)
@@ -119,7 +123,8 @@ no_make_if_failed words e (Ok asked) told fails = by_case asked
           | inr none ↦ none
         ]
 
-pub may_be_told : (words : List (String Global)) (first : String Global) (has_dashes is_make : Bool) → first ≡ get_or words 0 first
+pub may_be_told : (words : List (String Global)) (first : String Global) (has_dashes is_make : Bool)
+    → first ≡ get_or words 0 first
     → 3 ≤ length words → length words ≤ 5
     → is_make ≡ bytes_eq (string_bytes {Z = Global} first) (codes "make") → is_make ≡ true
     → has_dashes ≡ list_any (λ w. bytes_eq (string_bytes {Z = Global} w) dashes) words
@@ -127,7 +132,9 @@ pub may_be_told : (words : List (String Global)) (first : String Global) (has_da
 may_be_told [] first has_dashes is_make at some most told is_so dashes_told = absurd (omega (arith, some))
 may_be_told (w ∷ ws) first has_dashes is_make at some most told is_so dashes_told = (
   λ none. record {
-    command = ap (string_bytes {Z = Global}) (sym at) ∙ (bytes_eq-Decides (string_bytes {Z = Global} first) (codes "make")).0 (sym told ∙ is_so);
+    command =
+        ap (string_bytes {Z = Global}) (sym at)
+        ∙ (bytes_eq-Decides (string_bytes {Z = Global} first) (codes "make")).0 (sym told ∙ is_so);
     least_words = subst (λ n. 3 ≤ n) (sym (length-map (w ∷ ws) (string_bytes {Z = Global}))) some;
     most_words = subst (λ n. n ≤ 5) (sym (length-map (w ∷ ws) (string_bytes {Z = Global}))) most;
     no_dashes = any-map (w ∷ ws) ∙ sym dashes_told ∙ not_true has_dashes none;

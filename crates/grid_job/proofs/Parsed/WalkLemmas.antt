@@ -28,18 +28,21 @@ pub Ends-turn : (w : Walk) (word : Text) (rest : List Text) → Ends w (word ∷
 unfolding walk_fault
 Ends-turn w word rest e = or_else-first _ _ e.read
 
-pub Ends-next : (w next : Walk) (word : Text) (rest : List Text) → walked rules [] w word ≡ next → Ends w (word ∷ rest) → Ends next rest
+pub Ends-next : (w next : Walk) (word : Text) (rest : List Text) → walked rules [] w word ≡ next → Ends w (word ∷ rest)
+    → Ends next rest
 unfolding walk_fault
 Ends-next w next word rest is e = record {
   read = ap (λ v. walk_fault shape [] v rest) (sym is) ∙ or_else-second (turn_fault shape [] w word) _ e.read;
   settles = ap (λ v. settle_fault rules false (fold (walked rules []) v rest).held) (sym is) ∙ e.settles;
 }
 
-pub final-next : (w next : Walk) (word : Text) (rest : List Text) → walked rules [] w word ≡ next → final w (word ∷ rest) ≡ final next rest
+pub final-next : (w next : Walk) (word : Text) (rest : List Text) → walked rules [] w word ≡ next
+    → final w (word ∷ rest) ≡ final next rest
 final-next w next word rest is = ap (λ v. final v rest) is
 
 -- the option before is done with where the next begins
-option_settles : (f : Flag) (val : Option Text) (h : Held) → option_fault rules false (read_rule f) val h ≡ [] → settle_fault rules false h ≡ []
+option_settles : (f : Flag) (val : Option Text) (h : Held) → option_fault rules false (read_rule f) val h ≡ []
+    → settle_fault rules false h ≡ []
 option_settles f None h free = free
 option_settles f (Some v) h free = or_else-first _ _ free
 
@@ -50,7 +53,8 @@ Ends-settles rows pending (w ∷ ws) no_dashes e =
     let word = idle_word w rows pending no_dashes.0 (Ends-turn (ready rows pending) w ws e) in
     option_settles word.0 word.1 (held rows pending) word.3
 
-pub use_fresh : (f : Flag) (v : Text) (rows : List Row) → use_fault false (read_rule f) (v ∷ []) rows ≡ [] → has_row (flag_id f) rows ≡ false
+pub use_fresh : (f : Flag) (v : Text) (rows : List Row) → use_fault false (read_rule f) (v ∷ []) rows ≡ []
+    → has_row (flag_id f) rows ≡ false
 use_fresh f v rows free = elim (cases_Bool (has_row (flag_id f) rows)) [
   | inl has ↦ absurd (again f has free)
   | inr none ↦ none
@@ -82,13 +86,16 @@ pub record ReadsOption (rows : List Row) (pending : Option (Text × List Text)) 
   pub same_end : final (ready rows pending) words ≡ final (ready rows_after pending_after) rest
 
 -- with its value
-pub attached_walked : (f : Flag) (v w : Text) (rows : List Row) (pending : Option (Text × List Text)) → bytes_eq w dashes ≡ false
+pub attached_walked : (f : Flag) (v w : Text) (rows : List Row) (pending : Option (Text × List Text))
+    → bytes_eq w dashes ≡ false
     → long_of w ≡ Some (flag_id f, Some v)
-    → walked rules [] (ready rows pending) w ≡ ready (used (read_rule f) (v ∷ []) (settled_rows rules pending rows)) None
+    → walked rules [] (ready rows pending) w
+    ≡ ready (used (read_rule f) (v ∷ []) (settled_rows rules pending rows)) None
 attached_walked Size v w rows pending no_dashes is = idle_walked w rows pending _ no_dashes is
 attached_walked Seed v w rows pending no_dashes is = idle_walked w rows pending _ no_dashes is
 
-pub option_walked : (f : Flag) (w : Text) (rows : List Row) (pending : Option (Text × List Text)) → bytes_eq w dashes ≡ false
+pub option_walked : (f : Flag) (w : Text) (rows : List Row) (pending : Option (Text × List Text))
+    → bytes_eq w dashes ≡ false
     → long_of w ≡ Some (flag_id f, None)
     → walked rules [] (ready rows pending) w ≡ waits f (settled_rows rules pending rows)
 option_walked Size w rows pending no_dashes is = idle_walked w rows pending _ no_dashes is
@@ -96,28 +103,40 @@ option_walked Seed w rows pending no_dashes is = idle_walked w rows pending _ no
 
 -- behind an option stands its value
 pub waiting_word : (f : Flag) (w : Text) (rows : List Row) → bytes_eq w dashes ≡ false
-    → turn_fault shape [] (waits f rows) w ≡ [] → walked rules [] (waits f rows) w ≡ ready rows (Some (flag_id f, w ∷ []))
-waiting_word f w rows no_dashes none = by_long (long_of w) refl (sym (waiting_turn f w rows (long_of w) no_dashes refl) ∙ none)
+    → turn_fault shape [] (waits f rows) w ≡ []
+    → walked rules [] (waits f rows) w ≡ ready rows (Some (flag_id f, w ∷ []))
+waiting_word f w rows no_dashes none =
+    by_long (long_of w) refl (sym (waiting_turn f w rows (long_of w) no_dashes refl) ∙ none)
   where
-    value_read : (f : Flag) → long_of w ≡ None → walked rules [] (waits f rows) w ≡ ready rows (Some (flag_id f, w ∷ []))
+    value_read : (f : Flag) → long_of w ≡ None
+        → walked rules [] (waits f rows) w ≡ ready rows (Some (flag_id f, w ∷ []))
     value_read Size e = waiting_walked Size w rows None no_dashes e
-        ∙ ap (λ m. after_step rules w (waits Size rows) m.0 m.1) (not_long (option (flag_id Size)) w rows (Some (flag_id Size, [])))
+        ∙ ap (λ m. after_step rules w (waits Size rows) m.0 m.1)
+        (not_long (option (flag_id Size)) w rows (Some (flag_id Size, [])))
     value_read Seed e = waiting_walked Seed w rows None no_dashes e
-        ∙ ap (λ m. after_step rules w (waits Seed rows) m.0 m.1) (not_long (option (flag_id Seed)) w rows (Some (flag_id Seed, [])))
+        ∙ ap (λ m. after_step rules w (waits Seed rows) m.0 m.1)
+        (not_long (option (flag_id Seed)) w rows (Some (flag_id Seed, [])))
 
-    unsettled : (f g : Flag) (val : Option Text) → option_fault rules false (read_rule g) val (waits f rows).held ≡ [] → ⊥
+    unsettled : (f g : Flag) (val : Option Text) → option_fault rules false (read_rule g) val (waits f rows).held ≡ []
+        → ⊥
     unsettled Size g val free = cons≢nil _ _ (option_settles g val (waits Size rows).held free)
     unsettled Seed g val free = cons≢nil _ _ (option_settles g val (waits Seed rows).held free)
 
     by_name : (name : Text) (val : Option Text) → ((g : Flag) × (name ≡ flag_id g)) ⊎ (arg_by_long rules name ≡ None)
         → long_fault rules false (arg_by_long rules name) val (waits f rows).held ≡ [] → ⊥
-    by_name name val (inl (Size, is)) free = unsettled f Size val (ap (λ n. long_fault rules false (arg_by_long rules n) val (waits f rows).held) (sym is) ∙ free)
-    by_name name val (inl (Seed, is)) free = unsettled f Seed val (ap (λ n. long_fault rules false (arg_by_long rules n) val (waits f rows).held) (sym is) ∙ free)
-    by_name name val (inr unknown) free = cons≢nil _ _ (ap (λ a. long_fault rules false a val (waits f rows).held) (sym unknown) ∙ free)
+    by_name name val (inl (Size, is)) free =
+        unsettled f Size val (ap (λ n. long_fault rules false (arg_by_long rules n) val (waits f rows).held) (sym is)
+        ∙ free)
+    by_name name val (inl (Seed, is)) free =
+        unsettled f Seed val (ap (λ n. long_fault rules false (arg_by_long rules n) val (waits f rows).held) (sym is)
+        ∙ free)
+    by_name name val (inr unknown) free =
+        cons≢nil _ _ (ap (λ a. long_fault rules false a val (waits f rows).held) (sym unknown) ∙ free)
 
     by_long : (o : Option (Text × Option Text)) → long_of w ≡ o
         → or_else (flag_word_fault rules false o w (waits f rows).held)
-        (step_fault shape 1 (long_or_other rules (option (flag_id f)) w o (waits f rows).held).0 (long_or_other rules (option (flag_id f)) w o (waits f rows).held).1) ≡ []
+        (step_fault shape 1 (long_or_other rules (option (flag_id f)) w o (waits f rows).held).0
+        (long_or_other rules (option (flag_id f)) w o (waits f rows).held).1) ≡ []
         → walked rules [] (waits f rows) w ≡ ready rows (Some (flag_id f, w ∷ []))
     by_long None e free = value_read f e
     by_long (Some p) e free = absurd (by_name p.0 p.1 (known_name p.0) (or_else-first _ _ free))

@@ -16,7 +16,8 @@ use Rattle.grid_job.specs.Inner.Parsing.{flag_id, flag_rule, make_command, dashe
 use Rattle.clap.specs.declared.builder.value_parser.ValueParser.TheVariants as vp
 
 abbrev pub read_rule : Flag → Rule
-read_rule f = record (flag_rule f) { range = Some (record { start_inclusive = 1; end_inclusive = 1 }); parser = Some vp.String }
+read_rule f =
+    record (flag_rule f) { range = Some (record { start_inclusive = 1; end_inclusive = 1 }); parser = Some vp.String }
 
 abbrev pub shape : Shape
 shape = (built make_command).top
@@ -82,7 +83,8 @@ bundle-unread : (flags : Text) (rows : List Row) (pending : Option (Text × List
 unfolding bundle_met
 bundle-unread flags rows pending = unread (length flags)
   where
-    first : (k : ℕ) (x : Option ℕ) → slice_get (chars flags) 0 ≡ x → IsUnread (held rows pending) (bundle_met rules (suc k) flags 0 plain (held rows pending))
+    first : (k : ℕ) (x : Option ℕ) → slice_get (chars flags) 0 ≡ x
+        → IsUnread (held rows pending) (bundle_met rules (suc k) flags 0 plain (held rows pending))
     first k None e = inl (rw e refl)
     first k (Some x) e = inr (rw e refl)
 
@@ -101,37 +103,43 @@ pub not_long : (waiting : Waiting) (w : Text) (rows : List Row) (pending : Optio
 not_long waiting w rows pending = by_flags (short_of w) refl
   where
     by_flags : (o : Option Text) → short_of w ≡ o
-        → short_or_plain rules waiting w (short_of w) (held rows pending) ≡ plain_word rules waiting w (held rows pending)
+        → short_or_plain rules waiting w (short_of w) (held rows pending)
+        ≡ plain_word rules waiting w (held rows pending)
     by_flags None e = rw e refl
     by_flags (Some flags) e = ap (λ o. short_or_plain rules waiting w o (held rows pending)) e
-        ∙ plain_after waiting w (held rows pending) (bundle rules flags (held rows pending)) (bundle-unread flags rows pending)
+        ∙ plain_after waiting w (held rows pending) (bundle rules flags (held rows pending))
+        (bundle-unread flags rows pending)
 
 -- a word between two options
 pub idle_turn : (w : Text) (rows : List Row) (pending : Option (Text × List Text)) (o : Option (Text × Option Text))
     → bytes_eq w dashes ≡ false → long_of w ≡ o
     → turn_fault shape [] (ready rows pending) w
     ≡ or_else (flag_word_fault rules false o w (held rows pending))
-    (step_fault shape 1 (long_or_other rules idle w o (held rows pending)).0 (long_or_other rules idle w o (held rows pending)).1)
+    (step_fault shape 1 (long_or_other rules idle w o (held rows pending)).0
+    (long_or_other rules idle w o (held rows pending)).1)
 idle_turn w rows pending o no_dashes is = rw (no_dashes, is) refl
 
 pub waiting_turn : (f : Flag) (w : Text) (rows : List Row) (o : Option (Text × Option Text))
     → bytes_eq w dashes ≡ false → long_of w ≡ o
     → turn_fault shape [] (waits f rows) w
     ≡ or_else (flag_word_fault rules false o w (waits f rows).held)
-    (step_fault shape 1 (long_or_other rules (option (flag_id f)) w o (waits f rows).held).0 (long_or_other rules (option (flag_id f)) w o (waits f rows).held).1)
+    (step_fault shape 1 (long_or_other rules (option (flag_id f)) w o (waits f rows).held).0
+    (long_or_other rules (option (flag_id f)) w o (waits f rows).held).1)
 waiting_turn f w rows o no_dashes is = rw (no_dashes, is) refl
 
 pub idle_walked : (w : Text) (rows : List Row) (pending : Option (Text × List Text)) (o : Option (Text × Option Text))
     → bytes_eq w dashes ≡ false → long_of w ≡ o
     → walked rules [] (ready rows pending) w
-    ≡ after_step rules w (ready rows pending) (long_or_other rules idle w o (held rows pending)).0 (long_or_other rules idle w o (held rows pending)).1
+    ≡ after_step rules w (ready rows pending) (long_or_other rules idle w o (held rows pending)).0
+    (long_or_other rules idle w o (held rows pending)).1
 unfolding walked
 idle_walked w rows pending o no_dashes is = rw (no_dashes, is) refl
 
 pub waiting_walked : (f : Flag) (w : Text) (rows : List Row) (o : Option (Text × Option Text))
     → bytes_eq w dashes ≡ false → long_of w ≡ o
     → walked rules [] (waits f rows) w
-    ≡ after_step rules w (waits f rows) (long_or_other rules (option (flag_id f)) w o (waits f rows).held).0 (long_or_other rules (option (flag_id f)) w o (waits f rows).held).1
+    ≡ after_step rules w (waits f rows) (long_or_other rules (option (flag_id f)) w o (waits f rows).held).0
+    (long_or_other rules (option (flag_id f)) w o (waits f rows).held).1
 unfolding walked
 waiting_walked f w rows o no_dashes is = rw (no_dashes, is) refl
 
@@ -140,19 +148,32 @@ pub idle_word : (w : Text) (rows : List Row) (pending : Option (Text × List Tex
     → turn_fault shape [] (ready rows pending) w ≡ []
     → (f : Flag) × (val : Option Text) × (long_of w ≡ Some (flag_id f, val))
     × (option_fault rules false (read_rule f) val (held rows pending) ≡ [])
-idle_word w rows pending no_dashes none = by_long (long_of w) refl (sym (idle_turn w rows pending (long_of w) no_dashes refl) ∙ none)
+idle_word w rows pending no_dashes none =
+    by_long (long_of w) refl (sym (idle_turn w rows pending (long_of w) no_dashes refl) ∙ none)
   where
     by_name : (name : Text) (val : Option Text) → ((f : Flag) × (name ≡ flag_id f)) ⊎ (arg_by_long rules name ≡ None)
         → long_of w ≡ Some (name, val) → long_fault rules false (arg_by_long rules name) val (held rows pending) ≡ []
         → (f : Flag) × (val : Option Text) × (long_of w ≡ Some (flag_id f, val))
         × (option_fault rules false (read_rule f) val (held rows pending) ≡ [])
-    by_name name val (inl (Size, is)) e free = (Size, val, e ∙ ap (λ n. Some (n, val)) is, ap (λ n. long_fault rules false (arg_by_long rules n) val (held rows pending)) (sym is) ∙ free)
-    by_name name val (inl (Seed, is)) e free = (Seed, val, e ∙ ap (λ n. Some (n, val)) is, ap (λ n. long_fault rules false (arg_by_long rules n) val (held rows pending)) (sym is) ∙ free)
-    by_name name val (inr unknown) e free = absurd (cons≢nil _ _ (ap (λ a. long_fault rules false a val (held rows pending)) (sym unknown) ∙ free))
+    by_name name val (inl (Size, is)) e free = (
+      Size,
+      val,
+      e ∙ ap (λ n. Some (n, val)) is,
+      ap (λ n. long_fault rules false (arg_by_long rules n) val (held rows pending)) (sym is) ∙ free,
+    )
+    by_name name val (inl (Seed, is)) e free = (
+      Seed,
+      val,
+      e ∙ ap (λ n. Some (n, val)) is,
+      ap (λ n. long_fault rules false (arg_by_long rules n) val (held rows pending)) (sym is) ∙ free,
+    )
+    by_name name val (inr unknown) e free =
+        absurd (cons≢nil _ _ (ap (λ a. long_fault rules false a val (held rows pending)) (sym unknown) ∙ free))
 
     by_long : (o : Option (Text × Option Text)) → long_of w ≡ o
         → or_else (flag_word_fault rules false o w (held rows pending))
-        (step_fault shape 1 (long_or_other rules idle w o (held rows pending)).0 (long_or_other rules idle w o (held rows pending)).1) ≡ []
+        (step_fault shape 1 (long_or_other rules idle w o (held rows pending)).0
+        (long_or_other rules idle w o (held rows pending)).1) ≡ []
         → (f : Flag) × (val : Option Text) × (long_of w ≡ Some (flag_id f, val))
         × (option_fault rules false (read_rule f) val (held rows pending) ≡ [])
     by_long None e free =

@@ -133,12 +133,14 @@ followed_of-listed g xs states p of_grid of_chain =
     ∙ ap (λ z. record { grid = g; chain = z }) (states_of-listed (size g) xs (states_of_grid g xs states))
 
 -- what is in force stays a grid with a chain of its states
-pub IsChain-after_command : (p : InForce) (c : Command) → IsGrid p.grid → IsChain (size p.grid) p.chain → IsAllowed p.grid c
+pub IsChain-after_command : (p : InForce) (c : Command) → IsGrid p.grid → IsChain (size p.grid) p.chain
+    → IsAllowed p.grid c
     → IsChain (size (after_command p c).grid) (after_command p c).chain
 IsChain-after_command p (command.Chain xs) grid states allowed =
     IsChain-listed (size p.grid) xs (states_of_grid p.grid xs allowed.0)
 IsChain-after_command p (command.Turn side) grid states allowed =
-    subst (λ n. IsChain n (turned_chain side (size p.grid) p.chain)) (sym (length-turned_rows side (size p.grid) p.grid.o))
+    subst (λ n. IsChain n (turned_chain side (size p.grid) p.chain))
+    (sym (length-turned_rows side (size p.grid) p.grid.o))
     (IsChain-turned side (size p.grid) p.chain)
 IsChain-after_command p (command.Commute axis c corner) grid states allowed =
     subst (λ n. IsChain n (image axis p.grid c corner p.chain)) (sym (size-swapped axis p.grid c))

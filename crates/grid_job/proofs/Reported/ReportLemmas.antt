@@ -84,7 +84,8 @@ AreAnswers-append v p (c ∷ cs) ds a b first second = (
 AreAnswers-single : (v : ℕ) (p : InForce) (c : Command) (a : List ℕ) → IsAnswer v p c a → AreAnswers v p (c ∷ []) a
 AreAnswers-single v p c a answer = (a, [], answer, refl, sym (append-nil a))
 
-after_commands-append : (p : InForce) (cs ds : List Command) → after_commands p (cs ++ ds) ≡ after_commands (after_commands p cs) ds
+after_commands-append : (p : InForce) (cs ds : List Command)
+    → after_commands p (cs ++ ds) ≡ after_commands (after_commands p cs) ds
 after_commands-append p [] ds = refl
 after_commands-append p (c ∷ cs) ds = after_commands-append (after_command p c) cs ds
 
@@ -121,7 +122,8 @@ IsPast-none v p now cs a e = record { in_force = e; whole = []; answers = refl; 
 
 module _ (v : ℕ) (p : InForce) (cs : List Command) (k : ℕ) where
   -- the command that stands next may stand there
-  pub IsAllowed-next : (now : InForce) (d : Command) (a b : Option (List ℕ)) → IsGrid p.grid → IsChain (size p.grid) p.chain
+  pub IsAllowed-next : (now : InForce) (d : Command) (a b : Option (List ℕ)) → IsGrid p.grid
+      → IsChain (size p.grid) p.chain
       → AreAllowed p.grid cs → k < length cs
       → IsPast v p cs k now a b → IsAllowed now.grid (get_or cs k d)
   IsAllowed-next now d a b grid states allowed within past =
@@ -132,10 +134,12 @@ module _ (v : ℕ) (p : InForce) (cs : List Command) (k : ℕ) where
   -- an answer to the next command was written too
   pub IsPast-next : (now next : InForce) (d : Command) (text : List ℕ) (a b c : Option (List ℕ)) → k < length cs
       → IsAnswer v now (get_or cs k d) text
-      → next ≡ after_command now (get_or cs k d) → IsPast v p cs k now a b → Appends b c text → IsPast v p cs (k + 1) next a c
+      → next ≡ after_command now (get_or cs k d) → IsPast v p cs k now a b → Appends b c text
+      → IsPast v p cs (k + 1) next a c
   IsPast-next now next d text a b c within answer followed past more = record {
     in_force = followed ∙ ap (λ q. after_command q (get_or cs k d)) past.in_force
-        ∙ sym (after_commands-append p (take k cs) (get_or cs k d ∷ [])) ∙ ap (after_commands p) (sym (take_more cs k d within));
+        ∙ sym (after_commands-append p (take k cs) (get_or cs k d ∷ []))
+        ∙ ap (after_commands p) (sym (take_more cs k d within));
     whole = past.whole ++ text;
     answers = subst (λ ds. AreAnswers v p ds (past.whole ++ text)) (sym (take_more cs k d within))
         (AreAnswers-append v p (take k cs) (get_or cs k d ∷ []) past.whole text past.answers
@@ -156,7 +160,8 @@ module _ (v : ℕ) (p : InForce) (cs : List Command) (k : ℕ) where
       → (text : List ℕ) × AreAnswers v p cs text × AppendsPrefix a b text
   IsPast-prefix now a b version grid states allowed past =
       let here = StandsAt-drop k p cs (record { grid = grid; states = states; allowed = allowed }) in
-      let rest = exists_answers v version (after_commands p (take k cs)) (drop k cs) here.grid here.states here.allowed in
+      let rest =
+      exists_answers v version (after_commands p (take k cs)) (drop k cs) here.grid here.states here.allowed in
       let all = AreAnswers-append v p (take k cs) (drop k cs) past.whole rest.0 past.answers rest.1 in (
         past.whole ++ rest.0,
         subst (λ ds. AreAnswers v p ds (past.whole ++ rest.0)) (take-append-drop k cs) all,
@@ -171,7 +176,9 @@ module _ (v : ℕ) (p : InForce) (cs : List Command) (k : ℕ) where
   IsPast-prefix_of_next now d text a b c version grid states allowed within answer past part =
       let here = StandsAt-drop (k + 1) p cs (record { grid = grid; states = states; allowed = allowed }) in
       let at_next = after_commands p (take k cs) in
-      let rest = exists_answers v version (after_commands p (take (k + 1) cs)) (drop (k + 1) cs) here.grid here.states here.allowed in
+      let rest =
+      exists_answers v version (after_commands p (take (k + 1) cs)) (drop (k + 1) cs) here.grid here.states
+      here.allowed in
       let up_to = AreAnswers-append v p (take k cs) (get_or cs k d ∷ []) past.whole text past.answers
       (AreAnswers-single v at_next (get_or cs k d) text
       (subst (λ q. IsAnswer v q (get_or cs k d) text) past.in_force answer)) in

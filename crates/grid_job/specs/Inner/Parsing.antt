@@ -26,7 +26,9 @@ abbrev pub flag_rule : Flag → Rule
 flag_rule f = record (new_rule (flag_id f)) { long = Some (flag_id f); action = Some Set }
 
 abbrev pub make_command : App
-make_command = with_rule (with_rule (on_top (λ s. record s { disable_help_flag = true }) (new_app (codes "make"))) (flag_rule Size)) (flag_rule Seed)
+make_command =
+    with_rule (with_rule (on_top (λ s. record s { disable_help_flag = true }) (new_app (codes "make")))
+    (flag_rule Size)) (flag_rule Seed)
 
 abbrev pub dashes : List ℕ
 dashes = 45 ∷ 45 ∷ []

@@ -44,4 +44,5 @@ TellsVerdict (verdict.No entry test) status answer = (status ≡ No) × (answer 
 abbrev pub IsAnswerOfGrid : GridScript → ℕ → Status → List ℕ → Type 0
 IsAnswerOfGrid s number status answer =
     ((status ≡ Done) × (size (grid_in_force s) ≤ max_certified_size) × IsCertificateText (grid_in_force s) answer)
-    ⊎ ((status ≡ Refused) × (max_certified_size < size (grid_in_force s)) × (answer ≡ refused_line (codes "TooLarge") number))
+    ⊎ ((status ≡ Refused) × (max_certified_size < size (grid_in_force s))
+    × (answer ≡ refused_line (codes "TooLarge") number))

@@ -112,7 +112,8 @@ pub returns-in-Some-Compare-clause-ended : goal.returns-in-Some-Compare-clause-e
 returns-in-Some-Compare-clause-ended g c is_end =
     let ws = map (string_bytes {Z = Global}) c.args.words.now in
     HasEnded-written ws Compare c.compare.result _ _ _ _ _ _
-    (subst (IsForm ws) c.in-Some-Compare.field-0-is c.in-Some-Compare.ensures.some) is_end (c.compare.ensures.read is_end)
+    (subst (IsForm ws) c.in-Some-Compare.field-0-is c.in-Some-Compare.ensures.some) is_end
+    (c.compare.ensures.read is_end)
     (c.compare.ensures.written (ended_not_read_fault c.compare.result is_end))
 
 pub returns-in-Some-Compare-clause-begun : goal.returns-in-Some-Compare-clause-begun
@@ -133,7 +134,8 @@ returns-in-Some-Compare-clause-answer g c mode form source_kept sink_kept =
 pub returns-in-Some-Compare-clause-make_reads_nothing : goal.returns-in-Some-Compare-clause-make_reads_nothing
 returns-in-Some-Compare-clause-make_reads_nothing g c n s make =
     let ws = map (string_bytes {Z = Global}) c.args.words.now in
-    absurd (told_apart ws Compare (Make n s) refl (subst (IsForm ws) c.in-Some-Compare.field-0-is c.in-Some-Compare.ensures.some)
+    absurd (told_apart ws Compare (Make n s) refl
+    (subst (IsForm ws) c.in-Some-Compare.field-0-is c.in-Some-Compare.ensures.some)
     make)
 
 pub returns-in-Some-Compare-clause-no : goal.returns-in-Some-Compare-clause-no

@@ -9,7 +9,8 @@ use Rattle.grid_job.proofs.checks.answer_certificate.Goals as goal
 
 pub returns-in-Ok-clause-written : goal.returns-in-Ok-clause-written
 returns-in-Ok-clause-written g c =
-    HasWritten-verdict c.args.text.now (certificate_of c.in-Ok.certificate) _ _ _ _ _ c.requires.within c.grid.ensures.certificate
+    HasWritten-verdict c.args.text.now (certificate_of c.in-Ok.certificate) _ _ _ _ _
+    c.requires.within c.grid.ensures.certificate
     c.in-Ok.ensures.read c.tell_verdict.ensures.written
 
 pub returns-in-Err-BadLine-clause-written : goal.returns-in-Err-BadLine-clause-written

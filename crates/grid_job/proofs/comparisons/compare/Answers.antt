@@ -18,7 +18,8 @@ returns-in-Ok-clause-written g c _ =
     c.deref.ensures.value c.compare_text.ensures.written
 
 pub returns-in-Ok-clause-not_others : goal.returns-in-Ok-clause-not_others
-returns-in-Ok-clause-not_others g c = not_others (IsOutcome Compare c.deref.result.now) _ _ _ _ _ (λ answer never. never)
+returns-in-Ok-clause-not_others g c =
+    not_others (IsOutcome Compare c.deref.result.now) _ _ _ _ _ (λ answer never. never)
     c.compare_text.ensures.written
 
 pub returns-in-Err-TooLong-clause-read : goal.returns-in-Err-TooLong-clause-read

@@ -21,7 +21,8 @@ returns-in-Err-Refused-clause-written g c =
 pub returns-in-Err-NoNext-clause-written : goal.returns-in-Err-NoNext-clause-written
 returns-in-Err-NoNext-clause-written g c =
     let first = rw c.in-Err-NoNext.field-0-is at c.in-Err-NoNext.ensures.refused in
-    HasWritten-pair_fault c.args.text.now _ no_next _ _ _ _ _ _ c.requires.within first refl c.refuse-in-Err-NoNext.ensures.written
+    HasWritten-pair_fault c.args.text.now _ no_next _ _ _ _ _ _ c.requires.within first refl
+    c.refuse-in-Err-NoNext.ensures.written
 
 pub returns-in-Err-NoMemory-clause-written : goal.returns-in-Err-NoMemory-clause-written
 returns-in-Err-NoMemory-clause-written g c =

@@ -13,15 +13,18 @@ answer_to-requires-clause-allowed g c =
     let command = c.command-item in
     subst (IsAllowed c.loop-command.in_force.grid) (sym command.is)
     (IsAllowed-next
-    c.args.version (at_start c.args.g.now) c.args.commands.now c.loop-command.command-index (followed_of c.loop-command.in_force) command.result _
+    c.args.version (at_start c.args.g.now) c.args.commands.now c.loop-command.command-index
+    (followed_of c.loop-command.in_force) command.result _
     _
     c.size.ensures.grid
     (IsChain-nothing (size c.args.g.now)) c.requires.allowed c.loop-command-test.true c.loop-command.invariant.0)
 
 pub returns-in_err-text-clause-part : goal.returns-in_err-text-clause-part
 returns-in_err-text-clause-part g c =
-    IsPast-prefix c.args.version (at_start c.args.g.now) c.args.commands.now c.loop-command.command-index (followed_of c.loop-command.in_force) _ _
-    c.requires.version c.size.ensures.grid (IsChain-nothing (size c.args.g.now)) c.requires.allowed c.loop-command.invariant.0
+    IsPast-prefix c.args.version (at_start c.args.g.now) c.args.commands.now c.loop-command.command-index
+    (followed_of c.loop-command.in_force) _ _
+    c.requires.version c.size.ensures.grid (IsChain-nothing (size c.args.g.now)) c.requires.allowed
+    c.loop-command.invariant.0
 
 pub returns-in_err-write_all-clause-part : goal.returns-in_err-write_all-clause-part
 returns-in_err-write_all-clause-part g c =
@@ -31,7 +34,8 @@ returns-in_err-write_all-clause-part g c =
     IsAnswer-same c.args.version now now command.result _ c.in_ok-text.text.items c.deref.result.now refl command.is
     (sym c.deref.ensures.value) c.in_ok-text.ensures.answer in
     IsPast-prefix_of_next
-    c.args.version (at_start c.args.g.now) c.args.commands.now c.loop-command.command-index now command.result c.deref.result.now _ _
+    c.args.version (at_start c.args.g.now) c.args.commands.now c.loop-command.command-index now command.result
+    c.deref.result.now _ _
     _
     c.requires.version c.size.ensures.grid
     (IsChain-nothing (size c.args.g.now)) c.requires.allowed c.loop-command-test.true answer c.loop-command.invariant.0
@@ -45,7 +49,8 @@ loop-command-preserved g c =
     IsAnswer-same c.args.version now now command.result _ c.in_ok-text.text.items c.deref.result.now refl command.is
     (sym c.deref.ensures.value) c.in_ok-text.ensures.answer in (
       IsPast-next
-          c.args.version (at_start c.args.g.now) c.args.commands.now c.loop-command.command-index now (followed_of c.follow.new.p) command.result
+          c.args.version (at_start c.args.g.now) c.args.commands.now c.loop-command.command-index now
+          (followed_of c.follow.new.p) command.result
           c.deref.result.now _ _ _
           c.loop-command-test.true answer
           (c.in_ok-follow.ensures.after ∙ ap (after_command now) command.is) c.loop-command.invariant.0
@@ -57,8 +62,10 @@ loop-command-preserved g c =
 
 pub returns-clause-part : goal.returns-clause-part
 returns-clause-part g c =
-    IsPast-prefix c.args.version (at_start c.args.g.now) c.args.commands.now c.loop-command.command-index (followed_of c.loop-command.in_force) _ _
-    c.requires.version c.size.ensures.grid (IsChain-nothing (size c.args.g.now)) c.requires.allowed c.loop-command.invariant.0
+    IsPast-prefix c.args.version (at_start c.args.g.now) c.args.commands.now c.loop-command.command-index
+    (followed_of c.loop-command.in_force) _ _
+    c.requires.version c.size.ensures.grid (IsChain-nothing (size c.args.g.now)) c.requires.allowed
+    c.loop-command.invariant.0
 
 pub returns-in_err-follow-clause-part : goal.returns-in_err-follow-clause-part
 returns-in_err-follow-clause-part g c =
@@ -68,7 +75,8 @@ returns-in_err-follow-clause-part g c =
     IsAnswer-same c.args.version now now command.result _ c.in_ok-text.text.items c.deref.result.now refl command.is
     (sym c.deref.ensures.value) c.in_ok-text.ensures.answer in
     IsPast-prefix_of_next
-    c.args.version (at_start c.args.g.now) c.args.commands.now c.loop-command.command-index now command.result c.deref.result.now _ _
+    c.args.version (at_start c.args.g.now) c.args.commands.now c.loop-command.command-index now command.result
+    c.deref.result.now _ _
     _
     c.requires.version c.size.ensures.grid
     (IsChain-nothing (size c.args.g.now)) c.requires.allowed c.loop-command-test.true answer c.loop-command.invariant.0
@@ -79,7 +87,8 @@ follow-requires g c =
     let command = c.command-item in
     subst (IsAllowed c.loop-command.in_force.grid) (sym command.is)
     (IsAllowed-next
-    c.args.version (at_start c.args.g.now) c.args.commands.now c.loop-command.command-index (followed_of c.loop-command.in_force) command.result _
+    c.args.version (at_start c.args.g.now) c.args.commands.now c.loop-command.command-index
+    (followed_of c.loop-command.in_force) command.result _
     _
     c.size.ensures.grid
     (IsChain-nothing (size c.args.g.now)) c.requires.allowed c.loop-command-test.true c.loop-command.invariant.0)
