@@ -4,7 +4,7 @@
 --     same_rows p q           so are the tables
 --     same_bool v w           the truth values are the same
 --     same_word b             the word for two values that are the same, or that are not
---     hat_word p q            the same for two hats; or the word that one of them is none
+--     hat_word p q            the same for two hats if both are there, and else the word that one of them is none
 --     numbers_line word v w   a word, two numbers, and whether they are the same
 --     verdicts_line word v w  a word, whether two classes are alive, and whether they are alike in this
 --     compare_lines a b       the lines for two grids: tb, rot, the table, the hat, and the classes of x+ and x-

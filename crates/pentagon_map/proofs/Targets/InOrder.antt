@@ -25,7 +25,7 @@ use Rattle.state_rank.specs.States.{is_before, rank, transpose}
 use Rattle.torus_geom.proofs.TransposeLemmas.{IsBijection-transposed, slice_index-transpose}
 use Rattle.rectangles.proofs.Square.TwoSteps.{differ, differ-self, differ-true}
 use Rattle.grid_moves.proofs.Turned.Reindexing.{parity_below_reindex}
-use Rattle.pentagon_map.specs.Inner.Exchanges.{in_order, is_right, is_set, lowering, lowers, picked, raises, raising, sideways}
+use Rattle.pentagon_map.specs.Inner.Exchanges.{in_order, is_right_of, is_set, lowering, lowers, picked, raises, raising, sideways}
 use Rattle.torus_geom.proofs.Sums.TabulateLemmas.{parity-tabulate}
 use Rattle.rectangles.proofs.Sweep.OrderedLists.{Rises, is_before-at}
 
@@ -199,9 +199,9 @@ module _ (n : ℕ) (x : List ℕ) (sx : IsBijection n x) (a odd : ℕ) (la : a <
   columns : IsBijection n (transpose x)
   columns = IsBijection-transposed n x sx
 
-  in_sideways : (b : ℕ) → Contains (filter (is_right a odd) (transpose x)) b → (a < b) × (b < n)
+  in_sideways : (b : ℕ) → Contains (filter (is_right_of a odd) (transpose x)) b → (a < b) × (b < n)
   in_sideways b m =
-      let ((k, lk, at), t) = member_of_filter (is_right a odd) (transpose x) b m in
+      let ((k, lk, at), t) = member_of_filter (is_right_of a odd) (transpose x) b m in
       let e = columns.long in
       let l = columns.small k (omega arith) in
       let same : slice_index (transpose x) k ≡ b = get_or-any_default (transpose x) k 0 b lk ∙ at in
@@ -251,7 +251,7 @@ module _ (n : ℕ) (x : List ℕ) (sx : IsBijection n x) (a odd : ℕ) (la : a <
       picked_rises (lowers x a odd) (ascending a) (λ b d. b < d) (ascending_rises a)
       (λ b d l m k. left_first b d l (in_lowering d k).0 (in_lowering b m).1) in
       let second_part : Rises (sideways x a odd) =
-      picked_rises (is_right a odd) (transpose x) (λ b d. slice_index x b < slice_index x d) rows_rise
+      picked_rises (is_right_of a odd) (transpose x) (λ b d. slice_index x b < slice_index x d) rows_rise
       (λ b d l m k. both_right b d (in_sideways b m).0 (in_sideways d k).0 (in_sideways b m).1 (in_sideways d k).1 l) in
       let third_part : Rises (raising x a odd) =
       picked_rises (raises x a odd) (reverse (ascending a)) (λ b d. d < b) descending_falls
@@ -259,7 +259,7 @@ module _ (n : ℕ) (x : List ℕ) (sx : IsBijection n x) (a odd : ℕ) (la : a <
       pairs_append before (lowering x a odd ++ sideways x a odd) (raising x a odd)
       (pairs_append before (lowering x a odd) (sideways x a odd) first_part second_part (λ y z m k.
       let (b, mb, eb) = member_of_map (λ b. swap x a b) (filter (lowers x a odd) (ascending a)) y m in
-      let (d, md, ed) = member_of_map (λ b. swap x a b) (filter (is_right a odd) (transpose x)) z k in
+      let (d, md, ed) = member_of_map (λ b. swap x a b) (filter (is_right_of a odd) (transpose x)) z k in
       let l = in_lowering b mb in
       let r = in_sideways d md in
       subst₂ before eb ed (left_right b d l.0 r.0 r.1 l.1)))
@@ -274,7 +274,7 @@ module _ (n : ℕ) (x : List ℕ) (sx : IsBijection n x) (a odd : ℕ) (la : a <
             subst₂ before eb ed (around b d l.0 r.0 (λ e. let f = ap (slice_index x) e in let u = l.1 in let v = r.1 in
             omega arith) l.1 r.1)
         | inr h ↦
-            let (b, mb, eb) = member_of_map (λ b. swap x a b) (filter (is_right a odd) (transpose x)) y h in
+            let (b, mb, eb) = member_of_map (λ b. swap x a b) (filter (is_right_of a odd) (transpose x)) y h in
             let l = in_sideways b mb in
             subst₂ before eb ed (right_left b d l.0 l.1 r.0 r.1)
       ])
@@ -289,7 +289,7 @@ module _ (n : ℕ) (x : List ℕ) (sx : IsBijection n x) (a odd : ℕ) (la : a <
   in_order_states y m = elim (Contains-append_cases (lowering x a odd ++ sideways x a odd) (raising x a odd) y m) [
     | inl h ↦ elim (Contains-append_cases (lowering x a odd) (sideways x a odd) y h) [
       | inl k ↦ in_part (lowers x a odd) (ascending a) (λ b mb. let l = (in_lowering b mb).0 in omega arith) y k
-      | inr k ↦ in_part (is_right a odd) (transpose x) (λ b mb. (in_sideways b mb).1) y k
+      | inr k ↦ in_part (is_right_of a odd) (transpose x) (λ b mb. (in_sideways b mb).1) y k
     ]
     | inr h ↦ in_part (raises x a odd) (reverse (ascending a)) (λ b mb. let l = (in_raising b mb).0 in omega arith) y h
   ]
@@ -310,13 +310,13 @@ module _ (n : ℕ) (x : List ℕ) (sx : IsBijection n x) (a odd : ℕ) (la : a <
       let F : ℕ → Bool = λ b. f (swap x a b) in
       parity-append f (lowering x a odd ++ sideways x a odd) (raising x a odd)
       ∙ ap (λ t. t ⊻ parity f (raising x a odd)) (parity-append f (lowering x a odd) (sideways x a odd))
-      ∙ (λ i. (part_sum f (lowers x a odd) (ascending a) i ⊻ part_sum f (is_right a odd) (transpose x) i)
+      ∙ (λ i. (part_sum f (lowers x a odd) (ascending a) i ⊻ part_sum f (is_right_of a odd) (transpose x) i)
       ⊻ part_sum f (raises x a odd) (reverse (ascending a)) i)
       ∙ (λ i. (low i ⊻ side i) ⊻ high i)
-      ∙ sym (parity-xor (λ b. (ltb b a && (lowers x a odd b && F b)) ⊻ (is_right a odd b && F b))
+      ∙ sym (parity-xor (λ b. (ltb b a && (lowers x a odd b && F b)) ⊻ (is_right_of a odd b && F b))
       (λ b. ltb b a && (raises x a odd b && F b)) (below n)
       ∙ ap (λ t. t ⊻ parity_below n (λ b. ltb b a && (raises x a odd b && F b)))
-      (parity-xor (λ b. ltb b a && (lowers x a odd b && F b)) (λ b. is_right a odd b && F b) (below n)))
+      (parity-xor (λ b. ltb b a && (lowers x a odd b && F b)) (λ b. is_right_of a odd b && F b) (below n)))
       ∙ parity_below-same n _ _ (λ b lb. one_part b lb (F b))
     where
       low : parity (λ b. lowers x a odd b && f (swap x a b)) (ascending a)
@@ -330,17 +330,17 @@ module _ (n : ℕ) (x : List ℕ) (sx : IsBijection n x) (a odd : ℕ) (la : a <
           ∙ parity-tabulate (λ b. raises x a odd b && f (swap x a b)) a (λ c. c)
           ∙ sym (parity_below-left n a (λ b. raises x a odd b && f (swap x a b)) (omega arith))
 
-      side : parity (λ b. is_right a odd b && f (swap x a b)) (transpose x)
-          ≡ parity_below n (λ b. is_right a odd b && f (swap x a b))
+      side : parity (λ b. is_right_of a odd b && f (swap x a b)) (transpose x)
+          ≡ parity_below n (λ b. is_right_of a odd b && f (swap x a b))
       side =
-          parity-tabulate (λ b. is_right a odd b && f (swap x a b)) (length x) (column_of (length x) (slice_index x))
-          ∙ ap (λ m. parity_below m (λ r. is_right a odd (column_of m (slice_index x) r)
+          parity-tabulate (λ b. is_right_of a odd b && f (swap x a b)) (length x) (column_of (length x) (slice_index x))
+          ∙ ap (λ m. parity_below m (λ r. is_right_of a odd (column_of m (slice_index x) r)
           && f (swap x a (column_of m (slice_index x) r)))) sx.long
           ∙ parity_below_reindex n (column_of n (slice_index x))
-          (column_of-one_to_one n (slice_index x) (one_to_one n x sx)) (λ b. is_right a odd b && f (swap x a b))
+          (column_of-one_to_one n (slice_index x) (one_to_one n x sx)) (λ b. is_right_of a odd b && f (swap x a b))
 
       one_part : (b : ℕ) → b < n → (t : Bool)
-          → ((ltb b a && (lowers x a odd b && t)) ⊻ (is_right a odd b && t)) ⊻ (ltb b a && (raises x a odd b && t))
+          → ((ltb b a && (lowers x a odd b && t)) ⊻ (is_right_of a odd b && t)) ⊻ (ltb b a && (raises x a odd b && t))
           ≡ (differ b a && (is_set odd b && t))
       one_part b lb t =
           parts b a (slice_index x b) (slice_index x a) (is_set odd b) t (λ e. ap (slice_index x) e)

@@ -44,8 +44,8 @@ picked x a test circles = map (λ b. swap x a b) (filter test circles)
 abbrev pub lowers : List ℕ → ℕ → ℕ → ℕ → Bool
 lowers x a odd b = nat_lt (slice_index x a) (slice_index x b) && is_set odd b
 
-abbrev pub is_right : ℕ → ℕ → ℕ → Bool
-is_right a odd b = nat_lt a b && is_set odd b
+abbrev pub is_right_of : ℕ → ℕ → ℕ → Bool
+is_right_of a odd b = nat_lt a b && is_set odd b
 
 abbrev pub raises : List ℕ → ℕ → ℕ → ℕ → Bool
 raises x a odd b = nat_lt (slice_index x b) (slice_index x a) && is_set odd b
@@ -54,7 +54,7 @@ abbrev pub lowering : List ℕ → ℕ → ℕ → List (List ℕ)
 lowering x a odd = picked x a (lowers x a odd) (ascending a)
 
 abbrev pub sideways : List ℕ → ℕ → ℕ → List (List ℕ)
-sideways x a odd = picked x a (is_right a odd) (transpose x)
+sideways x a odd = picked x a (is_right_of a odd) (transpose x)
 
 abbrev pub raising : List ℕ → ℕ → ℕ → List (List ℕ)
 raising x a odd = picked x a (raises x a odd) (reverse (ascending a))
