@@ -1,7 +1,10 @@
+pub mod ExchangeIndexLemmas
 pub mod SweepLemmas
 pub mod OddPairLemmas
 pub mod OrderedLists
 pub mod ExchangeOrder
 pub mod TargetLemmas
 pub mod PushLemmas
+pub mod RowBitLemmas
+pub mod TargetStateLemmas
 pub mod LoopLemmas

@@ -1,3 +1,4 @@
 pub mod CodeCoranks
+pub mod ExchangeIndices
 pub mod Heights
 pub mod Open

@@ -1,6 +1,7 @@
 //! The border of a state, and of a chain.
 ghost use Rattle.std.specs.Prelude.{List, pos, ◌+ℤ◌, ◌≡◌, ℕ, length, true, IfOk, OnOk};
 ghost use Rattle.f2_algebra.specs.Chain.{◌⊕◌};
+ghost use Rattle.state_rank.specs.States.{rank};
 ghost use Rattle.torus_geom.specs.Marks.{size};
 ghost use Rattle.torus_geom.specs.Degrees.{maslov_o, alexander};
 ghost use Rattle.torus_geom.specs.Border.{border as border_of};
@@ -9,7 +10,7 @@ ghost use Rattle.torus_geom.specs.Codes.{HasIndices, states_of};
 ghost use Rattle.torus_geom.specs.Inner.CodeBorder.{border_of_state as border_codes};
 
 use crate::first_marks::FirstMarks;
-use crate::target_states::targets_by;
+use crate::target_states::target_indices;
 use f2_chain::{Builder, Chain};
 use grid_ports::NoMemory;
 use state_rank::State;
@@ -41,7 +42,7 @@ pub fn border_of_state(alloc: Global, g: &Grid, x: &State) -> Result<Chain, NoMe
     let _ = x.size();
     let marks = FirstMarks::of(g);
     let mut sum = Builder::new(alloc);
-    toggle_targets(alloc, &marks, x, &mut sum)?;
+    toggle_targets(alloc, &marks, x, x.rank(), &mut sum)?;
     sum.finish()
 }
 
@@ -67,25 +68,27 @@ pub fn border(alloc: Global, g: &Grid, z: &Chain) -> Result<Chain, NoMemory>
     let marks = FirstMarks::of(g);
     let mut sum = Builder::new(alloc);
     for code in z.codes() {
-        toggle_targets(alloc, &marks, &State::unrank(n, *code), &mut sum)?;
+        toggle_targets(alloc, &marks, &State::unrank(n, *code), *code, &mut sum)?;
     }
     sum.finish()
 }
 
-// Toggles each state of the border of `x`.
+// Toggles each state of the border of `x`, whose index is `index`.
 fn toggle_targets(
     alloc: Global,
     marks: &FirstMarks,
     x: &State,
+    index: u32,
     sum: &mut Builder,
 ) -> Result<(), NoMemory>
-    requires { length x.now ≡ size marks.now }
+    requires size { length x.now ≡ size marks.now }
+    requires index { index ≡ rank x.now }
     ensures { OnOk result (sum.new ≡ sum.old ⊕ border_codes marks.now x.now) }
 {
     let _ = x.size();
-    let states = targets_by(alloc, marks, x);
-    for y in states.as_slice() {
-        sum.toggle(y.rank())?;
+    let indices = target_indices(alloc, marks, x, index);
+    for target in indices.as_slice() {
+        sum.toggle(*target)?;
     }
     Ok(())
 }

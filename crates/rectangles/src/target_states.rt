@@ -1,22 +1,24 @@
-//! The states of the border of one state.
+//! The states of the border of one state, by their indices.
 //!
 //! The two rectangles between each two circles are looked for in one sweep to the right from each
 //! circle. The states come out in order, with no sort: first those before `x`, where the exchange
-//! lowers the row of the first circle, and then those after it.
+//! lowers the row of the first circle, and then those after it. The index of each is made from that
+//! of `x`.
 
-ghost use Rattle.std.specs.Prelude.{◌≡◌, ℕ, pos, ◌+ℤ◌, ◌+◌, ◌%◌, ◌<◌, ◌≤◌, ◌++◌, length, reverse, slice_index, if◌then◌else◌, nat_lt, ◌&&◌, All};
+ghost use Rattle.std.specs.Prelude.{◌≡◌, ℕ, pos, ◌+ℤ◌, ◌+◌, ◌%◌, ◌<◌, ◌≤◌, ◌++◌, length, map, reverse, slice_index, if◌then◌else◌, nat_lt, ◌&&◌, All};
 ghost use Rattle.std.specs.Int.{bit_at};
 ghost use Rattle.std.specs.List.{flat_map};
 ghost use Rattle.smallvec.specs.SmallVec.{HasRoomFor};
-ghost use Rattle.state_rank.specs.Bijection.{ascending, numbers};
-ghost use Rattle.state_rank.specs.States.{IsState, transpose};
+ghost use Rattle.state_rank.specs.Bijection.{ascending};
+ghost use Rattle.state_rank.specs.States.{IsState, rank, transpose};
 ghost use Rattle.torus_geom.specs.Border.{border};
 ghost use Rattle.torus_geom.specs.Chains.{members, single};
 ghost use Rattle.torus_geom.specs.Marks.{size, IsGrid};
 ghost use Rattle.torus_geom.specs.Degrees.{maslov_o, alexander};
 ghost use Rattle.torus_geom.specs.Range.{offset as offset_of};
-ghost use Rattle.rectangles.specs.Inner.Open.{is_open, odd_bit, exchanges, exchanges_below, exchanges_above};
+ghost use Rattle.rectangles.specs.Inner.Open.{is_open, odd_bit, AreRowsBetween, exchanges, exchanges_below, exchanges_above};
 
+use crate::exchange_indices::exchanged_index;
 use crate::first_marks::FirstMarks;
 use smallvec::SmallVec;
 use state_rank::{MAX_SIZE, ROOM, State};
@@ -25,6 +27,9 @@ use torus_geom::{Grid, offset};
 
 /// States in ascending order. As many as two circles can be chosen of ten stay inline.
 pub type TargetStates = SmallVec<State, 45>;
+
+/// The indices of such states.
+pub type TargetIndices = SmallVec<u32, 45>;
 
 /// The states of the border of `x`, ascending: those to which an odd number of empty unmarked
 /// rectangles of `g` lead from `x` (Ozsváth, Stipsicz and Szabó, "Grid Homology for Knots and Links",
@@ -42,30 +47,34 @@ pub fn targets(alloc: Global, g: &Grid, x: &State) -> TargetStates
     ensures inline { result.capacity ≡ 45 }
     ensures few { length result.items ≤ 45 }
 {
-    targets_by(alloc, &FirstMarks::of(g), x)
+    let n = g.size();
+    let _ = x.size();
+    let indices = target_indices(alloc, &FirstMarks::of(g), x, x.rank());
+    let mut states = SmallVec::new(alloc);
+    for index in indices.as_slice() {
+        states.push_reserved(State::unrank(n, *index));
+    }
+    states
 }
 
-/// The states that `targets` lists, by the table of the first marks of the grid, which is made once for many states.
+/// The indices of the states that `targets` lists, where `index` is that of `x`.
 ///
-/// The states stay inline: `alloc` is asked for nothing.
-pub fn targets_by(alloc: Global, marks: &FirstMarks, x: &State) -> TargetStates
+/// The table of the first marks of the grid is made once for many states. The indices stay inline:
+/// `alloc` is asked for nothing.
+pub fn target_indices(alloc: Global, marks: &FirstMarks, x: &State, index: u32) -> TargetIndices
     requires size { length x.now ≡ size marks.now }
-    ensures border { result.items ≡ members (size marks.now) (border marks.now (single x.now)) }
-    ensures states { All (λ y. IsState y × (length y ≡ size marks.now)) result.items }
-
-    // Each state of the border has a Maslov degree one lower than `x`, and the same Alexander degree.
-    ensures lowers_maslov { All (λ y. maslov_o marks.now x.now ≡ maslov_o marks.now y +ℤ pos 1) result.items }
-    ensures keeps_alexander { All (λ y. alexander marks.now x.now ≡ alexander marks.now y) result.items }
+    requires index { index ≡ rank x.now }
+    ensures indices { result.items ≡ map rank (members (size marks.now) (border marks.now (single x.now))) }
     ensures inline { result.capacity ≡ 45 }
     ensures few { length result.items ≤ 45 }
 {
     let opens = open_rectangles(marks, x);
     let odds = odd_pairs(x, &opens);
     let columns = x.transpose();
-    let mut states = SmallVec::new(alloc);
-    push_below(&mut states, x, &columns, &odds);
-    push_above(&mut states, x, &columns, &odds);
-    states
+    let mut indices = SmallVec::new(alloc);
+    push_below(&mut indices, x, index, &columns, &odds);
+    push_above(&mut indices, x, index, &columns, &odds);
+    indices
 }
 
 // For each circle a, the circles b for which the rectangle from a to b is open.
@@ -147,57 +156,88 @@ fn odd_rows(x: &State, opens: &[u16; ROOM], a: u8) -> u16
     rows
 }
 
-// Appends the exchanges that lower the row of their first circle, ascending.
-fn push_below(states: &mut TargetStates, x: &State, columns: &State, odds: &[u16; ROOM])
+// Appends the indices of the exchanges that lower the row of their first circle, ascending.
+fn push_below(
+    indices: &mut TargetIndices,
+    x: &State,
+    index: u32,
+    columns: &State,
+    odds: &[u16; ROOM],
+)
     requires columns { columns.now ≡ transpose x.now }
-    requires room { HasRoomFor states.old
+    requires index { index ≡ rank x.now }
+    requires right { (a r : ℕ) → a < length x.now → r < length x.now → bit_at (slice_index odds.now a) r ≡ 1
+        → a < slice_index columns.now r }
+    requires room { HasRoomFor indices.old
         (length (flat_map (exchanges_below x.now columns.now odds.now) (ascending (length x.now)))) }
-    ensures items { states.new.items
-        ≡ states.old.items ++ flat_map (exchanges_below x.now columns.now odds.now) (ascending (length x.now)) }
-    ensures capacity { states.new.capacity ≡ states.old.capacity }
+    ensures items { indices.new.items
+        ≡ indices.old.items
+        ++ map rank (flat_map (exchanges_below x.now columns.now odds.now) (ascending (length x.now))) }
+    ensures capacity { indices.new.capacity ≡ indices.old.capacity }
 {
     for a in 0..x.size() {
-        push_exchanges(states, x, columns, a, odds[a as usize], 0, x.row(a));
+        let rows = odds[a as usize] & rows_between(0, x.row(a));
+        push_exchanges(indices, x, index, columns, a, rows);
     }
 }
 
-// Appends the exchanges that raise the row of their first circle, ascending.
-fn push_above(states: &mut TargetStates, x: &State, columns: &State, odds: &[u16; ROOM])
+// Appends the indices of the exchanges that raise the row of their first circle, ascending.
+fn push_above(
+    indices: &mut TargetIndices,
+    x: &State,
+    index: u32,
+    columns: &State,
+    odds: &[u16; ROOM],
+)
     requires columns { columns.now ≡ transpose x.now }
-    requires room { HasRoomFor states.old
+    requires index { index ≡ rank x.now }
+    requires right { (a r : ℕ) → a < length x.now → r < length x.now → bit_at (slice_index odds.now a) r ≡ 1
+        → a < slice_index columns.now r }
+    requires room { HasRoomFor indices.old
         (length (flat_map (exchanges_above x.now columns.now odds.now) (reverse (ascending (length x.now))))) }
-    ensures items { states.new.items
-        ≡ states.old.items
-        ++ flat_map (exchanges_above x.now columns.now odds.now) (reverse (ascending (length x.now))) }
-    ensures capacity { states.new.capacity ≡ states.old.capacity }
+    ensures items { indices.new.items
+        ≡ indices.old.items
+        ++ map rank (flat_map (exchanges_above x.now columns.now odds.now) (reverse (ascending (length x.now)))) }
+    ensures capacity { indices.new.capacity ≡ indices.old.capacity }
 {
     let n = x.size();
     for a in (0..n).rev() {
-        push_exchanges(states, x, columns, a, odds[a as usize], x.row(a) + 1, n);
+        let rows = odds[a as usize] & rows_between(x.row(a) + 1, n);
+        push_exchanges(indices, x, index, columns, a, rows);
     }
 }
 
-// Appends the exchanges of `a` with the circles of the rows from `from` up to `to` whose bit is set.
+// The rows from `from` up to `to`, without `to`.
+fn rows_between(from: u8, to: u8) -> u16
+    requires order { from ≤ to }
+    requires short { to ≤ MAX_SIZE }
+    ensures { AreRowsBetween from to result }
+{
+    (1 << to) - (1 << from)
+}
+
+// Appends the indices of the exchanges of `a` with the circles of `rows`.
 fn push_exchanges(
-    states: &mut TargetStates,
+    indices: &mut TargetIndices,
     x: &State,
+    index: u32,
     columns: &State,
     a: u8,
-    odd: u16,
-    from: u8,
-    to: u8,
+    rows: u16,
 )
     requires columns { columns.now ≡ transpose x.now }
-    requires a_below { a < length x.now }
-    requires within { to ≤ length x.now }
-    requires short { length x.now ≤ MAX_SIZE }
-    requires room { HasRoomFor states.old (length (exchanges x.now columns.now a odd (numbers from to))) }
-    ensures items { states.new.items ≡ states.old.items ++ exchanges x.now columns.now a odd (numbers from to) }
-    ensures capacity { states.new.capacity ≡ states.old.capacity }
+    requires index { index ≡ rank x.now }
+    requires within { (r : ℕ) → bit_at rows r ≡ 1 → r < length x.now }
+    requires right { (r : ℕ) → bit_at rows r ≡ 1 → a < slice_index columns.now r }
+    requires room { HasRoomFor indices.old (length (exchanges x.now columns.now a rows (ascending (length x.now)))) }
+    ensures items { indices.new.items
+        ≡ indices.old.items ++ map rank (exchanges x.now columns.now a rows (ascending (length x.now))) }
+    ensures capacity { indices.new.capacity ≡ indices.old.capacity }
 {
-    for r in from..to {
-        if odd >> r & 1 == 1 {
-            states.push_reserved(x.exchange(a, columns.row(r)));
-        }
+    let mut left = rows;
+    while left != 0 {
+        let row = left.trailing_zeros() as u8;
+        indices.push_reserved(exchanged_index(x, index, a, columns.row(row)));
+        left &= !(1 << row);
     }
 }

@@ -5,7 +5,6 @@ use Rattle.torus_geom.specs.Chains.{members, single}
 use Rattle.torus_geom.specs.Border.{border as border_of}
 use Rattle.rectangles.proofs.Homology.BorderLaws.{targets_codes}
 use Rattle.std.proofs.Common.{◌≡◌, ℕ, zero, suc, ℤ, ◌+◌, ◌<◌, Bool, true, false, ◌&&◌, ◌||◌, eqb, ltb, List, [], ◌∷◌, ◌++◌, map, length, take, get_or, is_some, refl, sym, ap, ap₂, subst, ◌∙◌, arith}
-use Rattle.std.proofs.lemmas.List.{take_more, map-append}
 use Rattle.std.proofs.lemmas.Bool.{eq-eqb, eqb-true, ne_eqb, lt-ltb, ltb-true, true≢false, and_parts, and_from}
 use Rattle.f2_algebra.specs.Complex.{Complex, arrow}
 use Rattle.f2_algebra.proofs.Chains.Tables.{same, same_test}
@@ -156,65 +155,57 @@ distinct-too [] a = tt
 distinct-too (x ∷ xs) a = (a.0, distinct-too xs a.1)
 
 -- an element is among all
-in-all : (ys : List (List ℕ)) (i : ℕ) (d : List ℕ) → i < length ys
-    → among (rank (get_or ys i d)) (map rank ys) ≡ true
+in-all : (cs : List ℕ) (i d : ℕ) → i < length cs → among (get_or cs i d) cs ≡ true
 in-all [] i d l = absurd (omega arith)
-in-all (y ∷ ys) zero d l = in_head (rank y) (map rank ys)
-in-all (y ∷ ys) (suc i) d l = in_tail (rank (get_or ys i d)) (rank y) (map rank ys) (in-all ys i d (omega arith))
+in-all (c ∷ cs) zero d l = in_head c cs
+in-all (c ∷ cs) (suc i) d l = in_tail (get_or cs i d) c cs (in-all cs i d (omega arith))
 
 -- an element is not among those before it
-not-before : (ys : List (List ℕ)) (i : ℕ) (d : List ℕ) → i < length ys → AreDistinct (map rank ys)
-    → among (rank (get_or ys i d)) (map rank (take i ys)) ≡ false
+not-before : (cs : List ℕ) (i d : ℕ) → i < length cs → AreDistinct cs → among (get_or cs i d) (take i cs) ≡ false
 not-before [] i d l a = absurd (omega arith)
-not-before (y ∷ ys) zero d l a = refl
-not-before (y ∷ ys) (suc i) d l a =
-    ap₂ (λ b c. b || c) (ne_eqb (rank (get_or ys i d)) (rank y)
-    (λ e. true≢false (sym (in-all ys i d (omega arith)) ∙ ap (λ r. among r (map rank ys)) e ∙ a.0)))
-    (not-before ys i d (omega arith) a.1)
+not-before (c ∷ cs) zero d l a = refl
+not-before (c ∷ cs) (suc i) d l a =
+    ap₂ (λ b c. b || c) (ne_eqb (get_or cs i d) c
+    (λ e. true≢false (sym (in-all cs i d (omega arith)) ∙ ap (λ r. among r cs) e ∙ a.0)))
+    (not-before cs i d (omega arith) a.1)
 
 -- ---- the arrows of a cell of a grid
--- the states that are listed have the codes of the border of the state of the cell
+-- the indices that are listed are the codes of the border of the state of the cell
 pub listed-border : (g : Marks) (a : ℤ) (cells : List Cell)
     → AreCells (at_alexander a (grid_complex g)) (factorial (size g)) cells → (key : ℕ) → key < length cells
-    → (x : List ℕ) → x ≡ unrank (size g) (code_at cells key) → (items : List (List ℕ))
-    → items ≡ members (size g) (border_of g (single x)) → map rank items ≡ codes (border_of_state g x)
+    → (x : List ℕ) → x ≡ unrank (size g) (code_at cells key) → (items : List ℕ)
+    → items ≡ map rank (members (size g) (border_of g (single x))) → items ≡ codes (border_of_state g x)
 listed-border g a cells s key l x x_is items e =
     let below = code-below (at_alexander a (grid_complex g)) (factorial (size g)) cells s key l in
     let sx = IsBijection-unrank (size g) (code_at cells key) below in
-    targets_codes g x (subst (IsBijection (size g)) (sym x_is) sx) items e
+    e ∙ targets_codes g x (subst (IsBijection (size g)) (sym x_is) sx) (members (size g) (border_of g (single x))) refl
 
 module _ (g : Marks) (a : ℤ) (grid : IsGrid g) (cells : List Cell)
     (s : AreCells (at_alexander a (grid_complex g)) (factorial (size g)) cells) (keys : List ℕ) (k : AreKeys keys cells)
     (key : ℕ) (l : key < length cells)
-    (items : List (List ℕ)) (x : List ℕ) (x_is : x ≡ unrank (size g) (code_at cells key))
-    (border : map rank items ≡ codes (border_of_state g x)) where
-  -- the states are the targets
-  pub all-targets : (t : ℕ) → among t (map rank items) ≡ arrow (at_alexander a (grid_complex g)) (code_at cells key) t
+    (items : List ℕ) (x : List ℕ) (x_is : x ≡ unrank (size g) (code_at cells key))
+    (border : items ≡ codes (border_of_state g x)) where
+  -- the indices are the targets
+  pub all-targets : (t : ℕ) → among t items ≡ arrow (at_alexander a (grid_complex g)) (code_at cells key) t
   all-targets t =
       ap (among t) border ∙ sym (holds-codes (border_of_state g x) t) ∙ ap (λ y. holds (border_of_state g y) t) x_is
       ∙ ap (λ z. holds z t) (sym (targets-live g a (code_at cells key)
       (code-below (at_alexander a (grid_complex g)) (factorial (size g)) cells s key l)
       (ap is_some (degree-at (at_alexander a (grid_complex g)) (factorial (size g)) cells s key l))))
 
-  distinct-items : AreDistinct (map rank items)
+  distinct-items : AreDistinct items
   distinct-items =
       subst AreDistinct (sym border) (distinct-too (codes (border_of_state g x)) (IsApart-codes (border_of_state g x)))
 
   -- each is live
-  pub target-live : (i : ℕ) (d : List ℕ) → i < length items → is_live keys (rank (get_or items i d)) ≡ true
+  pub target-live : (i d : ℕ) → i < length items → is_live keys (get_or items i d) ≡ true
   target-live i d m =
-      let h : arrow (at_alexander a (grid_complex g)) (code_at cells key) (rank (get_or items i d)) ≡ true =
-      sym (all-targets (rank (get_or items i d))) ∙ in-all items i d m in
-      let (deg, up, down) = (part_rules g a grid).lowers (code_at cells key) (rank (get_or items i d)) h in
+      let h : arrow (at_alexander a (grid_complex g)) (code_at cells key) (get_or items i d) ≡ true =
+      sym (all-targets (get_or items i d)) ∙ in-all items i d m in
+      let (deg, up, down) = (part_rules g a grid).lowers (code_at cells key) (get_or items i d) h in
       cell-live (at_alexander a (grid_complex g)) (factorial (size g)) (part_rules g a grid) refl
-      (no_cell_past g a) cells s keys k (rank (get_or items i d)) (ap is_some down)
+      (no_cell_past g a) cells s keys k (get_or items i d) (ap is_some down)
 
   -- and comes once
-  pub target-fresh : (i : ℕ) (d : List ℕ) → i < length items
-      → among (rank (get_or items i d)) (map rank (take i items)) ≡ false
+  pub target-fresh : (i d : ℕ) → i < length items → among (get_or items i d) (take i items) ≡ false
   target-fresh i d m = not-before items i d m distinct-items
-
-  -- one more state was read
-  pub read-more : (i : ℕ) (d : List ℕ) → i < length items
-      → map rank (take (i + 1) items) ≡ map rank (take i items) ++ rank (get_or items i d) ∷ []
-  read-more i d m = ap (map rank) (take_more items i d m) ∙ map-append rank (take i items) (get_or items i d ∷ [])

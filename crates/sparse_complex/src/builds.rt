@@ -13,7 +13,7 @@ use crate::links::Links;
 use crate::slices::{AlexSlice, Cell, NO_KEY};
 use gradings::{DegreeTables, PossibleSums};
 use grid_ports::NoMemory;
-use rectangles::{FirstMarks, targets_by};
+use rectangles::{FirstMarks, target_indices};
 use state_rank::{State, state_count};
 use std::alloc::Global;
 use torus_geom::Grid;
@@ -190,11 +190,12 @@ fn push_arrows(
     requires below { AreLinksBelow (at_alexander a (grid_complex marks.now)) cells.now key links.old }
     ensures { OnOk result (AreLinksBelow (at_alexander a (grid_complex marks.now)) cells.now (key + 1) links.new) }
 {
-    let x = State::unrank(marks.size(), cells[key].code);
-    let states = targets_by(alloc, marks, &x);
-    links.reserve(states.len() as u64)?;
-    for y in states.as_slice() {
-        links.link(key as u32, keys[y.rank() as usize]);
+    let code = cells[key].code;
+    let x = State::unrank(marks.size(), code);
+    let targets = target_indices(alloc, marks, &x, code);
+    links.reserve(targets.len() as u64)?;
+    for target in targets.as_slice() {
+        links.link(key as u32, keys[*target as usize]);
     }
     Ok(())
 }

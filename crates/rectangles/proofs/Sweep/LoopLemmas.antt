@@ -36,6 +36,22 @@ pub all_toggled : (ys : List (List ℕ)) (z : Chain) → map rank ys ≡ codes z
 unfolding sum_over
 all_toggled ys z e = sym (ap total (map-map single rank ys)) ∙ ap (λ cs. total (map single cs)) e ∙ sum_over-singles z
 
+-- the same of codes
+abbrev pub sum_of_codes : List ℕ → Chain
+sum_of_codes cs = total (map single cs)
+
+pub one_more_code_toggled : (cs : List ℕ) (i : ℕ) (first old new : Chain) → i < length cs
+    → old ≡ first ⊕ sum_of_codes (take i cs) → new ≡ old ⊕ single (get_or cs i 0)
+    → new ≡ first ⊕ sum_of_codes (take (i + 1) cs)
+one_more_code_toggled cs i first old new l before step =
+    step ∙ ap (λ z. z ⊕ single (get_or cs i 0)) before
+    ∙ add_assoc first (sum_of_codes (take i cs)) (single (get_or cs i 0))
+    ∙ ap (λ u. first ⊕ u) (sym (total-take single cs i 0 l))
+
+pub all_codes_toggled : (cs : List ℕ) (z : Chain) → cs ≡ codes z → sum_of_codes cs ≡ z
+unfolding sum_over
+all_codes_toggled cs z e = ap sum_of_codes e ∙ sum_over-singles z
+
 -- one more border is added
 pub added : (g : Marks) (cs : List ℕ) (i n : ℕ) (x : List ℕ) (old new : Chain) → i < length cs → n ≡ size g
     → x ≡ unrank n (get_or cs i 0)

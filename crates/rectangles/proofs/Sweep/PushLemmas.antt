@@ -1,20 +1,18 @@
 -- What the loops keep that collect the odd pairs and append the exchanges.
-use Rattle.std.proofs.Common.{◌≡◌, ◌≢◌, ℕ, zero, suc, ◌+◌, ◌-◌, ◌*◌, ◌/◌, ◌%◌, ◌^◌, ◌<◌, ◌≤◌, Bool, true, false, not, ◌&&◌, ◌||◌, List, [], ◌∷◌, ◌++◌, length, map, take, set, slice_index, slice_index_or, swap, reverse, refl, ap, ap₂, subst, ◌∙◌, sym, eqb, ltb, arith, inl, inr, cond, bit_and, bit_or}
-use Rattle.std.proofs.lemmas.Bool.{cases_eq, eq-eqb, ne_eqb, lt-ltb, le-ltb}
-use Rattle.std.proofs.lemmas.List.{get_or-set_same, get_or-set_other, length-append, length-map, map-append, append_assoc, append-nil, take_more, take_all, length-reverse, get_or-reverse}
-use Rattle.std.proofs.lemmas.List.Elements.{filter_more}
-use Rattle.std.proofs.lemmas.List.Sums.{length-filter, sum_by-take-le}
+use Rattle.std.proofs.Common.{◌≡◌, ◌≢◌, ℕ, zero, suc, ◌+◌, ◌-◌, ◌*◌, ◌/◌, ◌%◌, ◌^◌, ◌<◌, ◌≤◌, Bool, true, false, not, ◌&&◌, ◌||◌, List, [], ◌∷◌, ◌++◌, length, map, take, set, slice_index, slice_index_or, reverse, refl, ap, ap₂, subst, ◌∙◌, sym, ltb, arith, inl, inr, cond, bit_and, bit_or}
+use Rattle.std.proofs.lemmas.Bool.{cases_eq, lt-ltb, le-ltb}
+use Rattle.std.proofs.lemmas.List.{get_or-set_same, get_or-set_other, length-append, length-map, map-append, append_assoc, append-nil, take_more, length-reverse, get_or-reverse}
 use Rattle.std.proofs.lemmas.List.Folds.{length-flat_map-take}
 use Rattle.std.proofs.lemmas.List.Concat.{flat_map-append}
 use Rattle.std.proofs.lemmas.Nat.Bits.{shr_and_one, bit_at-lt, bit_at-zero, bit_at_set_same, bit_at_set_other}
 use Rattle.std.specs.Int.{bit_at, w16}
-use Rattle.std.specs.List.{filter, flat_map}
-use Rattle.state_rank.specs.Bijection.{IsBijection, ascending, numbers}
+use Rattle.std.specs.List.{flat_map}
+use Rattle.state_rank.specs.Bijection.{IsBijection, ascending}
 use Rattle.state_rank.proofs.OrderLemmas.{get_or-tabulate, length-ascending}
 use Rattle.torus_geom.specs.Marks.{Marks}
-use Rattle.rectangles.specs.Inner.Open.{is_open, is_odd_pair, odd_bit, exchanges}
+use Rattle.rectangles.specs.Inner.Open.{is_open, is_odd_pair, odd_bit}
+use Rattle.state_rank.specs.States.{rank}
 use Rattle.state_rank.specs.declared.TheConstants.{MAX_SIZE}
-use Rattle.rectangles.proofs.Sweep.OrderedLists.{length-numbers, get_or-numbers}
 
 -- ---- an array that is filled from 0 on
 
@@ -116,92 +114,6 @@ odd_bit-open g x opens n a b la lb has =
     by true false false = refl
     by false u v = refl
 
--- ---- the exchanges of one circle
-
-module _ (x columns : List ℕ) (a odd : ℕ) where
-  -- one row more
-  exchanges_more : (rows : List ℕ) (i : ℕ) → i < length rows
-      → exchanges x columns a odd (take (i + 1) rows)
-      ≡ exchanges x columns a odd (take i rows)
-      ++ cond (eqb (bit_at odd (slice_index rows i)) 1) (swap x a (slice_index columns (slice_index rows i)) ∷ []) []
-  exchanges_more rows i l =
-      ap (map (λ r. swap x a (slice_index columns r))) (filter_more (λ r. eqb (bit_at odd r) 1) rows i 0 l)
-      ∙ map-append (λ r. swap x a (slice_index columns r)) (filter (λ r. eqb (bit_at odd r) 1) (take i rows))
-      (cond (eqb (bit_at odd (slice_index rows i)) 1) (slice_index rows i ∷ []) [])
-      ∙ ap (λ ys. exchanges x columns a odd (take i rows) ++ ys)
-      (by (eqb (bit_at odd (slice_index rows i)) 1) (slice_index rows i))
-    where
-      by : (t : Bool) (r : ℕ)
-          → map (λ r. swap x a (slice_index columns r)) (cond t (r ∷ []) [])
-          ≡ cond t (swap x a (slice_index columns r) ∷ []) []
-      by true r = refl
-      by false r = refl
-
-  exchanges_le : (rows : List ℕ) (i : ℕ)
-      → length (exchanges x columns a odd (take i rows)) ≤ length (exchanges x columns a odd rows)
-  exchanges_le rows i =
-      let e : length (exchanges x columns a odd (take i rows))
-      ≡ length (filter (λ r. eqb (bit_at odd r) 1) (take i rows)) =
-      length-map (filter (λ r. eqb (bit_at odd r) 1) (take i rows)) (λ r. swap x a (slice_index columns r)) in
-      let f : length (exchanges x columns a odd rows) ≡ length (filter (λ r. eqb (bit_at odd r) 1) rows) =
-      length-map (filter (λ r. eqb (bit_at odd r) 1) rows) (λ r. swap x a (slice_index columns r)) in
-      let p = length-filter (λ r. eqb (bit_at odd r) 1) (take i rows) in
-      let q = length-filter (λ r. eqb (bit_at odd r) 1) rows in
-      let l = sum_by-take-le (λ r. cond (eqb (bit_at odd r) 1) 1 0) rows i in
-      omega arith
-
-  module _ (from to r : ℕ) (low : from ≤ r) (high : r < to) (old items : List (List ℕ))
-      (h : items ≡ old ++ exchanges x columns a odd (take (r - from) (numbers from to))) where
-    place : slice_index (numbers from to) (r - from) ≡ r
-    place = get_or-numbers from to (r - from) 0 (omega arith) ∙ omega arith
-
-    next : (t : Bool) → eqb (bit_at odd r) 1 ≡ t
-        → exchanges x columns a odd (take (r + 1 - from) (numbers from to))
-        ≡ exchanges x columns a odd (take (r - from) (numbers from to))
-        ++ cond t (swap x a (slice_index columns r) ∷ []) []
-    next t e =
-        let n : r + 1 - from ≡ r - from + 1 = omega arith in
-        ap (λ i. exchanges x columns a odd (take i (numbers from to))) n
-        ∙ exchanges_more (numbers from to) (r - from) (let k = length-numbers from to in omega arith)
-        ∙ ap (λ q. exchanges x columns a odd (take (r - from) (numbers from to))
-        ++ cond (eqb (bit_at odd q) 1) (swap x a (slice_index columns q) ∷ []) []) place
-        ∙ ap (λ b. exchanges x columns a odd (take (r - from) (numbers from to))
-        ++ cond b (swap x a (slice_index columns r) ∷ []) []) e
-
-    set_from : bit_and (odd / 2 ^ r) 1 ≡ 1 → eqb (bit_at odd r) 1 ≡ true
-    set_from e = eq-eqb _ _ (sym (shr_and_one odd r) ∙ e)
-
-    -- one row more, whose bit is set
-    pub push_yes : bit_and (odd / 2 ^ r) 1 ≡ 1
-        → items ++ (swap x a (slice_index columns r) ∷ [])
-        ≡ old ++ exchanges x columns a odd (take (r + 1 - from) (numbers from to))
-    push_yes e = ap (λ ys. ys ++ (swap x a (slice_index columns r) ∷ [])) h ∙ append_assoc old _ _
-        ∙ ap (λ ys. old ++ ys) (sym (next true (set_from e)))
-
-    -- one row more, whose bit is not set
-    pub push_no : bit_and (odd / 2 ^ r) 1 ≢ 1
-        → items ≡ old ++ exchanges x columns a odd (take (r + 1 - from) (numbers from to))
-    push_no p = h ∙ ap (λ ys. old ++ ys) (sym (next false (ne_eqb _ _ (λ e. p (shr_and_one odd r ∙ e))) ∙ append-nil _))
-
-    -- there is room for its exchange
-    pub push_room : bit_and (odd / 2 ^ r) 1 ≡ 1
-        → length items + 1 ≤ length old + length (exchanges x columns a odd (numbers from to))
-    push_room e =
-        let y : List ℕ = swap x a (slice_index columns r) in
-        let i : length (items ++ (y ∷ []))
-        ≡ length (old ++ exchanges x columns a odd (take (r + 1 - from) (numbers from to))) = ap length (push_yes e) in
-        let j : length (items ++ (y ∷ [])) ≡ length items + 1 = length-append items (y ∷ []) in
-        let k = length-append old (exchanges x columns a odd (take (r + 1 - from) (numbers from to))) in
-        let l = exchanges_le (numbers from to) (r + 1 - from) in
-        omega arith
-
--- all rows
-pub push_all : (x columns : List ℕ) (a odd from to r : ℕ) → to ≤ r
-    → exchanges x columns a odd (take (r - from) (numbers from to)) ≡ exchanges x columns a odd (numbers from to)
-push_all x columns a odd from to r l =
-    ap (exchanges x columns a odd)
-    (take_all (r - from) (numbers from to) (let e = length-numbers from to in omega arith))
-
 -- ---- the exchanges of all circles
 
 module _ (f : ℕ → List (List ℕ)) (circles : List ℕ) (i : ℕ) (l : i < length circles) where
@@ -211,17 +123,22 @@ module _ (f : ℕ → List (List ℕ)) (circles : List ℕ) (i : ℕ) (l : i < l
       ∙ ap (λ ys. flat_map f (take i circles) ++ ys) (append-nil (f (slice_index circles i)))
 
   -- one circle more
-  pub circle_more : (old items : List (List ℕ)) (piece : List (List ℕ)) → items ≡ old ++ flat_map f (take i circles)
-      → piece ≡ f (slice_index circles i) → items ++ piece ≡ old ++ flat_map f (take (i + 1) circles)
+  pub circle_more : (old items : List ℕ) (piece : List (List ℕ)) → items ≡ old ++ map rank (flat_map f (take i circles))
+      → piece ≡ f (slice_index circles i)
+      → items ++ map rank piece ≡ old ++ map rank (flat_map f (take (i + 1) circles))
   circle_more old items piece h e =
-      ap₂ (λ ys zs. ys ++ zs) h e ∙ append_assoc old _ _ ∙ ap (λ ys. old ++ ys) (sym flat_map_more)
+      ap₂ (λ ys zs. ys ++ map rank zs) h e
+      ∙ append_assoc old _ _
+      ∙ ap (λ ys. old ++ ys) (sym (map-append rank (flat_map f (take i circles)) (f (slice_index circles i))))
+      ∙ ap (λ ys. old ++ map rank ys) (sym flat_map_more)
 
   -- there is room for its exchanges
-  pub circle_room : (old items : List (List ℕ)) (piece : List (List ℕ)) → items ≡ old ++ flat_map f (take i circles)
+  pub circle_room : (old items : List ℕ) (piece : List (List ℕ)) → items ≡ old ++ map rank (flat_map f (take i circles))
       → piece ≡ f (slice_index circles i) → length items + length piece ≤ length old + length (flat_map f circles)
   circle_room old items piece h e =
       let j : length items ≡ length old + length (flat_map f (take i circles)) =
-      ap length h ∙ length-append old (flat_map f (take i circles)) in
+      ap length h ∙ length-append old (map rank (flat_map f (take i circles)))
+      ∙ ap (λ k. length old + k) (length-map (flat_map f (take i circles)) rank) in
       let k : length piece ≡ length (f (slice_index circles i)) = ap length e in
       let m = length-flat_map-take f circles i 0 l in
       omega arith

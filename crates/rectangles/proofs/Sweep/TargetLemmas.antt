@@ -350,3 +350,11 @@ module _ (g : Marks) (s : IsGrid g) (x : List ℕ) (sx : IsBijection (size g) x)
       ++ flat_map (exchanges_above x (transpose x) odds) (reverse (ascending (size g))))
   unfolding lowered raised columns
   targets_states odds has = all_states odds has
+
+  -- and a row whose bit is set is that of a circle on the right
+  pub targets_right : (odds : List ℕ)
+      → ((a b : ℕ) → a < size g → b < size g
+      → bit_at (slice_index odds a) (slice_index x b) ≡ cond (ltb a b && is_odd_pair g x a b) 1 0)
+      → (a r : ℕ) → a < size g → r < size g → bit_at (slice_index odds a) r ≡ 1 → a < slice_index (transpose x) r
+  unfolding columns column
+  targets_right odds has a r la lr e = (partner odds has a r la lr (eq-eqb _ _ e)).order

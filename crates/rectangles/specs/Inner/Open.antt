@@ -5,11 +5,12 @@
 --     is_odd_pair g x a b                exactly one of the two rectangles between the circles a and b is open
 --     odd_bit opens a b                  1 where b is right of a and exactly one of the two is open by the sets of bits
 --                                        `opens`, else 0
+--     AreRowsBetween from to rows        the bits of `rows` are those of the rows from `from` up to `to`, without `to`
 --     exchanges x columns a odd rows     the exchanges of circle a with the circles of those of the rows whose bit is
 --                                        set in `odd`
 --     exchanges_below, exchanges_above   those with lower rows, which are before x, and those with higher rows, which
 --                                        are after x, where `odds` has the bits for each circle
-use Rattle.std.specs.Prelude.{ℕ, ◌+◌, ◌%◌, Bool, nat_lt, if◌then◌else◌, ◌&&◌, ◌||◌, not, List, length, map, slice_index, swap, ◌==◌}
+use Rattle.std.specs.Prelude.{◌≡◌, ℕ, ◌+◌, ◌%◌, ◌<◌, ◌≤◌, Bool, nat_lt, if◌then◌else◌, ◌&&◌, ◌||◌, not, List, length, map, slice_index, swap, ◌==◌}
 use Rattle.std.specs.Int.{bit_at}
 use Rattle.std.specs.List.{filter}
 use Rattle.state_rank.specs.Bijection.{numbers}
@@ -37,3 +38,8 @@ exchanges_below x columns odds a = exchanges x columns a (slice_index odds a) (n
 
 abbrev pub exchanges_above : List ℕ → List ℕ → List ℕ → ℕ → List (List ℕ)
 exchanges_above x columns odds a = exchanges x columns a (slice_index odds a) (numbers (slice_index x a + 1) (length x))
+
+pub record AreRowsBetween (from to rows : ℕ) : Type 0 where
+  pub inside : (r : ℕ) → from ≤ r → r < to → bit_at rows r ≡ 1
+  pub below : (r : ℕ) → r < from → bit_at rows r ≡ 0
+  pub above : (r : ℕ) → to ≤ r → bit_at rows r ≡ 0

@@ -1,8 +1,8 @@
--- The states so far are toggled.
+-- The targets so far are toggled.
 use Rattle.std.proofs.Common.{◌≡◌, take}
 use Rattle.f2_algebra.specs.Chain.{◌⊕◌}
-use Rattle.rectangles.proofs.Sweep.LoopLemmas.{sum_of_ranks}
+use Rattle.rectangles.proofs.Sweep.LoopLemmas.{sum_of_codes}
 use Rattle.rectangles.proofs.borders.toggle_targets.Given as goal
 
-abbrev pub invariant-loop-y : goal.invariant-loop-y
-invariant-loop-y l = l.sum ≡ l.initial.sum ⊕ sum_of_ranks (take l.y-index l.y-items)
+abbrev pub invariant-loop-target : goal.invariant-loop-target
+invariant-loop-target l = l.sum ≡ l.initial.sum ⊕ sum_of_codes (take l.target-index l.target-items)

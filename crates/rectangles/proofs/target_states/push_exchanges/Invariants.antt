@@ -1,10 +1,12 @@
-use Rattle.std.proofs.Common.{◌≡◌, ◌-◌, ◌++◌, take}
-use Rattle.state_rank.specs.Bijection.{numbers}
-use Rattle.rectangles.specs.Inner.Open.{exchanges}
+-- What was appended and what is to come is the whole.
+use Rattle.std.proofs.Common.{◌≡◌}
+use Rattle.rectangles.proofs.Sweep.RowBitLemmas.{IsPushing}
 use Rattle.rectangles.proofs.target_states.push_exchanges.Given as goal
 
-abbrev pub invariant-loop-r : goal.invariant-loop-r
-invariant-loop-r l =
-    (l.states.items
-    ≡ l.fn.states.items ++ exchanges l.x l.columns l.a l.odd (take (l.r - l.from) (numbers l.from l.to)))
-    × (l.states.capacity ≡ l.fn.states.capacity)
+abbrev pub invariant-loop-left : goal.invariant-loop-left
+invariant-loop-left l =
+    IsPushing l.x l.columns l.a l.rows l.fn.indices.items l.indices.items l.left
+    × (l.indices.capacity ≡ l.fn.indices.capacity)
+
+abbrev pub decreases-loop-left : goal.decreases-loop-left
+decreases-loop-left l = l.left
