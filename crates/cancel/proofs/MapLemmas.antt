@@ -50,7 +50,7 @@ toggled-sum z (x ∷ xs) apart =
     ∙ add_assoc z (single x) (of_codes xs)
     ∙ ap (λ c. z ⊕ c) (sym (of_codes-cons x xs apart.0))
 
--- where none is ahead, all were toggled
+-- if none is ahead, all were toggled
 pub toggled-all : (z w : Chain) (xs : List ℕ) (k : ℕ) → k ≡ length xs → AllPairs (λ b c. b ≢ c) xs
     → toggled_by w (drop k xs) ≡ toggled_by z xs → w ≡ z ⊕ of_codes xs
 toggled-all z w xs k all once so_far =
@@ -97,31 +97,31 @@ module _ (e : Entry) (z u v : Chain) (x_out : u ≡ where_code (λ t. not (eqb t
   both_out : v ≡ without e.x e.y z
   both_out = y_out ∙ ap (where_code (λ t. not (eqb t e.y))) x_out ∙ without-both e.x e.y z
 
-  -- the rest, where y was held
+  -- the rest, if y was held
   pub rest-held : (w : Chain) → holds z e.y ≡ true → w ≡ v ⊕ e.targets → w ≡ rest_of_one e z
   rest-held w is sum = sum ∙ ap₂ ◌⊕◌ both_out (ap (λ b. cond b e.targets nothing) (sym is))
 
-  -- and where it was not
+  -- and if it was not
   pub rest-not_held : holds z e.y ≡ false → v ≡ rest_of_one e z
   rest-not_held is_not =
       both_out ∙ sym (ap (λ b. without e.x e.y z ⊕ cond b e.targets nothing) is_not ∙ add-nothing (without e.x e.y z))
 
-  -- the pull, where the cochain meets the targets oddly
+  -- the pull, if the cochain meets the targets oddly
   pub pull-odd : (w : Chain) → pairs_oddly z e.targets ≡ true → w ≡ v ⊕ single e.y → w ≡ pull_of_one e z
   pull-odd w odd sum =
       sum ∙ ap₂ ◌⊕◌ both_out (ap (λ b. cond b (single e.y) nothing) (sym (pairs_oddly-comm e.targets z ∙ odd)))
 
-  -- and where it meets them evenly
+  -- and if it meets them evenly
   pub pull-even : pairs_oddly z e.targets ≡ false → v ≡ pull_of_one e z
   pull-even even = both_out
       ∙ sym (ap (λ b. without e.x e.y z ⊕ cond b (single e.y) nothing) (pairs_oddly-comm e.targets z ∙ even)
       ∙ add-nothing (without e.x e.y z))
 
--- the lift, where the chain meets the sources oddly
+-- the lift, if the chain meets the sources oddly
 pub lift-odd : (e : Entry) (z w : Chain) → pairs_oddly z e.sources ≡ true → w ≡ z ⊕ single e.x → w ≡ lift_of_one e z
 lift-odd e z w odd sum = sum ∙ ap (λ b. z ⊕ cond b (single e.x) nothing) (sym odd)
 
--- and where it meets them evenly
+-- and if it meets them evenly
 pub lift-even : (e : Entry) (z : Chain) → pairs_oddly z e.sources ≡ false → z ≡ lift_of_one e z
 lift-even e z even = sym (ap (λ b. z ⊕ cond b (single e.x) nothing) even ∙ add-nothing z)
 
@@ -188,7 +188,7 @@ held-on entries k d w u marks more all mark within so_far step is pushed =
     ∙ ap (λ xs. marks ++ held (log_of xs) w) (sym (drop-here entries k d within))
     ∙ so_far
 
--- where no entry is ahead
+-- if no entry is ahead
 pub none_ahead : (entries : List LogEntry) (k : ℕ) → k ≡ length entries → log_of (drop k entries) ≡ []
 none_ahead entries k all = ap (λ n. log_of (drop n entries)) all ∙ ap log_of (drop-length entries)
 

@@ -68,7 +68,7 @@ LeadsTo_IsPartlyCancelled first now next entries so_far same = record {
   is_after = ap slice_complex same ∙ so_far.is_after;
 }
 
--- where no arrow is left, the slice is reduced
+-- if no arrow is left, the slice is reduced
 pub LeadsTo_IsReduced : (first now : Slice) (entries : List LogEntry) → LeadsTo first now entries
     → ((s t : ℕ) → arrow (slice_complex now) s t ≡ false) → IsReduced first now (log_of entries)
 LeadsTo_IsReduced first now entries so_far none = record {
@@ -102,7 +102,7 @@ live_source s x y is = holds-live_codes s x ∙ by (fin.get s x) is
     by None h = absurd (false≢true (sym (holds-nothing y) ∙ h))
     by (Some v) h = refl
 
--- where an arrow was cancelled, fewer codes are live
+-- if an arrow was cancelled, fewer codes are live
 pub live_count_falls : (old new : Slice) (x y : ℕ) → arrow (slice_complex old) x y ≡ true
     → slice_complex new ≡ cancelled (slice_complex old) x y → live_count new < live_count old
 live_count_falls old new x y is left =

@@ -14,7 +14,7 @@ use f2_chain::{Builder, Chain, Cochain};
 use grid_ports::NoMemory;
 use std::alloc::Global;
 
-/// What a log makes of a chain: what is left of it after the log, and a chain of the first slice. Where
+/// What a log makes of a chain: what is left of it after the log, and a chain of the first slice. If
 /// the chain is a cycle, it is the sum of the lifts of `rest` and the border of `correction`.
 #[derive(Drop, Debug)]
 pub struct Pushed {

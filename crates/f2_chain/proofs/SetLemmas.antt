@@ -46,7 +46,7 @@ pub parity-take : (p : ℕ → Bool) (xs : List ℕ) (i : ℕ) → i < length xs
 parity-take p xs i l = ap (λ n. parity p (take n xs)) (add-one i) ∙ ap (parity p) (take-suc xs i 0 l)
     ∙ parity-push p (take i xs) (slice_index xs i)
 
--- the code toggles the parity where it is held
+-- the code toggles the parity if it is held
 pub xor-beq : (odd parity held is_in : Bool) → odd ≡ parity → held ≡ is_in → not (beq odd held) ≡ parity ⊻ is_in
 xor-beq odd parity held is_in e h =
     ap₂ (λ a b. not (beq a b)) e h ∙ same 2 (λ a b. not (beq a b)) (λ a b. a ⊻ b) refl parity is_in

@@ -32,7 +32,7 @@ fits ex eo ax bx ao bo xl xg ol og =
     (is_one_of ax ex bx && is_one_of ao eo bo) && ((is_one_of xl ex xg && is_one_of ol eo og) && not (ex && eo))
 
 module _ (n : ℕ) (f : ℕ → ℕ) (one : IsOneToOne n f) where
-  -- a row is that of a column just where the column is that of the row
+  -- a row is that of a column exactly if the column is that of the row
   pub column_of-cell : (c r : ℕ) → c < n → r < n → eqb (column_of n f r) c ≡ eqb r (f c)
   column_of-cell c r lc lr = elim (cases_eq r (f c)) [
     | inl e ↦ eq-eqb (column_of n f r) c (column_of-is n f one c r lc (sym e)) ∙ sym (eq-eqb r (f c) e)

@@ -70,7 +70,7 @@ fn writhe_of_column(g: &Grid, c: u8) -> i32
     sum
 }
 
-// The sign of the crossing at column c and row r, or 0 where there is none.
+// The sign of the crossing at column c and row r, or 0 if there is none.
 fn sign(g: &Grid, c: u8, r: u8) -> i32
     requires column { c < size g.now }
     requires row { r < size g.now }

@@ -1,4 +1,4 @@
--- What the program tells where its words ask for nothing.
+-- What the program tells if its words ask for nothing.
 --     usage_line    the line that tells which words the program knows
 use Rattle.std.specs.Prelude.{ℕ, List, [], ◌∷◌, ◌++◌, codes}
 

@@ -14,7 +14,7 @@ use std::alloc::Global;
 /// The line that tells which words the program knows.
 const USAGE: &str = "usage: gridhom run | cert | check | make --size N --seed K | compare\n";
 
-/// Does what the words ask for, and answers how the call ended. Where they ask for nothing, `errors` is told the
+/// Does what the words ask for, and answers how the call ended. If they ask for nothing, `errors` is told the
 /// usage.
 ///
 /// All that `gridhom` promises of its call is promised here.
@@ -36,13 +36,13 @@ pub(crate) fn answer<S: Source, K: Sink, E: Sink>(
         (map string_bytes words.now) text result
         (S.left src.new) (K.written out.old) (K.written out.new)) }
 
-    // Where a write failed or memory ran out, a prefix of such an answer was written.
+    // If a write failed or memory ran out, a prefix of such an answer was written.
     ensures begun { (mode : Mode) → IsForm (map string_bytes words.now) mode
         → (result ≡ Status.WriteFault) ⊎ (result ≡ Status.NoMemory)
         → IfSome (S.left src.old) (λ text. HasBegun (map string_bytes words.now) text
         (K.written out.old) (K.written out.new)) }
 
-    // Where no call fails, the answer is the status of the outcomes, memory aside.
+    // If no call fails, the answer is the status of the outcomes, memory aside.
     ensures answer { (mode : Mode) → IsForm (map string_bytes words.now) mode
         → S.faults src.new ≡ S.faults src.old → K.faults out.new ≡ K.faults out.old
         → IfSome (S.left src.old) (λ text. (status : Status) (answer : List ℕ)
@@ -94,14 +94,14 @@ pub(crate) fn answer<S: Source, K: Sink, E: Sink>(
     ensures taken { (mode : Mode) → IsForm (map string_bytes words.now) mode
         → TakesAtMost (most_read mode) (S.left src.old) (S.left src.new) }
 
-    // Where memory ran out, a part of a report is all that may be written.
+    // If memory ran out, a part of a report is all that may be written.
     ensures memory_keeps_sink { result ≡ Status.NoMemory
         → map string_bytes words.now ≢ codes "run" ∷ [] → out.new ≡ out.old }
     ensures memory_writes_no_refusal { result ≡ Status.NoMemory
         → IfSome (S.left src.old) (λ text. (answer : List ℕ) → IsRefusal text answer
         → out.new ≡ out.old) }
 
-    // The usage is told exactly then, where the sink does not fail.
+    // The usage is told exactly then, if the sink does not fail.
     ensures line { result ≡ Status.Usage → E.faults errors.new ≡ E.faults errors.old
         → Appends (E.written errors.old) (E.written errors.new) usage_line }
     ensures part_of_line { result ≡ Status.Usage

@@ -13,7 +13,7 @@ use std::io;
 use std::process::ExitCode;
 use std::rt::Env;
 
-/// The exit status where the list of arguments is refused. No call has it.
+/// The exit status if the list of arguments is refused. No call has it.
 const ARGUMENTS_REFUSED: u8 = 7;
 
 fn main(rt: HostRuntime) -> ExitCode {

@@ -18,7 +18,7 @@ use Rattle.f2_algebra.proofs.Ranks.RankLemmas.{rank_of_log, one_rank}
 use Rattle.torus_geom.specs.Counts.{sum_below, count_below, one_if}
 use Rattle.torus_geom.proofs.Sums.SumLemmas.{sum_below_but_two}
 
--- the value of a degree, 0 where there is none
+-- the value of a degree, 0 if there is none
 abbrev pub value_in : {G : Type 0} → (G → ℤ) → Option G → ℤ
 value_in value None = pos 0
 value_in value (Some m) = value m
@@ -104,7 +104,7 @@ count-filter p (suc n) = at_test (p n) (count-filter p n)
     at_test true before = omega (arith, ints)
     at_test false before = omega (arith, ints)
 
--- ---- where no arrow is left
+-- ---- if no arrow is left
 module _ {G : Type 0} (eq : G → G → Bool) (eq_is : (m n : G) → (eq m n ≡ true) ↔ (m ≡ n)) where
   -- the rank in degree m is the number of cells of this degree that a log leaves
   pub count-left : (C : Complex G) → IsComplex C → (n : ℕ) → IsBelow C n → (log : List Entry) → IsLog C log

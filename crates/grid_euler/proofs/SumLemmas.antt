@@ -121,7 +121,7 @@ few_rows rows ordered small k l =
         (small (suc k) none l) (ordered k (suc k) none (omega arith) l) in
         omega arith
 
--- where no row has the degree, the sum is 0
+-- if no row has the degree, the sum is 0
 pub alternating_sum-vanishes : (rows : List TableRow) → All IsSmall rows
     → Vanishes (alternating_sum (map homology_row rows))
 alternating_sum-vanishes [] small a far = refl

@@ -4,7 +4,7 @@
 -- of 1 - t^-1, up to sign.
 --     sum_of f xs             the sum of f x over the elements x of xs
 --     is_even m               the integer m is even
---     signed m d              d where m is even, else -d
+--     signed m d              d if m is even, else -d
 --     euler_part g a x        what the state x adds at the Alexander degree a: 1 with the sign of its Maslov degree if
 --                             its Alexander degree is a, else 0
 --     euler_number g a        the sum of these over all states

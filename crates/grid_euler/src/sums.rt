@@ -22,8 +22,8 @@ use torus_geom::Grid;
 // How many Alexander degrees there are from 1,000 down to -1,000.
 const PLACES: usize = 2001;
 
-/// The alternating sums of the table: at each Alexander degree the sum of the ranks, each with the sign + where its
-/// Maslov degree is even and - where it is odd.
+/// The alternating sums of the table: at each Alexander degree the sum of the ranks, each with the sign + if its
+/// Maslov degree is even and - if it is odd.
 ///
 /// # Errors
 ///
@@ -91,7 +91,7 @@ fn add_at(sums: &mut [i64], a: i32, term: i64)
     sums[(1000 - a) as usize] += term;
 }
 
-// `d` where `m` is even, else -`d`.
+// `d` if `m` is even, else -`d`.
 fn signed(m: i32, d: i64) -> i64
     requires { pos 0 ≤ℤ d }
     ensures { (n : ℕ) → d ≡ pos n → result ≡ signed_of m n }

@@ -13,7 +13,7 @@ use legendrian_class::Follower;
 use stabilise::{destabilise, stabilise};
 use std::alloc::Global;
 
-/// Goes past a command. Where memory runs out, grid and chain are as before.
+/// Goes past a command. If memory runs out, grid and chain are as before.
 pub(crate) fn follow(alloc: Global, p: &mut Follower, command: &Command) -> Result<(), NoMemory>
     requires { IsAllowed p.old.grid command.now }
     ensures after { OnOk result (followed_of p.new ≡ after_command (followed_of p.old) command.now) }

@@ -53,13 +53,13 @@ pub fn gridhom<S: Source, K: Sink>(
         (map string_bytes words.now) text result
         (S.left src.new) (K.written out.old) (K.written out.new)) }
 
-    // Where a write failed or memory ran out, a prefix of such an answer was written.
+    // If a write failed or memory ran out, a prefix of such an answer was written.
     ensures begun { (mode : Mode) → IsForm (map string_bytes words.now) mode
         → (result ≡ Status.WriteFault) ⊎ (result ≡ Status.NoMemory)
         → IfSome (S.left src.old) (λ text. HasBegun (map string_bytes words.now) text
         (K.written out.old) (K.written out.new)) }
 
-    // Where no call fails, the answer is the status of the outcomes, memory aside.
+    // If no call fails, the answer is the status of the outcomes, memory aside.
     ensures answer { (mode : Mode) → IsForm (map string_bytes words.now) mode
         → S.faults src.new ≡ S.faults src.old → K.faults out.new ≡ K.faults out.old
         → IfSome (S.left src.old) (λ text. (status : Status) (answer : List ℕ)
@@ -111,7 +111,7 @@ pub fn gridhom<S: Source, K: Sink>(
     ensures taken { (mode : Mode) → IsForm (map string_bytes words.now) mode
         → TakesAtMost (most_read mode) (S.left src.old) (S.left src.new) }
 
-    // Where memory ran out, a part of a report is all that may be written.
+    // If memory ran out, a part of a report is all that may be written.
     ensures memory_keeps_sink { result ≡ Status.NoMemory
         → map string_bytes words.now ≢ codes "run" ∷ [] → out.new ≡ out.old }
     ensures memory_writes_no_refusal { result ≡ Status.NoMemory
@@ -128,7 +128,7 @@ pub fn gridhom<S: Source, K: Sink>(
     ensures certificates_pass { (text answer : List ℕ) → IsOutcome Mode.Cert text Status.Done answer
         → IsOutcome Mode.Check answer Status.Done yes_line }
 
-    // A yes of `check` tells the table of the grid of the certificate, whoever made it.
+    // A yes of `check` implies the table of the grid of the certificate, whoever made it.
     ensures yes_tells_the_table { (text answer : List ℕ) → IsOutcome Mode.Check text Status.Done answer
         → (c : Certificate) × IsCertificate c × (text ≡ certificate_text c)
         × IsHomologyTable c.grid (certified_rows c.cells) }

@@ -63,7 +63,7 @@ impl From<NoMemory> for ReportEnd {
     }
 }
 
-/// Writes a report of the commands on the grid, in this version. Where it ends early, a prefix of a report is written.
+/// Writes a report of the commands on the grid, in this version. If it ends early, a prefix of a report is written.
 pub fn write_report<K: Sink>(
     alloc: Global,
     version: u8,

@@ -11,7 +11,7 @@ use homology_cert::{rank_table, rank_table_multi};
 use std::alloc::Global;
 use torus_geom::Grid;
 
-/// The table of the grid in force, and its table by component, where they were made.
+/// The table of the grid in force, and its table by component, if they were made.
 #[derive(Drop)]
 pub(crate) struct Tables {
     pub(crate) whole: Option<Table>,
@@ -72,7 +72,7 @@ fn component_table_of(alloc: Global, g: &Grid) -> Result<MultiTable, NoMemory>
     rank_table_multi(alloc, g)
 }
 
-/// Drops the tables where the command has moved their grid.
+/// Drops the tables if the command has moved their grid.
 pub(crate) fn forget_if_moved(tables: &mut Tables, command: &Command)
     ensures { (g : Marks) → AreTablesOf g tables.old
         → AreTablesOf (grid_after g command.now) tables.new }

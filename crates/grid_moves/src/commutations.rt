@@ -42,7 +42,7 @@ fn swapped_columns(g: &Grid, c: u8) -> Grid
 /// and going round the circle of rows the marks of the one column do not separate those of the other.
 ///
 /// `c` is from 0 to n - 1; at 0 they are the last and the first, across the seam of the torus. Rows commute
-/// where they do as columns of the transposed grid (Ozsváth, Stipsicz and Szabó, "Grid Homology for Knots
+/// if they do as columns of the transposed grid (Ozsváth, Stipsicz and Szabó, "Grid Homology for Knots
 /// and Links", chapter 3; the seam is this project's own).
 pub fn commutes(g: &Grid, axis: Axis, c: u8) -> bool
     requires { c < size g.now }
@@ -54,7 +54,7 @@ pub fn commutes(g: &Grid, axis: Axis, c: u8) -> bool
     }
 }
 
-/// The grid with columns (or rows) `c - 1` and `c` exchanged, where they commute.
+/// The grid with columns (or rows) `c - 1` and `c` exchanged, if they commute.
 pub fn swap(g: &Grid, axis: Axis, c: u8) -> Grid
     requires below { c < size g.now }
     requires commutes { IsTrue (are_commuting axis g.now c) }

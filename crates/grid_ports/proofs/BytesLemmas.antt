@@ -67,7 +67,7 @@ Takes-append a b c xs buffer n k most long first second within whole =
     Takes-from_consumed a c (xs ++ take k buffer) most (Consumes-append a b c xs (take k buffer) first second)
     (omega (arith, length-append xs (take k buffer), length-take k buffer))
 
--- where a write failed, what was written before is a prefix
+-- if a write failed, what was written before is a prefix
 pub AppendsPrefix-keep : (a b c : Option (List ℕ)) (n : ℕ) (bs : List ℕ) → Appends a b (take n bs) → Keeps b c
     → AppendsPrefix a c bs
 AppendsPrefix-keep a b c n bs written kept =

@@ -1,5 +1,5 @@
--- The bytes that a source has left and those that were written to a sink, where it tells them: `None`
--- where it does not, and then nothing is said. More words of this kind are std's, of `Io.KnownBytes`:
+-- The bytes that a source has left and those that were written to a sink, if it tells them: `None`
+-- if it does not, and then nothing is said. More words of this kind are std's, of `Io.KnownBytes`:
 -- `Consumes`, `Appends`, `Keeps`, `IsAtEnd`.
 --     Takes k old new              the first k of the bytes left are gone
 --     TakesAtMost most old new     the same for some k up to `most`

@@ -1,4 +1,4 @@
-//! What a call answers where it cannot go on.
+//! What a call answers if it cannot go on.
 ghost use Rattle.std.specs.Prelude.{◌≡◌};
 
 use std::alloc::{AllocError, AllocFailed};

@@ -1,7 +1,7 @@
 //! Sources and sinks of bytes, and reading and writing whole texts through them.
 //!
 //! Read the traits `Source` and `Sink` first, then `read_all` and `write_all`. Each failure of a source
-//! or sink is counted, so that a contract can say that an answer comes only where something failed.
+//! or sink is counted, so that a contract can say that an answer comes only if something failed.
 //! `MemSource` and `MemSink` are in memory, and fail at the calls that their lists name; `StdSource` and
 //! `StdSink` adapt a std reader and writer, and no contract speaks of their bytes.
 //!

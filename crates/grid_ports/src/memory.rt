@@ -128,7 +128,7 @@ impl Model for MemSink {
 
 impl MemSink {
     /// An empty sink that holds up to `room` bytes, takes at most `piece` of them a write, and fails at
-    /// the writes whose numbers, counted from 1, are in `fails`, and where there is no room left.
+    /// the writes whose numbers, counted from 1, are in `fails`, and if there is no room left.
     ///
     /// # Errors
     ///

@@ -7,7 +7,7 @@ use crate::errors::Failed;
 
 /// A source of bytes.
 pub trait Source {
-    /// The bytes that are left, where the source tells them.
+    /// The bytes that are left, if the source tells them.
     ghost left: { Self → Option (List ℕ) };
 
     /// The number of reads that have failed.
@@ -36,7 +36,7 @@ pub trait Source {
 
 /// A sink for bytes.
 pub trait Sink {
-    /// The bytes written so far, where the sink tells them.
+    /// The bytes written so far, if the sink tells them.
     ghost written: { Self → Option (List ℕ) };
 
     /// The number of writes that have failed.

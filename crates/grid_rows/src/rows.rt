@@ -11,7 +11,7 @@
 //!     ! read A B     the row is tried with each of the reads from A to B failing; all reads and writes are of one byte
 //!     ! write A B    the same for the writes
 //!     ! room N       the sink has room for so many bytes
-//!     = STATUS       the exit status of the last call, 0 where no line says otherwise
+//!     = STATUS       the exit status of the last call, 0 if no line says otherwise
 //!     > LINE         a line that the last call writes
 //!     , TEXT         the same, with no end of line
 //!     ? LINE | LINE  the same, one of these
@@ -26,7 +26,7 @@ use std::alloc::Global;
 use std::process::Abort;
 use std::test::Fail;
 
-/// The room of a sink where a row says nothing of it.
+/// The room of a sink if a row says nothing of it.
 const ROOM: usize = 1 << 20;
 
 /// The read and the write that fail, counted from 1, and the room of the sink.

@@ -1,4 +1,4 @@
-//! Classes and chains: null, alive, or no cycle. Where several sets are evidence, a row names all of them, or a state
+//! Classes and chains: null, alive, or no cycle. If several sets are evidence, a row names all of them, or a state
 //! that each of them has.
 
 /// Classes, and chains of one degree and of several.

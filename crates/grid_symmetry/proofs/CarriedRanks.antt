@@ -94,7 +94,7 @@ module _ (g h : Marks) (f : List ℕ → List ℕ) (same_size : size h ≡ size 
         ∙ sym (ap (λ z. holds z t) (targets-past g s a) ∙ holds-nothing t)
   ]
 
-  -- the same where f turns arrows round
+  -- the same if f turns arrows round
   reversed_arrows_of_codes :
       ((x y : List ℕ) → IsBijection (size g) x → IsBijection (size g) y → holds (border_of_state h (f y)) (rank (f x))
       ≡ holds (border_of_state g x) (rank y))

@@ -190,7 +190,7 @@ module _ (n : ℕ) (O X f O' X' u h : ℕ → ℕ) (a b : ℕ) (la : a < n) (lb 
       (λ c. false || not (between a b c && marks O X (between j k) c)) (λ c l.
       λ i. not (between-from_right n a b c la lb l i && (between j k (back_o c l i) || between j k (back_x c l i))))
 
-  -- the rectangle of circles a and b of f is open where the reflected one is, of u
+  -- the rectangle of circles a and b of f is open if the reflected one is, of u
   pub open_reflected : is_open n O' X' u (opposite n b) (opposite n a) ≡ is_open n O X f a b
   open_reflected =
       ap₂ (λ s t. differ (opposite n b) (opposite n a)
@@ -203,7 +203,7 @@ module _ (n : ℕ) (O X f O' X' u h : ℕ → ℕ) (a b : ℕ) (la : a < n) (lb 
       (ap₂ (λ p q. p && q) (clear_reflected (f a) (f b)) (unmarked_reflected (f a) (f b)))
 
 -- ---- steps
--- two tests that agree where a third holds
+-- two tests that agree if a third holds
 guarded : (b c t : Bool) → (t ≡ true → b ≡ c) → (b && t) ≡ (c && t)
 guarded b c true h = ap (λ d. d && true) (h refl)
 guarded b c false h = and-false b ∙ sym (and-false c)
@@ -214,7 +214,7 @@ module _ (g : Marks) (s : IsGrid g) where
 
   module _ (x y : List ℕ) (sx : IsBijection (size g) x) (sy : IsBijection (size g) y) (a b : ℕ) (la : a < size g)
       (lb : b < size g) where
-    -- y is the state that x leads to where the reflected x is the one that the reflected y leads to
+    -- y is the state that x leads to if the reflected x is the one that the reflected y leads to
     same_end : eqb (rank (reflected_state x)) (rank (swap (reflected_state y) (opposite n b) (opposite n a)))
         ≡ eqb (rank y) (rank (swap x a b))
     same_end =

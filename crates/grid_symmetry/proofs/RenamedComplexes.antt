@@ -32,7 +32,7 @@ module _ (p : ℕ → ℕ) (undoes : UndoesItself p) where
   renamed-sum : (z : Chain) → renamed p z ≡ sum_over z (λ c. single (p c))
   renamed-sum z = codes_renamed.renamed-sum p p undoes undoes z
 
-  -- where arrows go to arrows, the sum of the targets of the renamed chain is the renamed sum
+  -- if arrows go to arrows, the sum of the targets of the renamed chain is the renamed sum
   pub sum_over-renamed : (f g : ℕ → Chain) → ((s t : ℕ) → holds (g (p s)) (p t) ≡ holds (f s) t) → (z : Chain)
       → sum_over (renamed p z) g ≡ renamed p (sum_over z f)
   sum_over-renamed f g arrows z = same_chain _ _ (λ q.
@@ -132,7 +132,7 @@ renamed_complex_IsRenamed C p undoes = record {
   arrows = λ s t. holds-renamed p undoes (C.targets (p (p s))) (p t) ∙ ap₂ (λ a b. arrow C a b) (undoes s) (undoes t);
 }
 
--- the degree that `flip` makes of a degree, where there is one
+-- the degree that `flip` makes of a degree, if there is one
 abbrev pub flipped_degree : {G : Type 0} → (G → G) → Option G → Option G
 flipped_degree flip None = None
 flipped_degree flip (Some m) = Some (flip m)

@@ -27,7 +27,7 @@ BeginsWith-more f into k v h room e = record {
   ];
 }
 
--- Where a loop over the n columns has made all of them, the first n elements are the list. F is f by the size.
+-- If a loop over the n columns has made all of them, the first n elements are the list. F is f by the size.
 pub take-tabulated : (F : ℕ → ℕ → ℕ) (x into : List ℕ) (n k : ℕ) → IsState x → n ≡ length x → n ≤ k
     → BeginsWith (F n) into k → take n into ≡ tabulate (length x) (F (length x))
 take-tabulated F x into n k state e far h =

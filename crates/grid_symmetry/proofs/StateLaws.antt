@@ -61,21 +61,21 @@ module _ (g h : Marks) (f : List ℕ → List ℕ) (same_size : size h ≡ size 
       ∙ states_of-carried (size g) f keeps (on_codes z) (below z)
       ∙ ap (carried (size g) f) (stands z ranks))
 
--- where steps go to steps, the border goes to the border
+-- if steps go to steps, the border goes to the border
 border_of_carried : (g h : Marks) (f : List ℕ → List ℕ) → CarriesSteps g h f → (z : Chain) → IsChain (size g) z
     → border h (carried (size g) f z) ≡ carried (size g) f (border g z)
 border_of_carried g h f c =
     border-carried_chain g h f c.same_size c.inverse.kept (code_border.border g) (border g) (AreIndices-border g)
     (states_of-border g) (border-carried g h f c)
 
--- where they are turned round, the coborder does
+-- if they are turned round, the coborder does
 coborder_of_carried : (g h : Marks) (f : List ℕ → List ℕ) → ReversesSteps g h f → (z : Chain) → IsChain (size g) z
     → border h (carried (size g) f z) ≡ carried (size g) f (coborder g z)
 coborder_of_carried g h f c =
     border-carried_chain g h f c.same_size c.inverse.kept (code_coranks.coborder g) (coborder g) (AreIndices-coborder g)
     (states_of-coborder g) (border-reversed g h f c)
 
--- a chain of states is carried to itself where each state stays
+-- a chain of states is carried to itself if each state stays
 pub carried-same : (n : ℕ) (z : Chain) → IsChain n z → carried n (λ x. x) z ≡ z
 unfolding carried
 carried-same n z sz = same_states (carried n (λ x. x) z) z (λ y.

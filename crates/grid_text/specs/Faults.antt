@@ -1,5 +1,5 @@
 -- The first fault of lines that are no document. The table has a row for each fault; at a place a line that is
--- not blank has the fault of the first row whose test passes, and none where no test passes. A blank line has none.
+-- not blank has the fault of the first row whose test passes, and none if no test passes. A blank line has none.
 --
 -- Kinds of words, and forms of lines:
 --     Kind                what a word may be: one of some words, a number between two, a state of a size

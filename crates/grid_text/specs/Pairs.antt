@@ -1,7 +1,7 @@
 -- Texts of two documents, one after the other: a line whose only word is `next` parts them.
 --     next_word                      its word
 --     is_next words                  a line with these words is such a line
---     first_part lines               the lines before the first such line, all where there is none
+--     first_part lines               the lines before the first such line, all if there is none
 --     second_part lines              the lines after it, if there is one
 --     IsPair text s t                the two parts are documents, the first of the script s, the second of t
 --     PairFault                      what a pair of documents may lack: a part has a fault of a document, or there is

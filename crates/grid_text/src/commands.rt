@@ -38,7 +38,7 @@ impl Model for StateList {
 }
 
 impl StateList {
-    /// The list of these states, where they are of one size and strictly ascending.
+    /// The list of these states, if they are of one size and strictly ascending.
     pub fn of(states: Vec<State>) -> Option<StateList>
         ensures states { IfSome result (λ z. z ≡ states.items) }
         ensures ascending { OnSome result (AreStates states.items) }

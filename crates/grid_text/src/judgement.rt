@@ -57,7 +57,7 @@ impl From<NoMemory> for TextEnd {
 ///
 /// # Errors
 ///
-/// `Refused` exactly where the text is no document; `NoMemory` if the allocator refuses.
+/// `Refused` exactly if the text is no document; `NoMemory` if the allocator refuses.
 pub fn judge(alloc: Global, text: &[u8]) -> Result<Judged, TextEnd>
     requires { length text.now ≤ max_text }
     ensures document { IfOk result (λ j. IsDocument text.now j.script) }
@@ -80,7 +80,7 @@ pub fn judge(alloc: Global, text: &[u8]) -> Result<Judged, TextEnd>
     ensures one_head { (other : List ℕ) (line number : ℕ) → IsHeadLine (words_of_lines other) line
         → IsHeadLine (words_of_lines other) number → line ≡ number }
 
-    // At a place that lines lead to, a line is allowed exactly where no row of the table holds, and
+    // At a place that lines lead to, a line is allowed exactly if no row of the table holds, and
     // then it leads to one place.
     ensures allowed { (lines : List (List Word)) (p : PlaceOf) (words : List Word) → Path head lines p
         → (line_fault p words ≡ None) ↔ ((q : PlaceOf) × Leads p words q) }

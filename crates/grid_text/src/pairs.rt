@@ -47,10 +47,10 @@ impl From<NoMemory> for PairEnd {
 }
 
 /// The scripts of the two documents that the first line whose only word is `next` parts, or what the text is
-/// refused for: the first fault of the first part, which is the whole text where there is no such line; then that
+/// refused for: the first fault of the first part, which is the whole text if there is no such line; then that
 /// there is none; then the first fault of the second part.
 ///
-/// Lines are counted from 1, in the whole text. Where there is no line `next`, the number is one more than that of
+/// Lines are counted from 1, in the whole text. If there is no line `next`, the number is one more than that of
 /// the last line.
 ///
 /// # Errors
@@ -141,7 +141,7 @@ fn judge_part(alloc: Global, part: &[u8], before: u32) -> Result<Script, PairEnd
     }
 }
 
-// The texts of the lines before the first line `next` and after it, with the number of this line; where there is
+// The texts of the lines before the first line `next` and after it, with the number of this line; if there is
 // none, the number is one more than that of the last line.
 fn parts_at_next<'a>(
     alloc: Global,

@@ -40,7 +40,7 @@ pub(crate) enum Place {
     Ended(Script),
 }
 
-/// The place to which a line with these words leads, or its fault, where it is not blank.
+/// The place to which a line with these words leads, or its fault, if it is not blank.
 pub(crate) fn next_place(
     alloc: Global,
     place: Place,
@@ -229,7 +229,7 @@ fn read_numbers(words: &[&[u8]], n: u8) -> Option<[u8; ROOM]>
     Some(rows)
 }
 
-// The words after the first, where that is the one expected.
+// The words after the first, if that is the one expected.
 fn words_after<'a>(expected: &[u8], words: &'a [&'a [u8]]) -> Option<&'a [&'a [u8]]>
     ensures some { IfSome result (λ rest.
         map (λ w. w.now) words.now ≡ expected.now ∷ map (λ w. w.now) rest.now) }

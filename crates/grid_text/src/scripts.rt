@@ -16,8 +16,8 @@ use torus_geom::Grid;
 
 /// A version, 1 or 2, a grid and at most `MAX_COMMANDS` commands, each of which may stand where it does.
 ///
-/// A command may stand where its states have the size of the grid in force there, which is the grid after the moves
-/// before it, and where its columns or rows commute in that grid, it has room for one column more, or it has the block.
+/// A command may stand if its states have the size of the grid in force there, which is the grid after the moves
+/// before it, and if its columns or rows commute in that grid, it has room for one column more, or it has the block.
 #[derive(Drop)]
 pub struct Script {
     version: u8,

@@ -52,7 +52,7 @@ fn has_plain_start(word: &[u8]) -> bool
     }
 }
 
-/// The first line of a text, and what follows it, where there are bytes.
+/// The first line of a text, and what follows it, if there are bytes.
 pub(crate) fn first_line(text: &[u8]) -> Option<(&[u8], &[u8])>
     ensures none { IfNone result (text.now ≡ []) }
     ensures some { IfSome result (λ p. lines_of text.now ≡ p.0.now ∷ lines_of p.1.now) }
@@ -78,7 +78,7 @@ fn without_return(line: &[u8]) -> &[u8]
     line
 }
 
-// The bytes up to the first of `ends`, or all, and what follows it, where there are bytes.
+// The bytes up to the first of `ends`, or all, and what follows it, if there are bytes.
 fn next_part<'a>(bytes: &'a [u8], ends: &[u8]) -> Option<(&'a [u8], &'a [u8])>
     ensures none { IfNone result (bytes.now ≡ []) }
     ensures some { IfSome result (λ p. parts (is_among ends.now) bytes.now

@@ -49,7 +49,7 @@ right_factor x y h = elim (cases_lt 0 y) [
   | inr l ↦ let none : y ≡ 0 = omega arith in absurd (omega (arith, ap (λ z. x * z) none))
 ]
 
--- where the product has a row, the table has one at most k steps up
+-- if the product has a row, the table has one at most k steps up
 pub product-found : (k : ℕ) (rows : List TableRow) (m a : ℤ) → 0 < product_rank k rows m a
     → (i : ℕ) × (i ≤ k) × (0 < rank_at rows (m +ℤ pos i) (a +ℤ pos i))
 product-found k rows m a h =
@@ -120,7 +120,7 @@ steps_up row m a i s = let degrees = degrees_of row (m +ℤ pos i) (a +ℤ pos i
     back : (x z : ℤ) (i : ℕ) → x ≡ z +ℤ pos i → x -ℤ pos i ≡ z
     back x z i e = omega (arith, ints)
 
--- where the product has a row, a step down from a row of the table leads there
+-- if the product has a row, a step down from a row of the table leads there
 pub product-step : (k : ℕ) (rows : List TableRow) (m a : ℤ) → 0 < product_rank k rows m a
     → (i : ℕ) × (i ≤ k) × (j : ℕ) × (j < length rows)
     × ((d : TableRow) → ((get_or rows j d).m -ℤ pos i ≡ m) × ((get_or rows j d).a -ℤ pos i ≡ a))

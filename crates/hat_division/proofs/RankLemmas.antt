@@ -69,7 +69,7 @@ unfolding rank_at
 rank_at-le rows i d m a l s =
     omega (arith, get_or-le-sum_by (λ r. part_at r m a) rows i d l, part_at-here (get_or rows i d) m a s)
 
--- where no row is, the rank is 0
+-- if no row is, the rank is 0
 pub rank_at-none : (rows : List TableRow) (m a : ℤ) → All (λ row. stands_at row m a ≡ false) rows → rank_at rows m a ≡ 0
 rank_at-none [] m a h = rank_at-nil m a
 rank_at-none (row ∷ rows) m a h =
@@ -80,7 +80,7 @@ rank_at-none (row ∷ rows) m a h =
       rank_at-none rows m a (All-tail (λ r. stands_at r m a ≡ false) row rows h),
     )
 
--- where the rank is above 0, there is a row
+-- if the rank is above 0, there is a row
 pub row_found : (rows : List TableRow) (m a : ℤ) → 0 < rank_at rows m a
     → (i : ℕ) × (i < length rows) × ((d : TableRow) → stands_at (get_or rows i d) m a ≡ true)
 row_found [] m a h = absurd (omega (arith, rank_at-nil m a))

@@ -70,13 +70,13 @@ pascal : (n i : ℕ) → binomial (suc n) (suc i) ≡ binomial n i + binomial n 
 unfolding binomial
 pascal n i = refl
 
--- there is a way to choose i of n where i is at most n
+-- there is a way to choose i of n if i is at most n
 pub binomial-positive : (n i : ℕ) → i ≤ n → 1 ≤ binomial n i
 binomial-positive n zero l = omega (arith, binomial-none n)
 binomial-positive zero (suc i) l = absurd (omega arith)
 binomial-positive (suc n) (suc i) l = omega (arith, pascal n i, binomial-positive n i (omega arith))
 
--- and none where i is above n
+-- and none if i is above n
 binomial-above : (n i : ℕ) → n < i → binomial n i ≡ 0
 binomial-above n zero l = absurd (omega arith)
 binomial-above zero (suc i) l = binomial-start i

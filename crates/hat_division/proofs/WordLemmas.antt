@@ -24,7 +24,7 @@ use Rattle.hat_division.proofs.ProductLemmas.{shifted-positive, rank_at-bounded}
 pub IfSome-value : {X : Type 0} (P : X → Type 0) (o : Option X) (x : X) → o ≡ Some x → IfSome o P → P x
 IfSome-value {X = X} P o x e h = let Q = λ (y : Option X). IfSome y P in subst Q e h
 
--- rows are equal where their fields are
+-- rows are equal if their fields are
 pub same_row : (p q : TableRow) → Decides (int_eq p.m q.m && (int_eq p.a q.a && eqb p.rank q.rank)) (p ≡ q)
 same_row p q = (
   λ h.

@@ -1,8 +1,8 @@
 -- Tables as polynomials: a row (m, a, d) is the term d q^m t^a. A table is multiplied by a power of
 -- 1 + q^-1 t^-1, and divided by it.
 --     stands_at row m a            the row stands in the bidegree (m, a)
---     part_at row m a              the part of a row in the bidegree (m, a): its rank, or 0 where it stands elsewhere
---     rank_at rows m a             the rank in the bidegree (m, a): that of the row there, or 0 where there is none. In
+--     part_at row m a              the part of a row in the bidegree (m, a): its rank, or 0 if it stands elsewhere
+--     rank_at rows m a             the rank in the bidegree (m, a): that of the row there, or 0 if there is none. In
 --                                  a table at most one row is there; of a list with more, it is the sum
 --     binomial n i                 the number of ways to choose i things of n
 --     sum_first n f                f 0 + f 1 + .. + f (n - 1)

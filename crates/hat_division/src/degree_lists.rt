@@ -38,7 +38,7 @@ impl Model for DegreeList {
 }
 
 impl DegreeList {
-    /// The list of these numbers, where they are 1 to `MAX_COMPONENTS`.
+    /// The list of these numbers, if they are 1 to `MAX_COMPONENTS`.
     pub fn of(degrees: &[i32]) -> Option<DegreeList>
         ensures accepted { IsSome result ↔ IsDegreeList degrees.now }
         ensures degrees { IfSome result (λ d. d ≡ degrees.now) }

@@ -11,7 +11,7 @@ use grid_ports::NoMemory;
 use std::alloc::Global;
 
 /// The quotient of the table by the powers of 1 + q^-1 t_i^-1 with these exponents, one for each component: the one
-/// table whose product with them is the table, or `None` where no table has this product.
+/// table whose product with them is the table, or `None` if no table has this product.
 ///
 /// A row (m, d, r) is the term r q^m t_1^(d_1) .. t_l^(d_l), but the term q^-1 t_i^-1 lowers d_i by two.
 ///

@@ -91,7 +91,7 @@ impl Model for MultiTable {
 }
 
 impl MultiTable {
-    /// The table with these rows, or `None` where they are not those of a table.
+    /// The table with these rows, or `None` if they are not those of a table.
     pub fn of(rows: Vec<MultiRow>) -> Option<MultiTable>
         ensures accepted { IsSome result ↔ IsMultiTable rows.items }
         ensures rows { IfSome result (λ t. t ≡ rows.items) }

@@ -89,7 +89,7 @@ impl Model for Table {
 }
 
 impl Table {
-    /// The table with these rows, or `None` where they are not those of a table.
+    /// The table with these rows, or `None` if they are not those of a table.
     pub fn of(rows: Vec<TableRow>) -> Option<Table>
         ensures accepted { IsSome result ↔ IsTable rows.items }
         ensures rows { IfSome result (λ t. t ≡ rows.items) }

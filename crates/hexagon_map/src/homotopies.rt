@@ -103,7 +103,7 @@ pub fn homotopy(
     // and the same table.
     ensures table { (rows : List Row) → IsHomologyTable g.now rows ↔ IsHomologyTable (swapped axis g.now c) rows }
 
-    // A cycle bounds exactly where its image bounds in the exchanged grid.
+    // A cycle bounds exactly if its image bounds in the exchanged grid.
     ensures bounds { (y : States) → IsChain (size g.now) y → border g.now y ≡ nothing
         → Bounds g.now y ↔ Bounds (swapped axis g.now c) (image axis g.now c corner y) }
 {

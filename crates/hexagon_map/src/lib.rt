@@ -2,7 +2,7 @@
 //!
 //! Read `homotopy` first, and specs/Hexagon.antt, which has a picture. Its contract says that a chain and its image
 //! there and back are together the border of its homotopy and the homotopy of its border, and what follows: both grids
-//! have one table, and a cycle bounds in the one where its image bounds in the other. `hexagon_targets` is the homotopy
+//! have one table, and a cycle bounds in the one if its image bounds in the other. `hexagon_targets` is the homotopy
 //! at one state and asks for no memory. Contracts see a chain as a set of states by their indices. Stands on
 //! `pentagon_map` and what that stands on.
 //!

@@ -32,7 +32,7 @@ use torus_geom::Grid;
 
 /// Checks the certificate: whether it passes all its tests, and else the first that fails.
 ///
-/// A yes tells the table of ranks of the grid, whoever made the certificate: each bidegree with cycle pairs has their
+/// A yes implies the table of ranks of the grid, whoever made the certificate: each bidegree with cycle pairs has their
 /// number as its rank, and any other the rank 0. The tests are of degrees, borders, pairings and numbers; no rank is
 /// computed. The tests and their order are those of docs/FORMATS.md.
 ///
@@ -42,7 +42,7 @@ use torus_geom::Grid;
 pub fn check_cert(alloc: Global, c: &Cert) -> Result<CertVerdict, NoMemory>
     ensures verdict { IfOk result (λ v. v ≡ verdict_of (certificate_of c.now)) }
 
-    // Whatever the call answers: a certificate that passes tells the table of ranks of its grid.
+    // Whatever the call answers: a certificate that passes implies the table of ranks of its grid.
     ensures table { (d : Certificate) → IsCertificate d → verdict_of d ≡ CertVerdict.Yes
         → IsHomologyTable d.grid (certified_rows d.cells) }
 {
@@ -115,7 +115,7 @@ fn count_passes(c: &Cert, cell: &CertCell) -> bool
     count != 0 && count == cell.cycles.len() as u64 + cell.steps.len() as u64 + above
 }
 
-// The number of step pairs of the cell one Maslov degree above, 0 where there is none.
+// The number of step pairs of the cell one Maslov degree above, 0 if there is none.
 fn steps_above(cells: &[CertCell], d: &Bidegree) -> u64
     requires small { AreSmallDegrees (d.now.m, d.now.a) }
     requires few { entry_count cells.now < 2 ^ 32 }

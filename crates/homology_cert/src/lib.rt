@@ -11,7 +11,7 @@
 //! only the counting is finer.
 //!
 //! `check_cert` checks a certificate of a table by borders, pairings and counts alone; its contract says
-//! that one that passes tells the table of its grid. `make_cert` makes one that passes, `print_cert` gives its
+//! that one that passes implies the table of its grid. `make_cert` makes one that passes, `print_cert` gives its
 //! text, and `read_cert` the certificate with a text, or the first bad line.
 //!
 //! Example: of the grid with its O in rows 2 1 0 and its X in rows 1 0 2, `rank_table(alloc, &g)?` is the table

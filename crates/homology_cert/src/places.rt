@@ -161,7 +161,7 @@ fn cell_place(
     Ok(Some(Place::InCell(g, CertCell::new(alloc, d))))
 }
 
-// After the line of a cell or of one of its pairs, where the line is neither the last nor that of a bidegree.
+// After the line of a cell or of one of its pairs, if the line is neither the last nor that of a bidegree.
 fn pair_place(
     alloc: Global,
     g: Grid,

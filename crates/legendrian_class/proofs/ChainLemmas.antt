@@ -42,7 +42,7 @@ first_of z (x ∷ xs) is up = (
 pub first-least : (z : Chain) (o : Option ℕ) → o ≡ slice_get (codes z) 0 → IfSome o (IsLeast z)
 first-least z o e = subst (λ p. IfSome p (IsLeast z)) (sym e) (first_of z (codes z) refl (rising-codes z)).0
 
--- and where there is none, the chain is empty
+-- and if there is none, the chain is empty
 pub first_code-none : (z : Chain) (o : Option ℕ) → o ≡ slice_get (codes z) 0 → IsNone o → z ≡ nothing
 first_code-none z o e none = (first_of z (codes z) refl (rising-codes z)).1 (subst IsNone e none)
 
@@ -121,7 +121,7 @@ apart-filter test (x ∷ xs) apart =
     by true new rest = (new, rest)
     by false new rest = rest
 
--- where one code fails the test, fewer pass it
+-- if one code fails the test, fewer pass it
 pub fewer-where : (test : ℕ → Bool) (z : Chain) (s : ℕ) → holds z s ≡ true → test s ≡ false
     → length (codes (where_code test z)) < length (codes z)
 unfolding where_code

@@ -59,7 +59,7 @@ module _ (g : Marks) (a : ℤ) where
   abbrev slice : Complex ℤ
   slice = at_alexander a (grid_complex g)
 
-  -- a state is a cell of the slice exactly where it has the degree
+  -- a state is a cell of the slice exactly if it has the degree
   pub cell-degree : (s : ℕ) → s < factorial (size g)
       → is_some ((at_alexander a (grid_complex g)).degree s) ≡ has_alexander g a s
   cell-degree s below = elim (cases_Bool (has_alexander g a s)) [
@@ -160,7 +160,7 @@ null-start g z left bound none is =
       );
     }))
 
--- where nothing is left, the chain is null
+-- if nothing is left, the chain is null
 pub null-end : (g : Marks) (z left bound : Chain) → left ≡ nothing → IsNullBut g z left bound
     → IsNullBy (grid_complex g) z bound
 null-end g z left bound none but =

@@ -95,7 +95,7 @@ IsBorderOf-codes g b z below_b below_z is = record {
       (states_of-border g b below_b ∙ is.is_border);
 }
 
--- a set of indices bounds where its chain of states does
+-- a set of indices bounds if its chain of states does
 pub Bounds-states : (g : Marks) (z : Codes) → AreIndices (size g) z
     → verdicts.Bounds g z ↔ Bounds g (states_of (size g) z)
 Bounds-states g z below =
@@ -276,7 +276,7 @@ verdict_codes g z below (answers.Null b) ranks is = IsNull-codes g z b below (in
 verdict_codes g z below (answers.Alive f) ranks is = IsAlive-codes g z f below (indices_from_All (size g) f ranks) is
 
 -- ---- x+ and x-
--- a state bounds where the set of its index does
+-- a state bounds if the set of its index does
 pub state_bounds : (g : Marks) (x : List ℕ) → IsBijection (size g) x
     → verdicts.Bounds g (one_code (rank x)) ↔ Bounds g (single x)
 state_bounds g x sx =
@@ -286,7 +286,7 @@ state_bounds g x sx =
       λ b. back (subst (Bounds g) (sym same) b),
     )
 
--- where the sets of the indices of two states bound alike, so do the states
+-- if the sets of the indices of two states bound alike, so do the states
 pub states_bound_alike : (g h : Marks) (x y : List ℕ) → IsBijection (size g) x → IsBijection (size h) y
     → verdicts.Bounds g (one_code (rank x)) ↔ verdicts.Bounds h (one_code (rank y))
     → Bounds g (single x) ↔ Bounds h (single y)

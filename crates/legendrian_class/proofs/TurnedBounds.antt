@@ -1,4 +1,4 @@
--- x+ bounds in a grid exactly where it bounds in the turned grid, and so does x-: both turn with the grid, and so does
+-- x+ bounds in a grid exactly if it bounds in the turned grid, and so does x-: both turn with the grid, and so does
 -- the border of each chain; and a turn is undone by the turn to the other side.
 use Rattle.std.proofs.Common.{List, ap, refl, slice_index, subst, sym, ℕ, ◌∙◌, ◌≡◌, ◌↔◌}
 use Rattle.f2_algebra.specs.Chain.{Chain}
@@ -82,7 +82,7 @@ module _ (side : Side) (g : Marks) (s : IsGrid g) where
 module _ (class : Marks → Chain)
     (carried : (side : Side) (g : Marks) → IsGrid g
     → turned_chain side (size g) (class g) ≡ class (turned side g)) where
-  -- where the class bounds, it bounds in the turned grid
+  -- if the class bounds, it bounds in the turned grid
   there : (side : Side) (g : Marks) → IsGrid g → Bounds g (class g) → Bounds (turned side g) (class (turned side g))
   there side g s (b, is) = (
     turned_chain side (size g) b,

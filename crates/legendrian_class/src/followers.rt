@@ -88,7 +88,7 @@ impl Follower {
         ensures after { OnOk result (followed_of self.new ≡ after_turn side (followed_of self.old)) }
         ensures unchanged { OnErr result (self.new ≡ self.old) }
 
-        // Whatever the call answers: x+ bounds in the grid exactly where it bounds in the turned grid.
+        // Whatever the call answers: x+ bounds in the grid exactly if it bounds in the turned grid.
         ensures plus_bounds { Bounds self.old.grid (single (plus_state self.old.grid))
             ↔ Bounds (turned side self.old.grid) (single (plus_state (turned side self.old.grid))) }
 
@@ -120,12 +120,12 @@ impl Follower {
         ensures after { OnOk result (followed_of self.new ≡ after_commutation axis c corner (followed_of self.old)) }
         ensures unchanged { OnErr result (self.new ≡ self.old) }
 
-        // Whatever the call answers: a cycle that is followed bounds exactly where it bounds after the exchange.
+        // Whatever the call answers: a cycle that is followed bounds exactly if it bounds after the exchange.
         ensures cycle_bounds { border self.old.grid (followed_of self.old).chain ≡ nothing
             → Bounds self.old.grid (followed_of self.old).chain
             ↔ Bounds (swapped axis self.old.grid c) (after_commutation axis c corner (followed_of self.old)).chain }
 
-        // So x+ bounds in the grid exactly where it bounds in the exchanged grid.
+        // So x+ bounds in the grid exactly if it bounds in the exchanged grid.
         ensures plus_bounds { Bounds self.old.grid (single (plus_state self.old.grid))
             ↔ Bounds (swapped axis self.old.grid c) (single (plus_state (swapped axis self.old.grid c))) }
 

@@ -65,7 +65,7 @@ fn verdict_of(alloc: Global, g: &Grid, z: &Chain) -> Result<ClassVerdict, NoMemo
     }
 }
 
-// The verdict of a cycle. Its parts at each Alexander degree are cycles; it is null where each of them is,
+// The verdict of a cycle. Its parts at each Alexander degree are cycles; it is null if each of them is,
 // and alive by the cocycle of any that is alive. `left` is the sum of the parts that are ahead.
 fn cycle_verdict(alloc: Global, g: &Grid, z: &Chain) -> Result<ClassVerdict, NoMemory>
     requires indices { HasIndices (size g.now) z.now }

@@ -24,7 +24,7 @@ pub total_degree-append : (xs ys : List ℤ) → total_degree (xs ++ ys) ≡ tot
 total_degree-append [] ys = omega (arith, ints)
 total_degree-append (x ∷ xs) ys = let rest = total_degree-append xs ys in omega (arith, ints)
 
--- functions that agree where the test passes
+-- functions that agree if the test passes
 pub map-passing : {A : Type 0} (p : ℕ → Bool) (f g : ℕ → A) (n : ℕ) → ((c : ℕ) → c < n → p c ≡ true → f c ≡ g c)
     → map f (filter p (ascending n)) ≡ map g (filter p (ascending n))
 map-passing p f g zero h = refl

@@ -144,7 +144,7 @@ fn marks_around(marks: &[u8], d: u8, r: u8) -> i32
     count
 }
 
-// 1 where both tests pass or neither, else 0.
+// 1 if both tests pass or neither, else 0.
 fn beside(u: bool, v: bool) -> i32
     ensures value { result ≡ beside_of u v }
     ensures low { pos 0 ≤ℤ result }

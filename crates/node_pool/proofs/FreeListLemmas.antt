@@ -1,7 +1,7 @@
 -- The map of a pool, and what each step makes of it.
 --
 -- The map is read key by key: a place below `fresh` that was not given back has the node that lies there
--- (`get-live_map`). So where a step writes one node and changes what is given back or fresh, the map changes at that
+-- (`get-live_map`). So if a step writes one node and changes what is given back or fresh, the map changes at that
 -- place alone (`live_map-set_live`, `live_map-set_dead`); the list of what was given back reads none but its own nodes
 -- (`free_ids-set`), and neither sees what a growth adds (`free_ids-longer`, `live_map-longer`). The lemmas of the last
 -- part give for each call of the pool its new invariant and its new map together.
@@ -127,7 +127,7 @@ pub get-live_map_dead : (ns : List Node) (gone : List ℕ) (n q : ℕ) → is_li
 get-live_map_dead ns gone n q e = get-live_map ns gone n q ∙ ap (λ b. cond b (Some (node_at ns q)) None) e
 
 -- ---- one node is written
--- where its place is live afterwards, the map has it there
+-- if its place is live afterwards, the map has it there
 pub live_map-set_live : (ns : List Node) (gone gone' : List ℕ) (n n' id : ℕ) (x : Node) → id < length ns
     → is_live gone' n' id ≡ true → ((q : ℕ) → q ≢ id → is_live gone' n' q ≡ is_live gone n q)
     → live_map (set ns id x) gone' n' ≡ insert (live_map ns gone n) id x
@@ -145,7 +145,7 @@ live_map-set_live ns gone gone' n n' id x inside a same = same_nodes _ _ (λ q. 
         ∙ ap (λ y. cond (is_live gone n q) (Some y) None) (get_or-set_other ns id q x blank d)
         ∙ sym (get-insert_other (live_map ns gone n) id x q d ∙ get-live_map ns gone n q)
 
--- where its place is not, the map has nothing there
+-- if its place is not, the map has nothing there
 pub live_map-set_dead : (ns : List Node) (gone gone' : List ℕ) (n n' id : ℕ) (x : Node) → is_live gone' n' id ≡ false
     → ((q : ℕ) → q ≢ id → is_live gone' n' q ≡ is_live gone n q)
     → live_map (set ns id x) gone' n' ≡ remove (live_map ns gone n) id

@@ -57,7 +57,7 @@ first_met n i j k = if nat_lt (offset n i j) (offset n i k) then j else k
 abbrev pub last_met : ℕ → ℕ → ℕ → ℕ → ℕ
 last_met n i j k = if nat_lt (offset n i j) (offset n i k) then k else j
 
--- Where the columns commute, it does not matter from which row of L, or of R, the way begins.
+-- If the columns commute, it does not matter from which row of L, or of R, the way begins.
 abbrev pub crossing_row : Marks → ℕ → Corner → ℕ
 crossing_row g c Over =
     first_met (size g) (slice_index g.o (one_down (size g) c)) (slice_index g.o c) (slice_index g.x c)

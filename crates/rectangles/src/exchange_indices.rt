@@ -51,7 +51,7 @@ fn difference(x: &State, a: u8, b: u8, low: u8, high: u8) -> u32
     sum
 }
 
-// `more`, where the row is between the two others.
+// `more`, if the row is between the two others.
 fn if_between(low: u8, high: u8, row: u8, more: u32) -> u32
     ensures value { result ≡ (if between low high row then more else 0) }
     ensures small { result ≤ more }

@@ -53,7 +53,7 @@ count-at (x ∷ cells) zero c l e =
     let h : count_of c (x ∷ cells) ≡ suc (count_of c cells) = count-head c x cells (eq-eqb x.code c e) in omega arith
 count-at (x ∷ cells) (suc k) c l e = le_trans (count-at cells k c (omega arith) e) (count-more c x cells)
 
--- and where two places have one code it is counted twice
+-- and if two places have one code it is counted twice
 count-two : (cells : List Cell) (j k c : ℕ) → j < k → k < length cells → code_at cells j ≡ c → code_at cells k ≡ c
     → 2 ≤ count_of c cells
 unfolding code_at

@@ -90,14 +90,14 @@ length-others cells c k (j ∷ ks) h =
         (others c (map (code_at cells) ks)))) e ∙ ap suc r
 
 module _ (keys : List ℕ) (cells : List Cell) (links : Links) (s : IsStoredByKey keys cells links) where
-  -- a code is that of a live key where the key is that of the code
+  -- a code is that of a live key if the key is that of the code
   pub code-test : (c k : ℕ) → is_live keys c ≡ true → IsLiveKey keys cells k
       → eqb (code_at cells k) c ≡ eqb k (key_of keys c)
   code-test c k l e = same_test _ _
       (λ h. eq-eqb k (key_of keys c) (sym e ∙ ap (key_of keys) (eqb-true (code_at cells k) c h)))
       (λ h. eq-eqb (code_at cells k) c (ap (code_at cells) (eqb-true k (key_of keys c) h) ∙ (s.keyed c l).1))
 
-  -- codes are equal where their keys are
+  -- codes are equal if their keys are
   pub key-test : (c d : ℕ) → is_live keys c ≡ true → is_live keys d ≡ true
       → eqb (key_of keys c) (key_of keys d) ≡ eqb c d
   key-test c d l m = same_test _ _

@@ -94,7 +94,7 @@ module _ (l : Links) (t : AreListed l) (k : ℕ) (h : Head) (e : head_at l.heads
       × ((node_at l.pool.nodes g.first_in).to ≡ k))) e (λ z. head-live _ _ _ _ _ _ _ t.in_lists t.ids k z)
       (ne_eqb h.first_in no_id ne)
 
-  -- where there is no first arrow there is none
+  -- if there is no first arrow there is none
   pub no_out : h.first_out ≡ no_id → (u : ℕ) → has_arrow l k u ≡ false
   no_out none u =
       sym (has_arrow-targets l t k u)

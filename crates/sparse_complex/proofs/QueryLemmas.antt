@@ -54,7 +54,7 @@ ListsOnce-none test none = ListsOnce-distinct [] test tt (λ c. sym (none c))
 
 -- ---- sources and targets
 module _ (keys : List ℕ) (cells : List Cell) (links : Links) (s : IsStoredByKey keys cells links) where
-  -- keys that have arrows differ where their codes are one
+  -- keys that have arrows differ if their codes are one
   codes-distinct : (ks : List ℕ) → ((k : ℕ) → among k ks ≡ true → key_of keys (code_at cells k) ≡ k) → AreDistinct ks
       → AreDistinct (map (code_at cells) ks)
   codes-distinct ks live a =
@@ -124,7 +124,7 @@ module _ (keys : List ℕ) (cells : List Cell) (links : Links) (s : IsStoredByKe
       (arrow (slice_complex (slice_of keys cells links)) x)
   ListsOnce-targets x l = ListsOnce-distinct _ _ (distinct-target_codes (key_of keys x)) (among-target_codes x l)
 
-  -- where the cursor is past all keys there is no arrow
+  -- if the cursor is past all keys there is no arrow
   pub none_left : (cursor : ℕ) → IsFirst links cursor → width links ≤ cursor → (c d : ℕ)
       → arrow (slice_complex (slice_of keys cells links)) c d ≡ false
   none_left cursor f l c d = by (arrow (slice_complex (slice_of keys cells links)) c d) refl

@@ -133,7 +133,7 @@ module _ (g : Marks) (grid : IsGrid g) (a : ℤ) (b : Branch) (s : IsBranch g a 
       ∙ get_or_append_left (take b.column b.first) y 0 d (omega arith)
       ∙ get_or-take b.column b.first d 0 below
 
-  -- where the sum that is left cannot be reached, it has no cell
+  -- if the sum that is left cannot be reached, it has no cell
   pub branch-none : ((z : List ℕ) (c : ℕ) → IsBijection (size g) z → c ≤ size g → rows_used c z ≡ b.used
       → b.left +ℤ sum_before g c z ≡ sum_before g (size g) z → ⊥)
       → (cells : List Cell) → AreFirstCells (at_alexander a (grid_complex g)) b.base cells

@@ -23,8 +23,8 @@ impl AlexSlice {
     ///
     /// Live are the indices of the states of this Alexander degree, each with its Maslov degree by the O;
     /// a state has arrows to the states of its border, all of which have the same Alexander degree
-    /// (Ozsváth, Stipsicz and Szabó, "Grid Homology for Knots and Links", chapter 4). Where no state has
-    /// the degree, no code is live. The states are visited depth first over their rows, only where the degree can
+    /// (Ozsváth, Stipsicz and Szabó, "Grid Homology for Knots and Links", chapter 4). If no state has
+    /// the degree, no code is live. The states are visited depth first over their rows, only if the degree can
     /// still be reached, so the time is that of the states of the degree.
     ///
     /// # Errors

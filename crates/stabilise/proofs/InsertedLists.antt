@@ -33,7 +33,7 @@ module _ (n k v : ℕ) (rows : List ℕ) (long : length rows ≡ n) where
         (lowered-lifted k d);
   }
 
-  -- it is a bijection where the old one is
+  -- it is a bijection if the old one is
   pub IsBijection-inserted : k < suc n → v < suc n → IsBijection n rows → IsBijection (suc n) (inserted k v rows)
   IsBijection-inserted lk lv s =
       let one = HasNew-one n k v (slice_index rows) (slice_index (inserted k v rows)) lk lv (one_to_one n rows s)

@@ -13,7 +13,7 @@ use Rattle.state_rank.proofs.StoredLemmas.{IsStoredByPlace, length-stored}
 use Rattle.state_rank.proofs.RankLemmas.{IsBijection-unrank, rank-unrank, rank-below, unrank-rank, rank_order}
 use Rattle.state_rank.proofs.StepLemmas.{FirstDiffer, before-differ, first_difference}
 
--- where two states agree before the place q, the row of one there is a row of the other from q on
+-- if two states agree before the place q, the row of one there is a row of the other from q on
 row_from : (n : ℕ) (x z : List ℕ) → IsBijection n x → IsBijection n z → (q : ℕ) → q < n
     → ((i : ℕ) → i < q → slice_index x i ≡ slice_index z i)
     → (j : ℕ) × ((q ≤ j) × (j < n)) × (slice_index x j ≡ slice_index z q)
@@ -90,7 +90,7 @@ none_between n x y z p k s t u q r lq lr d e = elim (cases_order q p) [
 
 -- ---- ranks
 
--- the state of rank k is later than x where k is above its rank
+-- the state of rank k is later than x if k is above its rank
 differ_unrank : (n : ℕ) (x : List ℕ) → IsBijection n x → (k : ℕ) → rank x < k → k < factorial n
     → (q : ℕ) × (q < n) × FirstDiffer x (unrank n k) q
 differ_unrank n x s k l m =

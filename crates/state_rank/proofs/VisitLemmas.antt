@@ -8,7 +8,7 @@ use Rattle.state_rank.proofs.RankLemmas.{length-unrank, rank-unrank}
 abbrev pub IsVisited : ℕ → ℕ → List ℕ → Type 0
 IsVisited n code x = code < factorial n → x ≡ unrank n code
 
--- the state after a step, or the last state, where there is no step
+-- the state after a step, or the last state, if there is no step
 pub visited-next : (n code : ℕ) (old new : List ℕ) (went : Bool) → code < factorial n → IsVisited n code old
     → (IsTrue went → new ≡ unrank (length old) (rank old + 1))
     → (IsTrue (not went) ↔ (rank old + 1 ≡ factorial (length old))) → IsVisited n (code + 1) new

@@ -44,7 +44,7 @@ impl Model for State {
 }
 
 impl State {
-    /// The state with these rows, where they are a bijection of 0 to n - 1 and n is a size.
+    /// The state with these rows, if they are a bijection of 0 to n - 1 and n is a size.
     pub fn of(rows: &[u8]) -> Option<State>
         ensures rows { IfSome result (λ x. x ≡ rows.now) }
         ensures state { OnSome result (IsState rows.now) }

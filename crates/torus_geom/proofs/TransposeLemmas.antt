@@ -56,7 +56,7 @@ pub transposed_marks : (g h : Marks) (o x : List ℕ) → h ≡ g → o ≡ tran
     → record { o = o; x = x } ≡ transposed g
 transposed_marks g h o x e at_o at_x = (λ i. record { o = at_o i; x = at_x i }) ∙ ap transposed e
 
--- the column of a row has its mark there, where the rows were read from a state
+-- the column of a row has its mark there, if the rows were read from a state
 pub marked : (rows x marks : List ℕ) (r column : ℕ) → IsState x → rows ≡ x → x ≡ marks → r < length marks
     → column ≡ column_of (length rows) (slice_index rows) r → slice_index marks column ≡ r
 marked rows x marks r column state e f l at =

@@ -1,5 +1,5 @@
 -- Sums and counts over the numbers below n, as integers.
---     one_if b             1 where b is true, else 0
+--     one_if b             1 if b is true, else 0
 --     sum_below n f        the sum of f i over the numbers i below n
 --     count_below n test   how many numbers below n pass the test
 --     all_below n test     each number below n passes the test

@@ -8,7 +8,7 @@
 --     is_up g c r, is_down g c r the vertical segment of column c passes row r on its way up, or down
 --     is_right g c r, is_left g c r   the horizontal segment of row r passes column c on its way to the right, or to
 --                                     the left
---     sign g c r                 the sign of the crossing at column c and row r, 0 where there is none
+--     sign g c r                 the sign of the crossing at column c and row r, 0 if there is none
 --     writhe g                   the sum of the signs
 --     north_east g, south_west g the numbers of NE and of SW corners
 --     is_north_east_x g c and so on   the X, or the O, of column c is a NE, or a SW, corner: is_north_east_o,

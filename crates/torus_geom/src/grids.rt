@@ -54,7 +54,7 @@ impl Grid {
     /// # Errors
     ///
     /// `NotPermutation` unless both lists are bijections of 0 to n - 1, for one n from 2 to `MAX_SIZE`;
-    /// else `SameSquare` where the two agree at some column.
+    /// else `SameSquare` if the two agree at some column.
     pub fn of(o: &[u8], x: &[u8]) -> Result<Grid, GridFault>
         ensures marks { IfOk result (λ g. g ≡ record { o = o.now; x = x.now }) }
         ensures grid { OnOk result (IsGrid (record { o = o.now; x = x.now })) }
@@ -88,7 +88,7 @@ impl Grid {
         Grid { o, x, components }
     }
 
-    /// The grid with these marks, where they are those of a grid.
+    /// The grid with these marks, if they are those of a grid.
     pub fn from_marks(o: &[u8], x: &[u8]) -> Grid
         requires { IsGrid (record { o = o.now; x = x.now }) }
         ensures { result ≡ record { o = o.now; x = x.now } }
@@ -249,7 +249,7 @@ fn shares_square(o: &[u8], x: &[u8]) -> bool
     false
 }
 
-// The last column with this row, or 0 where there is none.
+// The last column with this row, or 0 if there is none.
 fn column_of(rows: &[u8], r: u8) -> u8
     requires { length rows.now ≤ MAX_SIZE }
     ensures column { result ≡ column_of_row (length rows.now) (slice_index rows.now) r }

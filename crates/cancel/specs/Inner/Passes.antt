@@ -9,7 +9,7 @@ abbrev pub held : List Entry → Chain → List Bool
 held [] z = []
 held (e ∷ log) z = holds z e.y ∷ held log (rest_of_one e z)
 
--- from the last entry to the first: x where the chain meets the sources oddly, and x once more where y was held
+-- from the last entry to the first: x if the chain meets the sources oddly, and x once more if y was held
 abbrev pub correction_by_marks : List Entry → List Bool → Chain
 correction_by_marks [] marks = nothing
 correction_by_marks (e ∷ log) [] = nothing

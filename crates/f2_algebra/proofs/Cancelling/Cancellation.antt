@@ -2,7 +2,7 @@
 --     cancelled_IsComplex    the two rules
 --     lift-border, rest-border    lift and rest carry borders to borders
 --     rest-lift              the rest of a lift of a chain without x and y is the chain
---     lift-rest              the lift of the rest of a chain differs from it by a border and by x where its border
+--     lift-rest              the lift of the rest of a chain differs from it by a border and by x if its border
 --                            holds y
 use Rattle.std.proofs.Common.{◌≡◌, ℕ, Bool, true, false, not, cond, ◌&&◌, ◌||◌, ◌≢◌, eqb, Some, None, refl, sym, ap, ap₂, subst, ◌∙◌, arith}
 use Rattle.std.proofs.lemmas.Bool.{eqb-true, ne_eqb, eq-eqb, true≢false, false≢true}
@@ -101,7 +101,7 @@ module _ {G : Type 0} (C : Complex G) (laws : IsComplex C) (e : Entry) (fits : I
       ∙ weight-xor _ _ z
       ∙ ap₂ ◌⊻◌ (sym (holds-sum_over z C.targets e.y)) (weight-at z e.x)
 
-  -- z with the targets of x added where it holds y
+  -- z with the targets of x added if it holds y
   changed : Chain → Chain
   changed z = z ⊕ cond (holds z e.y) (C.targets e.x) nothing
 
@@ -158,7 +158,7 @@ module _ {G : Type 0} (C : Complex G) (laws : IsComplex C) (e : Entry) (fits : I
   pub without-of_free : (z : Chain) → Free z → without e.x e.y z ≡ z
   without-of_free z free = same_chain _ _ (λ q. holds-without z q ∙ free_test (is_one_of e.x e.y q) z q refl free)
 
-  -- a chain without y is its part without x and y, and x where it holds x
+  -- a chain without y is its part without x and y, and x if it holds x
   split_test : (q : ℕ) (h hx a b : Bool) → (a ≡ true → h ≡ hx) → (b ≡ true → h ≡ false)
       → h ≡ ((h && not (a || b)) ⊻ (hx && a))
   split_test q true true true b f g = refl
@@ -328,7 +328,7 @@ module _ {G : Type 0} (C : Complex G) (laws : IsComplex C) (e : Entry) (fits : I
   holds-cond true z q = holds-nothing q
   holds-cond false z q = refl
 
-  -- an arrow from s to t between other codes is toggled where s has one to y and x has one to t
+  -- an arrow from s to t between other codes is toggled if s has one to y and x has one to t
   pub arrow-cancelled : (s t : ℕ)
       → arrow (cancelled C e.x e.y) s t
       ≡ (not (is_one_of e.x e.y s) && ((arrow C s t ⊻ (arrow C s e.y && arrow C e.x t)) && not (is_one_of e.x e.y t)))

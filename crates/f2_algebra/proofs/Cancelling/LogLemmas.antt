@@ -9,7 +9,7 @@ use Rattle.f2_algebra.proofs.Chains.Sets.{same_chain, holds-nothing, holds-singl
 use Rattle.f2_algebra.proofs.Chains.Sums.{add_comm, add_assoc, add_self, add-nothing, holds-when, weight-when, weight-singles, pairs_oddly-single, IsLinear, linear-nothing, linear-when}
 use Rattle.f2_algebra.proofs.Cancelling.Cancellation.{same_some, no_loop, complex_border-add, border-when, border-single, border-nothing, holds-without, rest_of_one-linear, lift_of_one-linear, Free, lift-rest, lift-border, rest-lift, rest-border, degree-cancelled, cancelled_IsComplex}
 
--- the correction, from the first entry on: x where the chain holds y, and the lift of the correction of what is left
+-- the correction, from the first entry on: x if the chain holds y, and the lift of the correction of what is left
 abbrev pub correction_by : List Entry → Chain → Chain
 correction_by [] z = nothing
 correction_by (e ∷ log) z =

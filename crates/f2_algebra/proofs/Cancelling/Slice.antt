@@ -11,7 +11,7 @@ use Rattle.f2_algebra.proofs.Chains.Tables.{◌⊻◌}
 use Rattle.f2_algebra.proofs.Chains.Sets.{same_chain, holds-nothing}
 use Rattle.f2_algebra.proofs.Cancelling.Cancellation.{arrow-cancelled, border-nothing}
 
--- two complexes are equal where their degrees and their arrows are
+-- two complexes are equal if their degrees and their arrows are
 pub same_complex : {G : Type 0} (C D : Complex G) → C.up ≡ D.up → ((s : ℕ) → C.degree s ≡ D.degree s)
     → ((s t : ℕ) → arrow C s t ≡ arrow D s t) → C ≡ D
 same_complex C D up degrees arrows =

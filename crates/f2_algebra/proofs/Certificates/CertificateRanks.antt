@@ -181,7 +181,7 @@ module _ {G : Type 0} (eq : G → G → Bool) (eq_is : (m n : G) → (eq m n ≡
     made_all ms listed [] h = tt
     made_all ms listed (n ∷ ns) h = (made_cell_passes ms listed n h.0.0 h.0.1, made_all ms listed ns h.1)
 
-    -- it passes, where the list has exactly the degrees of the cells
+    -- it passes, if the list has exactly the degrees of the cells
     pub made_passes : (ms : List G) → ((s : ℕ) (m : G) → C.degree s ≡ Some m → In m ms)
         → Every (λ (n : G). (s : ℕ) × (C.degree s ≡ Some n)) ms → Passes eq C (cert_of_log ms)
     made_passes ms listed real = (

@@ -111,7 +111,7 @@ even_pick r (s ∷ rs) (p ∷ ps) even =
     neither true = refl
     neither false = refl
 
--- where the tests are even on what the truth values pick, nothing is marked
+-- if the tests are even on what the truth values pick, nothing is marked
 pub independent_mod : (rs : List Row) → IsTriangular rs → (u : Chain) → Every (λ r. r.test u ≡ false) rs
     → (ps : List Bool) → length ps ≡ length rs → pick ps (vectors rs) ≡ u → ps ≡ no_picks rs
 independent_mod [] tri u even [] l e = refl

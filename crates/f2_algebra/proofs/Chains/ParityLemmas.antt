@@ -23,7 +23,7 @@ Each-all P (x ∷ xs) h = (h x, Each-all P xs h)
 
 -- ---- over a list
 module _ {A : Type 0} where
-  -- tests that agree where P holds have one parity on a list of such elements
+  -- tests that agree if P holds have one parity on a list of such elements
   pub parity-same_on : (P : A → Type 0) (f g : A → Bool) (xs : List A) → Each P xs → ((x : A) → P x → f x ≡ g x)
       → parity f xs ≡ parity g xs
   parity-same_on P f g [] e h = refl

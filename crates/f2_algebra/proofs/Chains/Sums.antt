@@ -97,7 +97,7 @@ pub weight-sum_over : (p : ℕ → Bool) (z : Chain) (f : ℕ → Chain)
 unfolding sum_over
 weight-sum_over p z f = weight-total p f (codes z) ∙ sym (weight-list _ z)
 
--- a sum holds q where an odd number of its terms do
+-- a sum holds q if an odd number of its terms do
 pub holds-sum_over : (z : Chain) (f : ℕ → Chain) (q : ℕ) → holds (sum_over z f) q ≡ weight (λ s. holds (f s) q) z
 holds-sum_over z f q =
     sym (weight-at (sum_over z f) q) ∙ weight-sum_over (λ s. eqb q s) z f ∙ weight-same _ _ z (λ s _. weight-at (f s) q)

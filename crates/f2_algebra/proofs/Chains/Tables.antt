@@ -70,7 +70,7 @@ xor_middle = same 4 (λ a b c d. (a ⊻ b) ⊻ (c ⊻ d)) (λ a b c d. (a ⊻ c)
 pub xor_zero : (a b : Bool) → a ⊻ b ≡ false → a ≡ b
 xor_zero a b e = grind arith
 
--- one of two tests holds where their exclusive or does
+-- one of two tests holds if their exclusive or does
 pub xor_or : (a b : Bool) → ((a && not b) || (b && not a)) ≡ a ⊻ b
 xor_or = same 2 (λ a b. (a && not b) || (b && not a)) (λ a b. a ⊻ b) refl
 
@@ -104,7 +104,7 @@ pub and_left_comm : (a b c : Bool) → (a && (b && c)) ≡ (b && (a && c))
 and_left_comm = same 3 (λ a b c. a && (b && c)) (λ a b c. b && (a && c)) refl
 
 -- ---- premises in a table
--- the second test, where the first holds
+-- the second test, if the first holds
 abbrev pub implies : Bool → Bool → Bool
 implies true b = b
 implies false b = true

@@ -63,7 +63,7 @@ module _ {G H : Type 0} (C : Complex G) (flip : G → H) (D : Complex H) (dual :
       ∙ weight-same _ _ f (λ t _. at_code z t)
       ∙ sym (pairs_oddly-weight f (border C z)) ∙ pairs_oddly-comm f (border C z)
 
-  -- a chain is a cycle of the dual where it pairs evenly with each border
+  -- a chain is a cycle of the dual if it pairs evenly with each border
   closed_of : (f : Chain) → ((s : ℕ) → pairs_oddly (C.targets s) f ≡ false) → border D f ≡ nothing
   closed_of f even = same_chain _ _ (λ s.
       holds-sum_over f D.targets s ∙ weight-same _ _ f (λ t _. dual.arrows s t)

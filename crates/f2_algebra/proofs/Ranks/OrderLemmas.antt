@@ -8,7 +8,7 @@ use Rattle.std.proofs.lemmas.Bool.Decides.{Decides-int_eq}
 use Rattle.std.proofs.lemmas.Int.{ints}
 use Rattle.f2_algebra.specs.Bigraded.{stands_before, StandsBefore}
 
--- the test is true exactly where the one degree stands before the other
+-- the test is true exactly if the one degree stands before the other
 pub Decides-stands_before : (p q : ℤ × ℤ) → Decides (stands_before p q) (StandsBefore p q)
 Decides-stands_before p q = (
   λ h. elim (or_cases (int_lt q.1 p.1) (int_eq q.1 p.1 && int_lt q.0 p.0) h) [

@@ -88,7 +88,7 @@ one_rank C m d e a b =
     let down = rank_le C m b.0 a.0 b.1 a.1 in
     omega (arith, a.2, b.2)
 
--- ---- the cells of the last complex, where it has no arrow
+-- ---- the cells of the last complex, if it has no arrow
 -- the sum of the codes that the truth values pick
 pub chosen : List Bool → List ℕ → Chain
 chosen ps xs = total (items_where_true ps (map single xs))
@@ -258,7 +258,7 @@ module _ {G : Type 0} (C : Complex G) (laws : IsComplex C) (log : List Entry) (s
       sym (chosen-picks ps xs (l ∙ length-map xs lifted) (IsApart-codes cells))
       ∙ ap (λ u. map (holds u) xs) (sym (same_of_sum (rest log z) (chosen ps xs) no_rest))
 
-  -- where no arrow is left, the lifts of the cells of a degree are a basis
+  -- if no arrow is left, the lifts of the cells of a degree are a basis
   pub basis_of_log : IsBasis chain_sums (IsCycle C m) (IsBoundary C m) (map lifted (codes cells))
   unfolding picks_of
   basis_of_log = record {

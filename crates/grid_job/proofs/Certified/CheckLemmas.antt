@@ -72,7 +72,7 @@ HasWritten-bad_line text line result f g a b within first h =
     (inr (record { within = within; number = line; first = first; told = told.1 })))
     h
 
--- a yes tells the table
+-- a yes implies the table
 pub yes_tells_the_table : (text answer : List ℕ) → IsOutcome Check text Done answer
     → (c : Certificate) × IsCertificate c × (text ≡ certificate_text c)
     × IsHomologyTable c.grid (certified_rows c.cells)

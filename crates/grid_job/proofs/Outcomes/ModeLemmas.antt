@@ -17,7 +17,7 @@ single-item (y ∷ z ∷ ys) x some one e = absurd (omega (arith, one))
 first-item : {a b : List ℕ} → a ∷ [] ≡ b ∷ [] → a ≡ b
 first-item same = cc
 
--- one word is the command where its bytes are
+-- one word is the command if its bytes are
 pub command_alone : (words : List (List ℕ)) (word command : List ℕ) (told : Bool) → words ≡ word ∷ []
     → told ≡ bytes_eq word command
     → (IsTrue told → words ≡ command ∷ []) × (words ≡ command ∷ [] → IsTrue told)

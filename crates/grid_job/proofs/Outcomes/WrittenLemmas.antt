@@ -95,7 +95,7 @@ module _ (limit : ℕ) where
 count-up : (n : ℕ) → n < 2 ^ 64 - 1 → count_up n ≡ n + 1
 count-up n below = grind arith
 
--- where the source tells the text, a call that ended has ended so
+-- if the source tells the text, a call that ended has ended so
 pub HasEnded-written : (words : List (List ℕ)) (mode : Mode) (result : Status) (left left' : Option (List ℕ)) (f g : ℕ)
     (a b : Option (List ℕ)) → IsForm words mode → IsEnd result
     → IfSome left (λ text. left' ≡ Some (drop (most_read mode) text))
@@ -113,7 +113,7 @@ HasBegun-written words mode result None f g a b form h = tt
 HasBegun-written words mode result (Some text) f g a b form h =
     record { mode = mode; form = form; status = h.part.0; answer = h.part.1; outcome = h.part.2; written = h.part.3 }
 
--- where no write failed, the answer is the status of the outcomes, memory aside
+-- if no write failed, the answer is the status of the outcomes, memory aside
 pub status_of_outcomes : (mode : Mode) (result : Status) (left : Option (List ℕ)) (f g : ℕ) (a b : Option (List ℕ))
     → f < 2 ^ 64 - 1 → g ≡ f
     → HasWritten (Tells left (IsOutcome mode)) result f g a b
@@ -179,7 +179,7 @@ not_usage O result f g a b h e = not_ended (subst Ended e h.results)
     not_ended (inr (inl e)) = cc
     not_ended (inr (inr e)) = cc
 
--- nor so, where no outcome is a no
+-- nor so, if no outcome is a no
 pub not_others : (O : Status → List ℕ → Type 0) (result : Status) (f g : ℕ) (a b : Option (List ℕ))
     → ((answer : List ℕ) → O No answer → ⊥)
     → HasWritten O result f g a b → (result ≢ Usage) × (result ≢ No)
@@ -286,7 +286,7 @@ read_fault_or_not WriteFault b e = inr (λ same. cc)
 read_fault_or_not NoMemory b e = inr (λ same. cc)
 read_fault_or_not No b e = inr (λ same. cc)
 
--- where no call failed in a mode that reads a text, the answer is the status of the outcomes of the mode
+-- if no call failed in a mode that reads a text, the answer is the status of the outcomes of the mode
 pub status_of_reading : (words : List (List ℕ)) (mode other : Mode) (result : Status) (left : Option (List ℕ))
     (f g h k : ℕ) (a b : Option (List ℕ)) → IsForm words mode → IsForm words other → f < 2 ^ 64 - 1 → h < 2 ^ 64 - 1
     → g ≡ f → k ≡ h

@@ -62,7 +62,7 @@ exists_answers v version p (c ∷ cs) grid states allowed =
     (first.0 ++ later.0, (first.0, later.0, first.1, later.1, refl))
 
 -- ---- answers in order
--- the answer to a command, where all three are told otherwise
+-- the answer to a command, if all three are told otherwise
 pub IsAnswer-same : (v : ℕ) (p q : InForce) (c d : Command) (a b : List ℕ) → p ≡ q → c ≡ d → a ≡ b → IsAnswer v p c a
     → IsAnswer v q d b
 IsAnswer-same v p q c d a b same_pair same_command same_text answer =
@@ -168,7 +168,7 @@ module _ (v : ℕ) (p : InForce) (cs : List Command) (k : ℕ) where
         (past.whole, (rest.0, refl), past.appended),
       )
 
-  -- so it is where a prefix of an answer to the next command was written too
+  -- so it is if a prefix of an answer to the next command was written too
   pub IsPast-prefix_of_next : (now : InForce) (d : Command) (text : List ℕ) (a b c : Option (List ℕ)) → IsVersion v
       → IsGrid p.grid → IsChain (size p.grid) p.chain → AreAllowed p.grid cs → k < length cs
       → IsAnswer v now (get_or cs k d) text → IsPast v p cs k now a b → AppendsPrefix b c text

@@ -1,5 +1,5 @@
--- Columns, or rows, that commute still do where they are exchanged. Two rows separate two others on the circle
--- where those separate these: ranges are linear over F2 in the order of the rows.
+-- Columns, or rows, that commute still do if they are exchanged. Two rows separate two others on the circle
+-- if those separate these: ranges are linear over F2 in the order of the rows.
 use Rattle.std.proofs.Common.{Bool, ap, ap₂, arith, eqb, false, inl, inr, leb, length, ltb, not, slice_index, swap, sym, true, true≢false, ℕ, ◌&&◌, ◌<◌, ◌||◌, ◌∙◌, ◌≡◌, ◌≢◌, refl}
 use Rattle.std.proofs.lemmas.Bool.{and_from, and_parts, cases_lt, eq-eqb, ne_eqb}
 use Rattle.std.proofs.lemmas.List.Edits.{length-swap}
@@ -31,7 +31,7 @@ are_same p q = (p && q) || (not p && not q)
 order_back : (a b : ℕ) → a ≢ b → leb a b ≡ not (leb b a)
 order_back a b p = grind arith
 
--- p and q separate r and s where r and s separate p and q
+-- p and q separate r and s if r and s separate p and q
 separate_alike : (p q r s : ℕ) → p ≢ r → p ≢ s → q ≢ r → q ≢ s
     → are_same (between p q r) (between p q s) ≡ are_same (between r s p) (between r s q)
 separate_alike p q r s pr ps qr qs =

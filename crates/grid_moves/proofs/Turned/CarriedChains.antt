@@ -1,5 +1,5 @@
 -- Chains carried along a map f of states that has an inverse b. What a carried chain holds; sums over carried
--- chains; and where f carries the states that F gives of a state to those that G gives, the sum of G over the
+-- chains; and if f carries the states that F gives of a state to those that G gives, the sum of G over the
 -- carried chain is the carried sum of F. F and G are borders of states, or images.
 --
 -- Route: a code moves to the index of the image of its state, and a number that is the index of no state stays,
@@ -20,7 +20,7 @@ eqb_alike a b c d there back = grind (arith, there, back)
 
 -- ---- maps of codes
 module _ (p r : ℕ → ℕ) (there : (c : ℕ) → p (r c) ≡ c) (back : (c : ℕ) → r (p c) ≡ c) where
-  -- the value is q where the argument is the other map's value at q
+  -- the value is q if the argument is the other map's value at q
   pub eqb-renamed : (q c : ℕ) → eqb q (p c) ≡ eqb (r q) c
   eqb-renamed q c = eqb_alike q (p c) (r q) c (λ e. ap r e ∙ back c) (λ e. sym (there q) ∙ ap p e)
 
@@ -93,7 +93,7 @@ module _ (n : ℕ) (f b : List ℕ → List ℕ) (is : AreInverse n f b) where
   unfolding carried
   holds-carried z c = holds-renamed (moved n f) (moved n b) redone undone z c
 
-  -- it holds f x where the chain holds x
+  -- it holds f x if the chain holds x
   pub holds-carried_state : (z : Chain) (x : List ℕ) → IsBijection n x
       → holds (carried n f z) (rank (f x)) ≡ holds z (rank x)
   holds-carried_state z x sx =

@@ -49,7 +49,7 @@ module _ (g h : Marks) (sg : IsGrid g) (sh : IsGrid h) (e : size h ≡ size g) (
       ∙ sym (components-count g) in
       omega (arith, ints)
 
-  -- The same where the walk of h goes round the cycles of g the other way.
+  -- The same if the walk of h goes round the cycles of g the other way.
   pub components-back : ((c : ℕ) → c < size g → slice_index h.x (r (column_after g c)) ≡ slice_index h.o (r c))
       → components h ≡ components g
   components-back meet =
@@ -61,7 +61,7 @@ module _ (g h : Marks) (sg : IsGrid g) (sh : IsGrid h) (e : size h ≡ size g) (
       ∙ sym (components-count g) in
       omega (arith, ints)
 
--- where size, components and both Maslov degrees agree, so does the Alexander degree
+-- if size, components and both Maslov degrees agree, so does the Alexander degree
 pub alexander_same : (g h : Marks) (x y : List ℕ) → size h ≡ size g → components h ≡ components g
     → maslov_o h y ≡ maslov_o g x → maslov_x h y ≡ maslov_x g x → alexander h y ≡ alexander g x
 unfolding alexander

@@ -98,7 +98,7 @@ IsShift-moved_row Right n = IsShift-none n
 IsShift-moved_row Up n = IsShift-one_up n
 IsShift-moved_row Down n = IsShift-one_down n
 
--- numbers are the same, or different, where they are after a renaming
+-- numbers are the same, or different, if they are after a renaming
 pub eqb-shift : (n : ℕ) (f : ℕ → ℕ) → IsOneToOne n f → (a b : ℕ) → a < n → b < n → eqb (f a) (f b) ≡ eqb a b
 eqb-shift n f one a b la lb = elim (cases_eq a b) [
   | inl e ↦ eq-eqb (f a) (f b) (ap f e) ∙ sym (eq-eqb a b e)

@@ -104,7 +104,7 @@ take-turned side n rows into fits h =
     (length-turned_rows side n rows)
     (λ c l. get_or-take n into c 0 l ∙ h.each c l ∙ sym (slice_index-turned_rows side n rows c l))
 
--- where both arrays have all columns, they begin with the marks of the turned grid
+-- if both arrays have all columns, they begin with the marks of the turned grid
 pub take-turned_marks : (side : Side) (g : Marks) (o x : List ℕ) (n k : ℕ) → IsGrid g → n ≡ size g → n ≤ k
     → HasTurned side n g.o o k → HasTurned side n g.x x k → record { o = take n o; x = take n x } ≡ turned side g
 take-turned_marks side g o x n k grid e far ho hx =

@@ -101,7 +101,7 @@ IsState-turned_state side x s =
           subst P (sym e) (IsBijection-turned_state side (length x) x s.bijection);
     }
 
--- where an array has all circles, it begins with the turned state
+-- if an array has all circles, it begins with the turned state
 pub take-turned_state : (side : Side) (x rows : List ℕ) (n k : ℕ) → IsState x → n ≡ length x → n ≤ k
     → HasTurned side n x rows k → take n rows ≡ turned_state side x
 take-turned_state side x rows n k s e far h =

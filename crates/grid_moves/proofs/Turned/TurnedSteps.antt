@@ -67,7 +67,7 @@ parity_rectangles p n =
 abbrev AreApart : ℕ → ℕ × ℕ → Type 0
 AreApart n c = (c.0 < n) × (c.1 < n) × (c.0 ≢ c.1)
 
--- where p' holds of the renamed rectangles as p does, they have one sum
+-- if p' holds of the renamed rectangles as p does, they have one sum
 pub rectangles_renamed : (n : ℕ) (f h : ℕ → ℕ) → IsOneToOne n f → IsOneToOne n h → (p p' : Rect → Bool)
     → ((a b j k : ℕ) → a < n → b < n → j < n → k < n → p' (corners (f a) (f b) (h j) (h k)) ≡ p (corners a b j k))
     → parity p' (rectangles n) ≡ parity p (rectangles n)
@@ -135,7 +135,7 @@ module _ (side : Side) (n : ℕ) where
       ∙ sym (state-at_target (swap x a b) sy d ld)
       ∙ ap (slice_index (T (swap x a b))) is)
 
-  -- turned states are the same where the states are
+  -- turned states are the same if the states are
   same-turned : (x y : List ℕ) → IsBijection n x → IsBijection n y → is_same (T x) (T y) ≡ is_same x y
   same-turned x y sx sy =
       let tx = IsBijection-turned_state side n x sx in
@@ -174,7 +174,7 @@ module _ (side : Side) (n : ℕ) where
         ∙ inside-shift n h sh j k (slice_index x c) lj lk (sx.small c l)))
         ∙ sym (ap (λ m. all_below m (λ c. not (is_inside m a b c && is_inside m j k (slice_index x c)))) sx.long)
 
-    -- a mark is in the turned rows where it was in the rows
+    -- a mark is in the turned rows if it was in the rows
     mark-turned : (rows : List ℕ) → IsBijection n rows → (c : ℕ) → c < n
         → in_range n (h j) (h k) (slice_index (turned_rows side n rows) (f c)) ≡ in_range n j k (slice_index rows c)
     mark-turned rows s c l =

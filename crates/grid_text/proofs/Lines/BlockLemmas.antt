@@ -1,4 +1,4 @@
--- The tests of a line `destab` and of a line `stab`, where it is known what their words are.
+-- The tests of a line `destab` and of a line `stab`, if it is known what their words are.
 use Rattle.std.proofs.Common.{◌≡◌, ℕ, ◌-◌, ◌<◌, ◌≤◌, false, not, ◌==◌, Some, ap, ◌∙◌, sym, arith, inl, inr, true≢false}
 use Rattle.std.specs.Option.{option_map_or}
 use Rattle.std.specs.List.{find}

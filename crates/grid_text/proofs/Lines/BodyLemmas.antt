@@ -169,7 +169,7 @@ module _ (s : GridScript) (arguments : List Word) (w : Word) (one : arguments �
 
 -- ---- `border`
 
--- a state of the size of a grid, where the reader knows the size by another name
+-- a state of the size of a grid, if the reader knows the size by another name
 state_of-at : (s : GridScript) (g : Marks) (m : ℕ) (w : Word) (r o : Option (List ℕ)) → m ≡ size g
     → g ≡ grid_in_force s → r ≡ state_of m w → r ≡ o
     → state_of (size (grid_in_force s)) w ≡ o

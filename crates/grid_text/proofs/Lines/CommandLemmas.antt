@@ -1,6 +1,6 @@
 -- The lines of commands. A line with a command that may stand there has no fault before the last row of the table:
--- its words are good for their kinds, which are those of the table, where it exchanges columns or rows they commute,
--- where it undoes a stabilisation there is the block, and where it stabilises there is room. No such line is `end`.
+-- its words are good for their kinds, which are those of the table, if it exchanges columns or rows they commute,
+-- if it undoes a stabilisation there is the block, and if it stabilises there is room. No such line is `end`.
 use Rattle.std.proofs.Common.{◌≡◌, ℕ, ◌+◌, ◌-◌, ◌<◌, ◌^◌, true, false, not, ◌||◌, ◌&&◌, cond, List, [], ◌∷◌, length, map, None, Some, refl, ap, subst, ◌∙◌, sym, arith, true≢false}
 use Rattle.std.specs.Prelude.{nat_le, ◌==◌}
 use Rattle.std.specs.Option.{option_map_or}

@@ -1,6 +1,6 @@
 -- The table of faults, row by row. The fault of a line is that of the first row that holds: a row that does not hold
 -- is passed (`pass`), one that holds decides (`hit`). So each row has a lemma that asks that the rows before it do not
--- hold, and a line has no fault exactly where no row holds (`NoRowHolds`, but for the last row).
+-- hold, and a line has no fault exactly if no row holds (`NoRowHolds`, but for the last row).
 use Rattle.std.proofs.Common.{◌≡◌, Bool, true, false, cond, List, [], ◌∷◌, Option, None, Some, refl, ap, ◌∙◌, sym}
 use Rattle.std.specs.Prelude.{is_none}
 use Rattle.std.specs.Option.{option_map_or}
@@ -10,14 +10,14 @@ use Rattle.grid_text.specs.Faults.{Form, form_at, form_of_line, arguments_at, is
 use Rattle.grid_text.specs.declared.faults.TextFault.{TextFault}
 use Rattle.grid_text.specs.declared.faults.TextFault.TheVariants as fault
 
--- a choice where the test fails, and where it passes
+-- a choice if the test fails, and if it passes
 pass : {A : Type 0} (b : Bool) (x y o : A) → b ≡ false → y ≡ o → cond b x y ≡ o
 pass b x y o fails later = ap (λ t. cond t x y) fails ∙ later
 
 hit : {A : Type 0} (b : Bool) (x y : A) → b ≡ true → cond b x y ≡ x
 hit b x y passes = ap (λ t. cond t x y) passes
 
--- where a row gives no fault, its test fails, and the later rows give none
+-- if a row gives no fault, its test fails, and the later rows give none
 no_hit : (b : Bool) (f : TextFault) (y : Option TextFault) → cond b (Some f) y ≡ None → (b ≡ false) × (y ≡ None)
 no_hit true f y e = cc
 no_hit false f y e = (refl, e)
@@ -67,7 +67,7 @@ module _ (p : Place) (form : Form) (words arguments : List Word) (here : is_afte
       pass _ _ _ _ here (ap (λ f. first_passed (rows_from_word p f words)) known)
       ∙ ap (λ a. first_passed (rows_of_form p form a words)) given
 
-  -- the last row decides where no other holds
+  -- the last row decides if no other holds
   pub fault_in_table-last : NoRowHolds p form words arguments
       → fault_in_table p words ≡ cond (is_one_too_many p words) (Some fault.TooMany) None
   fault_in_table-last r =

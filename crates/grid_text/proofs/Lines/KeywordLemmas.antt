@@ -25,7 +25,7 @@ use Rattle.grid_text.proofs.Lines.KindLemmas.{word-find}
 abbrev keyword_rows : ℕ → List Keyword → List (Word × Form)
 keyword_rows n ks = map (λ k. (keyword_word k, keyword_form n k)) ks
 
--- where none of them is the word, their rows do not know it
+-- if none of them is the word, their rows do not know it
 form_among-none : (n : ℕ) (ks : List Keyword) (word : Word) → find (λ k. is_word (keyword_word k) word) ks ≡ None
     → form_among (keyword_rows n ks) word ≡ None
 form_among-none n [] word e = refl

@@ -86,7 +86,7 @@ module _ {A : Type 0} (word : A → Word) where
   pub word-find : (values : List A) (w : Word) (v : A) → find (λ u. is_word (word u) w) values ≡ Some v → w ≡ word v
   word-find values w v e = sym (same_word (word v) w (found (λ u. is_word (word u) w) values v e).1)
 
-  -- where none is found, the word is none of theirs
+  -- if none is found, the word is none of theirs
   pub bad-find : (values : List A) (w : Word) → find (λ u. is_word (word u) w) values ≡ None
       → is_bad (choice_of (map word values)) w ≡ true
   bad-find values w none = ap not (none_among values none)
@@ -148,7 +148,7 @@ axis-good Rows = refl
 
 -- ---- numbers and states
 
--- where there is a value it is something
+-- if there is a value it is something
 some_value : {A : Type 0} (o : Option A) → is_none o ≡ false → (x : A) × (o ≡ Some x)
 some_value None e = absurd (true≢false e)
 some_value (Some x) e = (x, refl)

@@ -1,6 +1,6 @@
 -- The parts of a list of bytes. The first part ends at the first byte that ends one (`parts-found`), or is all bytes
 -- (`parts-none`); the reader takes one part at a time, and a part without bytes is no word. A carriage return is
--- dropped where it is the last byte.
+-- dropped if it is the last byte.
 use Rattle.std.proofs.Common.{◌≡◌, ◌≢◌, ℕ, suc, ◌<◌, Bool, true, false, cond, List, [], ◌∷◌, ◌++◌, length, length-append, codes, ap, ◌∙◌, sym, arith}
 use Rattle.std.specs.List.{filter, All}
 use Rattle.std.proofs.lemmas.Bool.{eq-eqb, ne_eqb}
@@ -27,7 +27,7 @@ module _ (is_end : ℕ → Bool) where
       parts-byte b (part ++ end ∷ after) (none 0 b (omega arith))
       ∙ ap (before_parts b) (parts-at part after end (λ k d l. none (suc k) d (omega arith)) here)
 
-  -- where no byte ends one, all bytes are the first part
+  -- if no byte ends one, all bytes are the first part
   parts-whole : (b : ℕ) (bytes : List ℕ) → All (λ b. is_end b ≡ false) (b ∷ bytes)
       → parts is_end (b ∷ bytes) ≡ (b ∷ bytes) ∷ []
   parts-whole b [] none = parts-byte b [] (none 0 b (omega arith))
@@ -47,7 +47,7 @@ pub shorter-found : (ends bytes part after : List ℕ) → IsFirstPart ends byte
 shorter-found ends bytes part after h =
     omega (arith, ap length h.split, length-append part (h.end ∷ after))
 
--- where none was found, all bytes are the first part
+-- if none was found, all bytes are the first part
 pub parts-none : (ends bytes : List ℕ) → 0 < length bytes → HasNone ends bytes
     → parts (is_among ends) bytes ≡ bytes ∷ []
 parts-none ends [] some none = absurd (omega arith)

@@ -61,7 +61,7 @@ seen-parts [] d some = absurd (omega arith)
 seen-parts (w ∷ words) d some =
     ap (λ (r : List (Bor (List ℕ))). w.now ∷ seen r) (sym (take_all (length (w ∷ words) - 1) words (omega arith)))
 
--- where the first is the one expected
+-- if the first is the one expected
 pub seen-first : (words : List (Bor (List ℕ))) (expected : Word) (d : Bor (List ℕ)) → 1 ≤ length words
     → is_word expected (get_or words 0 d).now ≡ true
     → seen words ≡ expected ∷ seen (take (length words - 1) (drop 1 words))
@@ -69,7 +69,7 @@ seen-first words expected d some same =
     seen-parts words d some ∙ ap (λ w. w ∷ seen (take (length words - 1) (drop 1 words)))
     (sym (same_word expected (get_or words 0 d).now same))
 
--- and where it is not
+-- and if it is not
 pub seen-other : (words : List (Bor (List ℕ))) (expected : Word) (d : Bor (List ℕ)) → 1 ≤ length words
     → is_word expected (get_or words 0 d).now ≡ false
     → (rest : List Word) → seen words ≢ expected ∷ rest

@@ -31,7 +31,7 @@ use Rattle.grid_text.proofs.Lines.FaultLemmas.{fault_in_table-choice, fault_in_t
 good_square : (u : Word) (v : Square) → u ≡ square_word v → is_bad (choice_of (map square_word squares)) u ≡ false
 good_square u v named = subst (λ e. is_bad (choice_of (map square_word squares)) e ≡ false) (sym named) (square-good v)
 
--- a number below the size of the grid in force, less j, where the reader knows the grid and the size by other names
+-- a number below the size of the grid in force, less j, if the reader knows the grid and the size by other names
 numeral_in_force : (s : GridScript) (g : Marks) (m j : ℕ) (w : Word) (r o : Option ℕ) → m ≡ size g
     → g ≡ grid_in_force s → r ≡ numeral 0 (m - j) w → r ≡ o → numeral 0 (size (grid_in_force s) - j) w ≡ o
 numeral_in_force s g m j w r o long is value known =

@@ -1,4 +1,4 @@
--- Words: which number or state a word is. What is looked for in a list is found there exactly where one element
+-- Words: which number or state a word is. What is looked for in a list is found there exactly if one element
 -- passes the test (`find-one`, `find-none`, `found`). Numbers of at most 64 bits and states have words of their own,
 -- so that each word is that of one number between two bounds, or of one state of a size, or of none.
 use Rattle.std.proofs.Common.{◌≡◌, ◌≢◌, ◌⊎◌, ℕ, zero, suc, ◌+◌, ◌-◌, ◌<◌, ◌≤◌, ◌^◌, Bool, true, false, ◌&&◌, cond, List, [], ◌∷◌, length, get_or, None, Some, Result, Ok, Err, IfSome, IfNone, refl, ap, subst, ◌∙◌, sym, arith, inl, inr, true≢false, Option}
@@ -173,7 +173,7 @@ module _ {E : Type 0} (word : Word) (r : Result ℕ E) (parses : ParsesUnsigned 
           (omega (arith, value.0.2)))
       read (Err e) parses = tt
 
-  -- where `parse` fails, there is none
+  -- if `parse` fails, there is none
   pub parsed-none : IfNone (result_ok r) ((v : ℕ) → v < 2 ^ 32 → word ≢ decimal v)
   parsed-none = read r parses
     where
@@ -210,7 +210,7 @@ state_of-found n x word e =
     let r = found (λ y. is_word (state_word y) word) (states n) x e in
     (sym (same_word (state_word x) word r.1), member_of_states n x r.0)
 
--- what is read of a word that is a state's: the state, where it has the size
+-- what is read of a word that is a state's: the state, if it has the size
 pub state_of-read : (n : ℕ) (word : Word) (x : List ℕ) → IsState x → length x ≡ n → word ≡ state_word x
     → Some x ≡ state_of n word
 state_of-read n word x state size is =
@@ -232,7 +232,7 @@ state_of-no_state n word size none =
       bijection = subst (λ m. IsBijection m x) (sym bijection.long) bijection;
     })))
 
--- a number below n, where the reader knows n by another name
+-- a number below n, if the reader knows n by another name
 pub numeral-at : (m n : ℕ) (w : Word) (r o : Option ℕ) → m ≡ n → r ≡ numeral 0 (m - 1) w → r ≡ o
     → numeral 0 (n - 1) w ≡ o
 numeral-at m n w r o same value is = ap (λ k. numeral 0 (k - 1) w) (sym same) ∙ sym value ∙ is

@@ -259,7 +259,7 @@ pub no_document : (text : List ℕ) (f : TextFault) (line : ℕ) (s : GridScript
     → IsDocument text s → ⊥
 no_document text f line s first d = no_document_of_lines (words_of_lines text) f line s first d
 
--- a line is allowed at a place that lines lead to exactly where it has no fault
+-- a line is allowed at a place that lines lead to exactly if it has no fault
 pub allowed : (lines : List (List Word)) (p : Place) (words : List Word) → Path head lines p
     → (line_fault p words ≡ None) ↔ ((q : Place) × Leads p words q)
 allowed lines p words path =

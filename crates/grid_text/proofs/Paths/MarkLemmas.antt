@@ -1,4 +1,4 @@
--- The marks of a row of a picture. Where exactly one symbol is an O and one an X, and the others are those of empty
+-- The marks of a row of a picture. If exactly one symbol is an O and one an X, and the others are those of empty
 -- squares, the symbols are those of the row with its marks in these two columns (`row_of_marks`), and the other way
 -- round (`IsOnly-o`, `IsOnly-x`).
 use Rattle.std.proofs.Common.{◌≡◌, ◌≢◌, ℕ, zero, suc, ◌+◌, ◌<◌, Bool, true, false, ◌&&◌, ◌||◌, cond, List, [], ◌∷◌, length, get_or, Some, refl, ap, subst, ◌∙◌, sym, arith, inl, inr, true≢false, None}
@@ -271,7 +271,7 @@ one_row n o x c d a b row fits e f =
 
 -- ---- marks that stand once
 
--- a symbol where one word alone passes
+-- a symbol if one word alone passes
 pub symbol-here : (m : ℕ) (row : List ℕ) (c : ℕ) → IsOnly (is_word (m ∷ [])) (row_words row) c → get_or row c 0 ≡ m
 symbol-here m row c only =
     let within = only.within in
@@ -343,7 +343,7 @@ IsOnly-position m row c one first =
           absurd (true≢false (sym found.1 ∙ ne_eqb (get_or row c 0) m no_mark))
     ]
 
--- where none is found, there is none
+-- if none is found, there is none
 pub count-position_none : (p : ℕ → Bool) (row : List ℕ) → position p row ≡ None → count_by p row ≡ 0
 count-position_none p row none = from_place 0 row (sym (position_from-zero p row) ∙ none)
   where

@@ -112,7 +112,7 @@ same_fault p q r (u ∷ a) (z ∷ b) after later v w f g h s t e x y =
     (subst (λ k. Path k b r) (sym next) t.2) (ap tail_of e) x y in
     (more.0, ap suc more.1)
 
--- where some line has a fault, not every line is allowed
+-- if some line has a fault, not every line is allowed
 not_open : (lines : List (List Word)) (f : TextFault) (line number : ℕ) → HaveFault lines f line
     → HaveNoEnd lines number → ⊥
 not_open lines f line number first open_end =

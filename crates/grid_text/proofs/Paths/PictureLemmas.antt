@@ -277,7 +277,7 @@ FitsRow-marks n o x row c d long only_o only_x new_o new_x =
       new_x = new_x;
     }
 
--- a column is new where the word stands in none of the others
+-- a column is new if the word stands in none of the others
 new_column : (w : Word) (columns : List ℕ) (arguments : List Word) (c : ℕ) → IsOnly (is_word w) arguments c
     → stands_in columns w arguments ≡ false → ¬ Contains columns c
 new_column w columns arguments c only none m =

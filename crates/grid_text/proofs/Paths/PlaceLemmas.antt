@@ -1,4 +1,4 @@
--- At a place that lines lead to, a line is allowed exactly where no row of the table holds, and then it leads to one
+-- At a place that lines lead to, a line is allowed exactly if no row of the table holds, and then it leads to one
 -- place. Both are shown place by place: the head and the O and X lines by their words, a picture by the columns of the
 -- marks of its rows, the body by its commands. What
 -- is known of the place (`IsPlace`) is handed on along the path. A blank line leaves the place and has no fault, and no

@@ -44,7 +44,7 @@ form_at-expected p expected form forms = forms expected ∙ ap (λ b. cond b (So
 
 -- ---- O and X lines
 
--- a test of each word for its kind, where all kinds are one
+-- a test of each word for its kind, if all kinds are one
 pub zip-replicate : (test : Kind → Word → Bool) (kind : Kind) (n : ℕ) (words : List Word) → length words ≡ n
     → list_any (λ (a : Kind × Word). test a.0 a.1) (zip (replicate n kind) words) ≡ list_any (test kind) words
 zip-replicate test kind zero [] e = refl
@@ -181,7 +181,7 @@ module _ (n : ℕ) (rows : List ℕ) (words : List Word) (h : AreNumerals n rows
       ap (list_any (is_bad (number_between 0 (n - 1)))) h.forms
       ∙ rows-good n rows fits (λ r m. All-contains (λ q. q < n) rows r h.below m)
 
-  -- some word stands twice where the rows are no state
+  -- some word stands twice if the rows are no state
   pub twice-AreNumerals : IsSize n → length words ≡ n → (IsState rows → ⊥) → has_repeated words ≡ true
   twice-AreNumerals small long none = elim (cases_Bool (has_repeated words)) [
     | inl t ↦ t
@@ -194,7 +194,7 @@ module _ (n : ℕ) (rows : List ℕ) (words : List Word) (h : AreNumerals n rows
         }))
   ]
 
-  -- where they are a state
+  -- if they are a state
   pub read-AreNumerals : (letter : Word) (all : List Word) (x : List ℕ) → length words ≡ n → all ≡ letter ∷ words
       → x ≡ rows → IsState rows → IsBijection n x × (all ≡ letter ∷ map decimal x)
   read-AreNumerals letter all x long e same is = (
@@ -242,7 +242,7 @@ squares-shared (q ∷ o) (r ∷ x) same (suc c) within e =
     or_true true = refl
     or_true false = refl
 
--- they are apart where no square is shared
+-- they are apart if no square is shared
 pub apart-squares : (o x : List ℕ) → length o ≡ length x
     → list_any (λ (a : ℕ × Word). is_word (decimal a.0) a.1) (zip o (map decimal x)) ≡ false → (c : ℕ) → c < length o
     → slice_index o c ≢ slice_index x c

@@ -1,6 +1,6 @@
 -- Chains: lists of states in any order, and the same states in ascending order. States whose words are all different
 -- can be put in ascending order, one at a time (`ascending_of`), and in one way (`same_ascending`); sorted by rank they
--- ascend exactly where no two are the same.
+-- ascend exactly if no two are the same.
 use Rattle.std.proofs.Common.{◌≡◌, ◌≢◌, ℕ, ◌<◌, ◌≤◌, false, List, [], ◌∷◌, map, get_or, refl, ap, subst, ◌∙◌, sym, arith, inl, inr, true≢false, IsTrue}
 use Rattle.std.specs.List.{Contains, AllPairs}
 use Rattle.std.specs.List.Sorted.{IsPermutation, IsNonDecreasingBy}
@@ -32,7 +32,7 @@ repeated-none xs z permutation ascending =
     (has_repeated-apart (map state_word z) (AllPairs-map state_word z (λ a b m k e. state_word_injective a b e)
     (apart-AreAscending z ascending)))
 
--- where the words of states are all different, so are the states in any order
+-- if the words of states are all different, so are the states in any order
 pub apart-states : (xs ys : List (List ℕ)) → IsPermutation xs ys → has_repeated (map state_word xs) ≡ false
     → AllPairs (λ x y. x ≢ y) ys
 apart-states xs ys permutation once =

@@ -1,4 +1,4 @@
--- Lists of words in which no word stands twice. It is so exactly where no word occurs more than once, which the order
+-- Lists of words in which no word stands twice. It is so exactly if no word occurs more than once, which the order
 -- of the words does not touch; numbers below n, all different and n of them, are a bijection.
 use Rattle.std.proofs.Common.{◌≡◌, ◌≢◌, ℕ, ◌+◌, ◌<◌, ◌≤◌, ◌^◌, Bool, true, false, ◌||◌, cond, List, [], ◌∷◌, length, map, get_or, refl, ap, ◌∙◌, sym, arith, inl, inr, true≢false}
 use Rattle.std.proofs.lemmas.List.Sums.{sum_by-cons}
@@ -65,7 +65,7 @@ AllPairs-unmap f (x ∷ xs) apart =
     (λ y m e. pairs_head (λ v w. v ≢ w) (f x) (map f xs) apart (f y) (Contains-map f xs y m) (ap f e))
     (AllPairs-unmap f xs (pairs_tail (λ v w. v ≢ w) (f x) (map f xs) apart))
 
--- different things have different words, where each word is that of one of them
+-- different things have different words, if each word is that of one of them
 pub AllPairs-map : {A : Type 0} (f : A → Word) (xs : List A)
     → ((a b : A) → Contains xs a → Contains xs b → f a ≡ f b → a ≡ b) → AllPairs (λ a b. a ≢ b) xs
     → AllPairs (λ v w. v ≢ w) (map f xs)
@@ -154,7 +154,7 @@ occurrences-some w (v ∷ words) some = elim (cases_Bool (is_word w v)) [
       omega (arith, occurrences-cons w v words, rest)
 ]
 
--- no word stands twice where none occurs more than once
+-- no word stands twice if none occurs more than once
 pub has_repeated-occurrences : (words : List Word) → ((w : Word) → occurrences w words ≤ 1) → has_repeated words ≡ false
 has_repeated-occurrences [] once = refl
 has_repeated-occurrences (v ∷ words) once = elim (cases_Bool (list_any (is_word v) words)) [

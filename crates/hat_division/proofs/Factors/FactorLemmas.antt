@@ -1,4 +1,4 @@
--- Factors 1 + s cancel, where the step up raises a height by one: ranks that are 0 above some height are told by their
+-- Factors 1 + s cancel, if the step up raises a height by one: ranks that are 0 above some height are told by their
 -- product, from the top down.
 use Rattle.std.proofs.Common.{◌≡◌, ℕ, zero, suc, ◌+◌, ◌-◌, ◌≤◌, ℤ, pos, negsuc, ◌+ℤ◌, List, [], ◌∷◌, refl, sym, ◌∙◌, arith}
 use Rattle.std.specs.Prelude.{◌<ℤ◌, ◌-ℤ◌}
@@ -100,7 +100,7 @@ module _ {K : Type 0} (height : K → ℤ) (top : ℤ) where
           let product = is k in
           omega arith
 
-      -- where the ranks are a product, it is the other factor
+      -- if the ranks are a product, it is the other factor
       pub left_after-is : (k : K) → left_after k ≡ q k
       unfolding left_after
       left_after-is k = let n = far top (height k) in left_by-is n.0 k n.1

@@ -78,7 +78,7 @@ module _ {R K : Type 0} (T : TableShape R K) where
           record { positive = h.positive; product = is },
         )
 
-    -- where there is none by some factors, there is none by one more
+    -- if there is none by some factors, there is none by one more
     pub none_further : ((p : List R) → IsQuotientOf ups rows p → ⊥) → (q : List R) → IsQuotientOf (up ∷ ups) rows q → ⊥
     none_further none q h = let before = quotient_before q h in none before.0 before.1
 
@@ -112,7 +112,7 @@ module _ {R K : Type 0} (T : TableShape R K) where
           quotient_further v vs p hp.positive mid.0 q ((quotients_next vs p mid.0 hp).1 mid.1) mid.2,
     )
 
-    -- where there is none by some factors, there is none by more
+    -- if there is none by some factors, there is none by more
     pub none_next : (vs : List (K → K)) → ((p : List R) → IsQuotientOf ups rows p → ⊥) → (q : List R)
         → IsQuotientOf (vs ++ ups) rows q → ⊥
     none_next [] none = none
@@ -143,7 +143,7 @@ module _ {R K : Type 0} (T : TableShape R K) where
     candidate-ranks k =
         ranks_of-with_ranks T left rows positive (λ l none. let less = left-le l in omega arith) k
 
-    -- at a row: its rank is that of the product, and where it is in the quotient there is a row one step down
+    -- at a row: its rank is that of the product, and if it is in the quotient there is a row one step down
     abbrev IsRight : R → Type 0
     IsRight row =
         (ranks_of T rows (T.key row) ≡ left (T.key row) + left (up (T.key row)))
@@ -165,7 +165,7 @@ module _ {R K : Type 0} (T : TableShape R K) where
           ]
         ]
 
-    -- where all rows are right, it is the quotient
+    -- if all rows are right, it is the quotient
     candidate_is : ((row : R) → Contains rows row → IsRight row) → IsQuotientOf (up ∷ []) rows candidate
     unfolding candidate
     candidate_is all = record {
@@ -195,7 +195,7 @@ module _ {R K : Type 0} (T : TableShape R K) where
               omega arith
         ]
 
-    -- where there is a quotient, all rows are right
+    -- if there is a quotient, all rows are right
     right_of : (q : List R) → IsQuotientOf (up ∷ []) rows q → (row : R) → IsRight row
     right_of q h row =
         let k = T.key row in

@@ -141,11 +141,11 @@ module _ {R K : Type 0} (T : TableShape R K) where
       rest_of_rank q h =
           let product = h.product k in let is = row_rank in let over = up_same q h in omega arith
 
-      -- there is none where the rank is less than what comes from one step up
+      -- there is none if the rank is less than what comes from one step up
       pub candidate_fails : T.rank row < ranks_of T c (up k) → (q : List R) → IsQuotientOf T (up ∷ []) rows q → ⊥
       candidate_fails less q h = let sum = rest_of_rank q h in absurd (omega arith)
 
-      -- the row is done where the candidate has the rest of its rank there, and is the same elsewhere
+      -- the row is done if the candidate has the rest of its rank there, and is the same elsewhere
       looked_at : (new : List R) → ArePositive T new → ranks_of T c (up k) ≤ T.rank row
           → ranks_of T new k ≡ T.rank row - ranks_of T c (up k)
           → ((l : K) → (k ≡ l → ⊥) → ranks_of T new l ≡ ranks_of T c l)
@@ -234,7 +234,7 @@ module _ {R K : Type 0} (T : TableShape R K) where
 
     -- ---- at the end
     module _ (c : List R) (all : IsCandidateFor T up rows rows c) where
-      -- where each of its rows has a row of the table one step down, it is the quotient
+      -- if each of its rows has a row of the table one step down, it is the quotient
       pub candidate_is : ((r : R) → Contains c r → 0 < ranks_of T rows (step.down (T.key r)))
           → IsQuotientOf T (up ∷ []) rows c
       candidate_is downs = record {
@@ -258,7 +258,7 @@ module _ {R K : Type 0} (T : TableShape R K) where
         ];
       }
 
-      -- where one has none, there is no quotient
+      -- if one has none, there is no quotient
       pub candidate_is_not : (r : R) → Contains c r → ranks_of T rows (step.down (T.key r)) ≡ 0 → (q : List R)
           → IsQuotientOf T (up ∷ []) rows q → ⊥
       candidate_is_not r inside none q h =

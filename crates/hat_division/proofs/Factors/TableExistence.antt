@@ -1,4 +1,4 @@
--- Where each key of a finite number has a rank, and all others have the rank 0, there is a list of rows in order with
+-- If each key of a finite number has a rank, and all others have the rank 0, there is a list of rows in order with
 -- these ranks.
 use Rattle.std.proofs.Common.{◌≡◌, ◌⊎◌, ℕ, zero, suc, ◌<◌, ◌≤◌, true, List, [], ◌∷◌, Contains, IsTrue, inl, inr, refl, sym, ap, subst, ◌∙◌, arith}
 use Rattle.std.proofs.lemmas.Bool.{cases_eq}

@@ -282,13 +282,13 @@ module _ {R K : Type 0} (T : TableShape R K) where
               positive = All-cons (λ row. 1 ≤ T.rank row) new (with_ranks rows) (omega arith) rest.positive;
             }
 
-    -- where the list has no row, they have none
+    -- if the list has no row, they have none
     with_ranks-none : (rows : List R) (k : K) → ((row : R) → Contains rows row → T.key row ≡ k → ⊥)
         → ranks_of (with_ranks rows) k ≡ 0
     with_ranks-none rows k none = ranks_of-none (with_ranks rows) k (λ s inside e.
         let t = member_of_with_ranks rows s inside in none t.0 t.1 (t.2 ∙ e))
 
-    -- where it has one, they have the other rank
+    -- if it has one, they have the other rank
     with_ranks-there : (rows : List R) → AreOrdered rows → (row : R) → Contains rows row
         → ranks_of (with_ranks rows) (T.key row) ≡ r (T.key row)
     unfolding with_ranks push_row
@@ -329,7 +329,7 @@ module _ {R K : Type 0} (T : TableShape R K) where
             (λ e. other (sym (T.key_made (T.key x) (suc n)) ∙ e)) in
             omega arith
 
-    -- ranks that are 0 where the list has none are those of a list in order
+    -- ranks that are 0 if the list has none are those of a list in order
     pub ranks_of-with_ranks : (rows : List R) → ArePositive rows
         → ((k : K) → ranks_of rows k ≡ 0 → r k ≡ 0) → (k : K) → ranks_of (with_ranks rows) k ≡ r k
     ranks_of-with_ranks rows positive under k = elim (cases_lt 0 (ranks_of rows k)) [

@@ -64,13 +64,13 @@ module _ (g : Marks) (s : IsGrid g) (c : ℕ) (corner : Corner) (lc : c < size g
   abbrev H : ℕ → ℕ → Bool
   H a b = is_hexagon_at g c (crossing_row g c corner) (crossing_row_back g c corner) x a b
 
-  -- the rectangle is a hexagon where the test of the state holds
+  -- the rectangle is a hexagon if the test of the state holds
   hexagon_is : (a b : ℕ) → a < size g → b < size g
       → hexagon_at g s c w v lc lw lv (slice_index x) a b ≡ (differ a b && H a b)
   unfolding is_hexagon_at
   hexagon_is a b la lb = sym (passes_at-hexagon g s c w v lc lw lv x sx a b la lb)
 
-  -- where no circle is c there is none
+  -- if no circle is c there is none
   off_circle : (a b : ℕ) → a ≢ c → b ≢ c → H a b ≡ false
   unfolding is_hexagon_at
   off_circle a b p q =

@@ -16,7 +16,7 @@ up v t = cond v (next t) (next (next t))
 abbrev pub rel : Bool → Place → Bool → Bool → Bool → Place → Bool
 rel v y a b c t = cond (is_same_place t y) a (cond (is_same_place t (up v y)) b c)
 
--- the arc of v, where y is that of w
+-- the arc of v, if y is that of w
 abbrev pub arc_of : Bool → Place → Order → Place
 arc_of v y early = y
 arc_of v y late = y

@@ -1,4 +1,4 @@
--- Two steps on the way back at three columns cancel: where one of the columns is that of the moved circle, the terms
+-- Two steps on the way back at three columns cancel: if one of the columns is that of the moved circle, the terms
 -- come in equal pairs, and elsewhere there is no term.
 use Rattle.std.proofs.Common.{◌≡◌, ◌≢◌, ℕ, ◌<◌, Bool, true, false, not, ◌&&◌, ◌||◌, refl, ap, ap₂, ◌∙◌, sym, eqb, inl, inr}
 use Rattle.std.proofs.lemmas.Bool.{eq-eqb, ne_eqb, cases_eq}
@@ -317,7 +317,7 @@ module _ (n r s w v : ℕ) (O X : ℕ → ℕ) (sd : AreSides n r s) (small : (c
         (hex_paired u vv y.0 o.0 (no_left f one p d at0) (no_right f one p d at0) (rm f one p d at0)
         (lp f one p d at0) (lb f one p d at0) (rb f one p d at0) shape))
 
-    -- where no place is s there is no pentagon and no hexagon
+    -- if no place is s there is no pentagon and no hexagon
     no_penta : (g : ℕ → ℕ) (a b : ℕ) → a ≢ s → b ≢ s → is_open_pentagon n r s w O X g a b ≡ false
     no_penta g a b p q =
         (λ i. differ a b && (is_clear_of n g a b (g a) (g b) && ((ne_eqb a s p i || ne_eqb b s q i)

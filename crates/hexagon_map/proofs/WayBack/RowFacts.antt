@@ -105,7 +105,7 @@ module _ (n a : ℕ) (la : a < n) where
         let j = in_high (k x) (k e) (k t) (omega arith) c in
         away p q t lp lq lt (make_in (k p) (k q) (k t) (omega arith) (omega arith)) (omega arith)
 
--- ---- hexagons: the range of rows has both rows, and meets v first where c is on the right, w where it is on the left
+-- ---- hexagons: the range of rows has both rows, and meets v first if c is on the right, w if it is on the left
 abbrev pub hex_rows : ℕ → ℕ → Bool → Bool → ℕ → ℕ → Bool
 hex_rows w v right left j k = ((right && between j w v) || (left && between j v w)) && (between j k v && between j k w)
 

@@ -1,4 +1,4 @@
--- What is known of the arcs of rows, where no row of s is between v and w and no row of r between w and v.
+-- What is known of the arcs of rows, if no row of s is between v and w and no row of r between w and v.
 use Rattle.std.proofs.Common.{◌≡◌, ◌≢◌, ◌⊎◌, ℕ, ◌<◌, ◌≤◌, Bool, true, false, not, ◌||◌, refl, ap, ap₂, ◌∙◌, sym, subst, arith, inl, inr, true≢false}
 use Rattle.std.proofs.lemmas.Bool.{cases_Bool, and_parts, eq-eqb}
 use Rattle.f2_algebra.proofs.Chains.Tables.{same, and_comm}

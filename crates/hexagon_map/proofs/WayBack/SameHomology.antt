@@ -235,7 +235,7 @@ homotopy-nothing axis g s c corner =
     none : (k : ℕ) → holds no_codes k ≡ true → ⊥
     none k held = false≢true (sym (holds-nothing k) ∙ held)
 
--- a chain is back where what was added is taken away
+-- a chain is back if what was added is taken away
 add_other_back : (u z : Chain) → u ⊕ (z ⊕ u) ≡ z
 add_other_back u z = same_states (u ⊕ (z ⊕ u)) z (λ x.
     at-add u (z ⊕ u) x ∙ ap (λ b. u x ⊻ b) (at-add z u x)

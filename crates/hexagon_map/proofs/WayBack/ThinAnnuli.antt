@@ -1,4 +1,4 @@
--- Two steps between the same two columns on the way back, by the rows that they ask for: where the columns are not
+-- Two steps between the same two columns on the way back, by the rows that they ask for: if the columns are not
 -- those of a thin annulus beside the moved circle there is none, and each of the two thin annuli gives one or none.
 use Rattle.std.proofs.Common.{◌≡◌, ◌≢◌, ℕ, ◌<◌, ◌≤◌, Bool, true, false, not, ◌&&◌, ◌||◌, refl, ap, ap₂, ◌∙◌, sym, eqb, arith, inl, inr, true≢false}
 use Rattle.std.proofs.lemmas.Bool.{eq-eqb, ne_eqb, cases_eq, cases_lt, cases_Bool, and_from, and_parts}

@@ -1,9 +1,9 @@
--- A certificate with the verdict yes tells the table of ranks of its grid.
+-- A certificate with the verdict yes implies the table of ranks of its grid.
 --
 -- The facts of each cell (PassingLemmas) are those that `f2_algebra` asks of a cell of a certificate of the grid
 -- complex: chains whose states have the bidegree are chains of this degree, borders are those of the complex, and as
 -- many states as are counted are its cells of this degree. So the number of cycle pairs of a cell is the rank in its
--- bidegree, and the rank is 0 where there is no cell. The rows are in order because the cells are.
+-- bidegree, and the rank is 0 if there is no cell. The rows are in order because the cells are.
 use Rattle.std.proofs.Common.{◌≡◌, ◌≢◌, ℕ, zero, suc, ◌+◌, ◌<◌, Bool, true, false, not, ◌&&◌, ◌||◌, eqb, List, [], ◌∷◌, length, get_or, ℤ, pos, ◌+ℤ◌, ◌-ℤ◌, Any, All, AllPairs, Contains, IsTrue, ◌↔◌, if◌then◌else◌, inl, inr, refl, sym, ap, ap₂, subst, ◌∙◌, is_some, nat_lt, arith}
 use Rattle.std.specs.List.{filter, list_any, list_all}
 use Rattle.std.specs.Ordering.{int_eq}

@@ -150,7 +150,7 @@ is_probe-steps g f h own y later pairs same_probe same told =
     ∙ ap₂ (λ z zs. pairs_oddly z h && list_all (λ u. not (pairs_oddly u h)) zs) same told
     ∙ ap (λ b. pairs_oddly y h && b) (step_borders-evenly g h pairs)
 
--- the second of two tests decides, where the first is passed
+-- the second of two tests decides, if the first is passed
 pub second_fails : {A : Type 0} (a b : Bool) (x y : Option A) → a ≡ true → b ≡ false → x ≡ cond a (cond b None x) y
 second_fails a b x y h i = sym (ap₂ (λ s t. cond s (cond t None x) y) h i)
 
@@ -201,7 +201,7 @@ module _ (c : Certificate) where
       sym (ap (λ (ds : List Cell). first_failing (all_questions c 1 ds)) (sym same) ∙ passed
       ∙ ap (λ (ds : List Cell). first_failing (all_questions c n ds)) (drop_all k cells past))
 
-  -- where a cell fails, it is the first that does
+  -- if a cell fails, it is the first that does
   pub verdict_of-no : (failure : ℕ × CertTest) → Some failure ≡ first_failing (all_questions c 1 c.cells)
       → No failure.0 failure.1 ≡ verdict_of c
   unfolding questions
@@ -209,7 +209,7 @@ module _ (c : Certificate) where
       sym (verdict_of-questions c ∙ ap verdict_of_first (first_failing-append (all_questions c 1 c.cells) _
       ∙ ap (λ f. or_later f (first_failing (last_question c))) (sym told)))
 
-  -- where no cell fails, the last question decides
+  -- if no cell fails, the last question decides
   verdict_of-last : None ≡ first_failing (all_questions c 1 c.cells)
       → verdict_of c ≡ verdict_of_first (first_failing (last_question c))
   unfolding questions

@@ -1,6 +1,6 @@
 -- What a certificate that passes shows, question by question: of each cell, of its cycle pairs and of its step pairs.
 --
--- Where no question fails, each is passed. So each cell has the facts of its tests, with what is asked of a pair and
+-- If no question fails, each is passed. So each cell has the facts of its tests, with what is asked of a pair and
 -- the pairs before and after it as a fact of each two pairs.
 use Rattle.std.proofs.Common.{◌≡◌, ℕ, ◌+◌, Bool, true, false, not, cond, List, [], ◌∷◌, ◌++◌, length, ℤ, refl, sym, ap, ◌∙◌, inl, inr}
 use Rattle.std.specs.List.{list_all, Contains}

@@ -99,7 +99,7 @@ module _ {X : Type 0} (R : X → X → Type 0) (p : X → Bool) (x : X)
       not_one true h = absurd (h refl)
       not_one false h = refl
 
--- ---- what is counted by one test is counted by the tests of all rows, where each member passes one
+-- ---- what is counted by one test is counted by the tests of all rows, if each member passes one
 module _ {X : Type 0} (at : X → Bool) (test : X → ℕ → Bool) (pass : ℕ → Bool) (rows : List X) where
   abbrev one_here : ℕ → X → ℕ
   one_here s r = if at r && test r s then 1 else 0

@@ -1,4 +1,4 @@
--- The ranks by component. The grid complex with these degrees is a complex; in each degree there is one rank; and where
+-- The ranks by component. The grid complex with these degrees is a complex; in each degree there is one rank; and if
 -- all arrows of the slice at an Alexander degree a are cancelled, the rank at (m; ds), for degrees ds that add up to
 -- 2 a, is the number of the left cells of Maslov degree m whose states have the degrees ds. So the program cancels in
 -- the slices as ever, and only counts by finer degrees.

@@ -47,7 +47,7 @@ component_row_shape = record {
 }
 
 module _ (g : Marks) (grid : IsGrid g) where
-  -- rows in order are the table where they have the ranks
+  -- rows in order are the table if they have the ranks
   pub table_of_ranks : (rows : List ComponentRow) → ArePositive component_row_shape rows
       → ((m : ℤ) (ds : List ℤ) → IsComponentRank g m ds (ranks_of component_row_shape rows (m, ds)))
       → IsComponentTable g rows

@@ -42,7 +42,7 @@ count_at_most p (x ∷ xs) =
 pub cell_count-most : (g : Marks) (k : ℤ × List ℤ) (xs : List Cell) → cell_count g k xs ≤ length xs
 cell_count-most g k xs = count_at_most (λ x. same_multidegree (cell_degrees g x) k) xs
 
--- where one is counted, one has the degrees
+-- if one is counted, one has the degrees
 some_counted : {A : Type 0} (p : A → Bool) (xs : List A) → 0 < count p xs → (x : A) × Contains xs x × (p x ≡ true)
 some_counted p [] h = absurd (omega arith)
 some_counted p (x ∷ xs) h = elim (cases_Bool (p x)) [
@@ -53,7 +53,7 @@ some_counted p (x ∷ xs) h = elim (cases_Bool (p x)) [
       (found.0, member_tail x xs found.0 found.1, found.2)
 ]
 
--- where one has them, one is counted
+-- if one has them, one is counted
 pub some_count : {A : Type 0} (p : A → Bool) (xs : List A) (x : A) → Contains xs x → p x ≡ true → 0 < count p xs
 some_count p [] x inside h = absurd (no_member x inside)
 some_count p (y ∷ xs) x inside h =

@@ -61,7 +61,7 @@ count_at_most m (x ∷ xs) = by (int_eq x.maslov m) (count_at_most m xs)
     by false l = omega arith
 
 -- ---- the cells of a degree, one by one
--- none is counted where the degree is new
+-- none is counted if the degree is new
 pub counted-none : (a : ℤ) (ranks : Ranks) → ((m : ℤ) → tree.get bidegree_cmp ranks (bidegree_key (m, a)) ≡ None)
     → ((b m : ℤ) → IfSome (tree.get bidegree_cmp ranks (bidegree_key (m, b))) (λ d. 0 < d))
     → AreCounted a [] ranks ranks

@@ -169,7 +169,7 @@ module _ (g : Marks) (grid : IsGrid g) (b : ℕ) where
         subst (λ r. IsHomologyRank g r.0 r.1 r.2) row.2 rank,
       )
 
-  -- where the degrees of all states lie between the bounds, each bidegree with a rank above 0 has its row
+  -- if the degrees of all states lie between the bounds, each bidegree with a rank above 0 has its row
   row-found : (m a : ℤ) (d : ℕ) → IsBetween b m → IsBetween b a → 0 < d → IsHomologyRank g m a d
       → Contains all_rows (m, a, d)
   unfolding all_rows rows_at rank_of

@@ -282,7 +282,7 @@ module _ (g : Marks) (grid : IsGrid g) (cells : List Cell) (made : AreMade g cel
   abbrev c : Certificate
   c = record { grid = g; cells = cells }
 
-  -- where a cell has the bidegree, the step pairs of it are those that are looked up
+  -- if a cell has the bidegree, the step pairs of it are those that are looked up
   found_at : (d : ℤ × ℤ) (n : ℕ) (xs : List Cell) → Every (λ (x : Cell). x.at ≡ d → length x.steps ≡ n) xs
       → list_any (λ (x : Cell). same_degree d x.at) xs ≡ true → length (steps_at same_degree xs d) ≡ n
   found_at d n [] each h = absurd (false≢true h)
@@ -299,7 +299,7 @@ module _ (g : Marks) (grid : IsGrid g) (cells : List Cell) (made : AreMade g cel
           (none_where (same_degree d x.at) (λ k. false≢true (sym e
           ∙ (same_degree-is x.at d).1 (sym ((same_degree-is d x.at).0 k)))))) ∙ h)
 
-  -- and where none has it, there are none
+  -- and if none has it, there are none
   none_found : (d : ℤ × ℤ) (xs : List Cell) → list_any (λ (x : Cell). same_degree d x.at) xs ≡ false
       → steps_at same_degree xs d ≡ []
   none_found d [] h = refl

@@ -104,7 +104,7 @@ module _ (g : Marks) (grid : IsGrid g) where
             steps_after (has_bidegree g d) [] log;
       }
 
-  -- where some state has the bidegree, it is made
+  -- if some state has the bidegree, it is made
   cell_at-made : (d : ℤ × ℤ) (s : ℕ) → s < factorial (size g) → bidegree g (unrank (size g) s) ≡ d
       → IsMadeCell g (cell_at d)
   unfolding cell_at
@@ -126,11 +126,11 @@ module _ (g : Marks) (grid : IsGrid g) where
   unfolding cell_at
   at-cell_at d = refl
 
-  -- the states of a bidegree, and a cell where there are some
+  -- the states of a bidegree, and a cell if there are some
   abbrev found : ℤ × ℤ → List ℕ
   found d = filter (has_bidegree g d) (ascending (factorial (size g)))
 
-  -- the cell, where there are such states
+  -- the cell, if there are such states
   cell_if : ℤ × ℤ → List ℕ → List Cell
   cell_if d [] = []
   cell_if d (s ∷ xs) = cell_at d ∷ []
@@ -145,7 +145,7 @@ module _ (g : Marks) (grid : IsGrid g) where
     | inr later ↦ absurd (no_member cell later)
   ]
 
-  -- where there is a state, the cell is there
+  -- if there is a state, the cell is there
   Contains-cell_if : (d : ℤ × ℤ) (xs : List ℕ) (s : ℕ) → Contains xs s → Contains (cell_if d xs) (cell_at d)
   unfolding cell_if
   Contains-cell_if d [] s inside = absurd (no_member s inside)

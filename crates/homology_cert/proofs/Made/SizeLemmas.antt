@@ -69,7 +69,7 @@ abbrev number : Bool → ℕ
 number b = cond b 1 0
 
 module _ (g : Marks) where
-  -- where no cell has the bidegree, none counts
+  -- if no cell has the bidegree, none counts
   none_later : (e : ℤ × ℤ) (cells : List Cell) → Every (λ (c : Cell). same_degree e c.at ≡ false) cells
       → total (λ (c : Cell). number (same_degree e c.at)) cells ≡ 0
   none_later e [] h = refl

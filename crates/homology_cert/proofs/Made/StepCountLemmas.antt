@@ -31,7 +31,7 @@ from_above f h sums b top (suc k) =
     let same : f (m +ℤ pos 1) ≡ h (m +ℤ pos 1) = ap f next ∙ later ∙ sym (ap h next) in
     omega (arith, both, same)
 
--- where none is above b, the numbers are the same at each degree
+-- if none is above b, the numbers are the same at each degree
 pub same_everywhere : (f h : ℤ → ℕ) → ((m : ℤ) → f m + f (m +ℤ pos 1) ≡ h m + h (m +ℤ pos 1)) → (b : ℤ)
     → ((m : ℤ) → b <ℤ m → (f m ≡ 0) × (h m ≡ 0)) → (m : ℤ) → f m ≡ h m
 same_everywhere f h sums b none m = elim (cases_Bool (int_lt b m)) [

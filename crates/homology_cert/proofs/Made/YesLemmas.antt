@@ -113,7 +113,7 @@ module _ (c : Certificate) where
       )
       (cells_passed m cells h.1)
 
-  -- where each cell passes and none is missing, the verdict is yes
+  -- if each cell passes and none is missing, the verdict is yes
   pub yes_of_passes : Every (PassesCell c) c.cells → none_missing c ≡ true → verdict_of c ≡ Yes
   unfolding questions
   yes_of_passes cells missing =

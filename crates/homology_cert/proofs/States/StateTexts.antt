@@ -240,7 +240,7 @@ IsFirstBadLine-states text number = (
 )
 
 -- ---- laws
--- A certificate over states that passes tells the table of its grid.
+-- A certificate over states that passes implies the table of its grid.
 pub table_of_certificate : (c : Certificate) → IsCertificate c → verdict_of c ≡ Yes
     → IsHomologyTable c.grid (certified_rows c.cells)
 unfolding certificate_codes
@@ -297,7 +297,7 @@ one_bad_line t k l of_k of_l =
     read_laws.one_bad_line t k l ((IsFirstBadLine-states t k).1 of_k) ((IsFirstBadLine-states t l).1 of_l)
 
 -- ---- what the calls answer
--- what holds of a certificate over codes holds of that over states, where there is one
+-- what holds of a certificate over codes holds of that over states, if there is one
 both : {E : Type 0} (r : Result kept.Certificate E) (P Q R : kept.Certificate → Type 0)
     → ((c : kept.Certificate) → P c → Q c → R c) → IfOk r P → IfOk r Q → IfOk r R
 both (Ok c) P Q R f p q = f c p q

@@ -134,7 +134,7 @@ pub small_abs : (z : ℤ) → IsSmallDegree z → unsigned_abs z < 2 ^ 31
 small_abs (pos n) small = let high = small.high in omega (arith, ints, high)
 small_abs (negsuc n) small = let low = small.low in omega (arith, ints, low)
 
--- a small number is itself where it is stored
+-- a small number is itself if it is stored
 pub as_i32 : (y z : ℤ) → Some y ≡ Some z → IsSmallDegree z → Some (to_z w32 (of_z w32 y)) ≡ Some z
 as_i32 y z same small =
     ap (λ r. option_map (λ t. to_z w32 (of_z w32 t)) r) same

@@ -15,7 +15,7 @@ pub length-spaced : (x : List ℕ) → length (spaced x) ≡ 2 * length x
 length-spaced [] = refl
 length-spaced (r ∷ x) = let more = length-spaced x in omega (arith, more)
 
--- the line of marks, where all rows are digits
+-- the line of marks, if all rows are digits
 spaced-decimal : (x : List ℕ) → All (λ r. r < 10) x → flat_map (λ r. 32 ∷ decimal r) x ≡ spaced x
 spaced-decimal [] h = refl
 spaced-decimal (r ∷ x) h =

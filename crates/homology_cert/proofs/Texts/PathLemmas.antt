@@ -2,7 +2,7 @@
 --
 -- Each certificate's lines lead from the start to its end (path_of_certificate), a line leads from a place to one
 -- place alone (leads_to-one), and what the lines at a place are can be completed to those of a certificate (completed).
--- So the first lines of a text are those of some certificate exactly where they lead on.
+-- So the first lines of a text are those of some certificate exactly if they lead on.
 use Rattle.std.proofs.Common.{◌≡◌, ℕ, suc, List, [], ◌∷◌, ◌++◌, codes, All, AllPairs, IsTrue, inl, inr, refl, sym, ap, subst, ◌∙◌, arith, append_assoc}
 use Rattle.std.specs.List.{flat_map}
 use Rattle.std.proofs.lemmas.List.{append-nil}

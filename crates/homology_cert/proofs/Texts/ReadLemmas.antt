@@ -1,7 +1,7 @@
--- A text that is read line by line: where it is refused, the line is its first bad line.
+-- A text that is read line by line: if it is refused, the line is its first bad line.
 --
 -- A line feed ends a line and stands in none, so a text has its lines in one way. A certificate whose first lines are
--- those that were read leads to the place that the reader is at, and on along the next line; so where no line leads on,
+-- those that were read leads to the place that the reader is at, and on along the next line; so if no line leads on,
 -- or the text ends, no certificate has one line more.
 use Rattle.std.proofs.Common.{◌≡◌, ℕ, ◌+◌, ◌<◌, ◌≤◌, ◌^◌, List, [], ◌∷◌, ◌++◌, length, take, drop, Result, Ok, Err, IfOk, inl, inr, refl, sym, ap, subst, ◌∙◌, arith, append_assoc, length-append}
 use Rattle.std.proofs.lemmas.Bool.{cases_lt}

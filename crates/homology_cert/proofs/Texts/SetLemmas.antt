@@ -1,7 +1,7 @@
 -- A set of states as its line is gone through, state by state.
 --
 -- What was read is a list of codes that ascends, and the bytes so far are theirs. Two lists of codes with one text
--- begin alike, so where no state follows, or one that is not above the last, the line is that of no set.
+-- begin alike, so if no state follows, or one that is not above the last, the line is that of no set.
 use Rattle.std.proofs.Common.{◌≡◌, ◌≢◌, ◌⊎◌, ℕ, zero, suc, ◌+◌, ◌<◌, ◌≤◌, List, [], ◌∷◌, ◌++◌, length, slice_index, All, inl, inr, refl, sym, ap, ap₂, subst, ◌∙◌, arith, append_assoc, length-append}
 use Rattle.std.specs.List.{flat_map}
 use Rattle.std.specs.List.Sorted.{IsStrictlyIncreasing}

@@ -1,6 +1,6 @@
 -- Chunks of 4,096 nodes, side by side.
 --     blank                the node of zeros, which lies where no node was written yet
---     node_at nodes i      the node at the place i of a list; `blank` where the list is shorter
+--     node_at nodes i      the node at the place i of a list; `blank` if the list is shorter
 --     joined chunks        the nodes of the chunks, one chunk after another
 --     AreWhole chunks      each chunk has 4,096 nodes
 use Rattle.std.specs.Prelude.{ℕ, ◌≡◌, List, [], ◌∷◌, ◌++◌, length, get_or}

@@ -45,7 +45,7 @@ before_top : (n a b r s : ℕ) → s ≡ 0 → r ≡ n - 1 → a < n → b < n �
     → between a b r ≡ ((between a b s && differ s a) || eqb b s)
 before_top n a b r s p e la lb q = grind arith
 
--- a range has the number before s where it has s past its start, or ends at s
+-- a range has the number before s if it has s past its start, or ends at s
 pub between-one_down : (n a b s : ℕ) → a < n → b < n → s < n → a ≢ b
     → between a b (one_down n s) ≡ ((between a b s && differ s a) || eqb b s)
 between-one_down n a b s la lb ls p = elim (one_down_cases n s ls) [

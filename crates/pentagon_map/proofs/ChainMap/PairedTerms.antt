@@ -1,4 +1,4 @@
--- The twelve terms with weights: they cancel where the weights agree in pairs. Then the weights that pentagons have.
+-- The twelve terms with weights: they cancel if the weights agree in pairs. Then the weights that pentagons have.
 use Rattle.std.proofs.Common.{Bool, ap₂, cond, false, not, refl, sym, true, ◌&&◌, ◌∙◌, ◌≡◌}
 use mathlib.Core.Bool.{beq}
 use mathlib.Core.Path.{fun_ext}

@@ -110,7 +110,7 @@ module _ (n r s w : ℕ) (O X : ℕ → ℕ) where
           (pairs.low_part n r s w O X e f one p d at0)
           (pairs.high_part n r s w O X e f one p d at0)))
 
-      -- where no place is s there is no pentagon
+      -- if no place is s there is no pentagon
       no_penta : (g : ℕ → ℕ) (a b : ℕ) → a ≢ s → b ≢ s → is_open_pentagon g a b ≡ false
       no_penta g a b p q =
           (λ i. differ a b && (is_clear_of n g a b (g a) (g b) && ((ne_eqb a s p i || ne_eqb b s q i)

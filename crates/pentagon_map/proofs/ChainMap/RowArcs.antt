@@ -8,7 +8,7 @@ use Rattle.rectangles.proofs.Square.ThreeColumns.{IsAdditive, end_of, start_of}
 use Rattle.rectangles.proofs.Square.TwoSteps.{differ, differ-self, differ-true}
 use Rattle.pentagon_map.proofs.ChainMap.PairedTerms.{of_three, pent}
 
--- from a up to x, from x up to w: where w is from x up to y, and a, x and y are met in this order
+-- from a up to x, from x up to w: if w is from x up to y, and a, x and y are met in this order
 h1 : (a x y w : ℕ) → a ≢ x → x ≢ y → y ≢ a → is_cyclic a x y ≡ true → between x y w ≡ true → w ≢ x
     → is_cyclic a x w ≡ true
 h1 a x y w p q r t b e = grind arith

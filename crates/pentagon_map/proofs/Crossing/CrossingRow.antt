@@ -1,4 +1,4 @@
--- Where two columns commute: from the crossing row up to a row of the right column there is no row of the left
+-- If two columns commute: from the crossing row up to a row of the right column there is no row of the left
 -- column but the crossing row itself. `Over` is at a row of the right column, `Under` at one of the left.
 use Rattle.std.proofs.Common.{Bool, ap, cond, false, refl, slice_index, subst, sym, true, ℕ, ◌&&◌, ◌<◌, ◌∙◌, ◌≡◌}
 use mathlib.Core.Bool.{beq}

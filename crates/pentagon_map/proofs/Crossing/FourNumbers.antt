@@ -1,4 +1,4 @@
--- Four rows on a circle: o and p of one column, t and q of another, where the rows of the one do not separate
+-- Four rows on a circle: o and p of one column, t and q of another, if the rows of the one do not separate
 -- those of the other. The row that is met first of t and q on the way up from o, and the one that is met last
 -- of o and p on the way up from t: from either of them up to t or q there is no other of o and p.
 -- Ranges are linear over F2 in the orders of the numbers, so each fact is a table of twelve orders.
@@ -123,28 +123,28 @@ module _ (o p q t : ℕ) (d : AreFourRows o p q t) where
   both_false x y h = let (u, v) = and_parts (not x) (not y) h in (not-true x u, not-true y v)
 
   module _ (apart : beq (between o p t) (between o p q) ≡ true) where
-    -- on the way up from t, where t is met first
+    -- on the way up from t, if t is met first
     pub first_at_t : between o q t ≡ true → (between t q p ≡ false) × (between t q o ≡ false)
     unfolding first_told
     first_at_t h =
         both_false (between t q p) (between t q o)
         (given (between o q t) _ h (and_parts _ _ (given _ _ apart first_is)).0)
 
-    -- and from q, where q is
+    -- and from q, if q is
     pub first_at_q : between o q t ≡ false → (between q t p ≡ false) × (between q t o ≡ false)
     unfolding first_told
     first_at_q h =
         both_false (between q t p) (between q t o)
         (given (not (between o q t)) _ (ap not h) (and_parts _ _ (given _ _ apart first_is)).1)
 
-    -- on the way up from p, where p is met last
+    -- on the way up from p, if p is met last
     pub last_at_p : between t p o ≡ true → (between p t o ≡ false) × (between p q o ≡ false)
     unfolding last_told
     last_at_p h =
         both_false (between p t o) (between p q o)
         (given (between t p o) _ h (and_parts _ _ (given _ _ apart last_is)).0)
 
-    -- and from o, where o is
+    -- and from o, if o is
     pub last_at_o : between t p o ≡ false → (between o t p ≡ false) × (between o q p ≡ false)
     unfolding last_told
     last_at_o h =

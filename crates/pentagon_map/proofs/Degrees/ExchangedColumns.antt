@@ -123,7 +123,7 @@ module _ (n : ℕ) (o x : ℕ → ℕ) (oo : IsOneToOne n o) (ox : IsOneToOne n 
       by true v = refl
       by false v = refl
 
-  -- M after is M before, less 1, and 2 more where the row of the point is past that of the left mark, up to that of the
+  -- M after is M before, less 1, and 2 more if the row of the point is past that of the left mark, up to that of the
   -- right one
   pub maslov-columns : maslov_by_pairs n o' x +ℤ pos 1
       ≡ maslov_by_pairs n o x

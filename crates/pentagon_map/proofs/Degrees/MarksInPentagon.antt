@@ -30,7 +30,7 @@ both_next u v = grind arith
 one_order : (u v : ℕ) → u ≢ v → leb v u ≡ ltb v u
 one_order u v p = grind arith
 
--- k is past u, up to v, where v is met before u on the way up from k
+-- k is past u, up to v, if v is met before u on the way up from k
 turned : (o1 o2 k : ℕ) → o1 ≢ o2 → between (o1 + 1) (o2 + 1) k ≡ not (between k o2 o1)
 turned o1 o2 k p =
     (λ i. (next_up o1 k ∙ less_is o1 k) i ⊻ (next_up o2 k ∙ less_is o2 k) i ⊻ both_next o2 o1 i)

@@ -75,7 +75,7 @@ above_none n w i lw li = elim (cases_eq i w) [
   | inr p ↦ ap (λ z. z && differ i w) (between-thin n w i lw li p)
 ]
 
--- of three numbers: where a is not met before c on the way up from b, b is met before c on the way up from a
+-- of three numbers: if a is not met before c on the way up from b, b is met before c on the way up from a
 pub turned_round : (a b c : ℕ) → a ≢ b → b ≢ c → c ≢ a → between b c a ≡ false → between a c b ≡ true
 turned_round a b c p q r h = grind arith
 

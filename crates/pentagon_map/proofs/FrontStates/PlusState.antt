@@ -1,6 +1,6 @@
 -- `Over` carries the state of the upper right corners of the X to that of the exchanged grid.
 -- Route: the X of the column before b is in the way of each rectangle that ends at circle b and row x(b), but for
--- b = c, where it is above the crossing, and for b = c + 1. That leaves the thin rectangle from c up to c + 1.
+-- b = c, if it is above the crossing, and for b = c + 1. That leaves the thin rectangle from c up to c + 1.
 use Rattle.std.proofs.Common.{Bool, List, ap, ap₂, arith, cond, eqb, false, inl, inr, length, not, refl, slice_index, swap, sym, true, true≢false, ℕ, ◌&&◌, ◌<◌, ◌||◌, ◌∙◌, ◌≡◌, ◌≢◌, ◌⊎◌}
 use Rattle.std.proofs.lemmas.Bool.{cases_Bool, cases_eq, eq-eqb, false_from_ne_true, ne_eqb}
 use Rattle.std.proofs.lemmas.List.Edits.{length-swap}
@@ -181,7 +181,7 @@ module _ (g : Marks) (s : IsGrid g) (c : ℕ) (lc : c < size g) (h : are_commuti
       (is_clear_of n (slice_index x) a b (slice_index x a) (slice_index x b)) (eqb a c || eqb b c)
       (between (slice_index x a) (slice_index x b) w)
 
-  -- up to the circle c, the X of the left column is in the way, where w is no row of it
+  -- up to the circle c, the X of the left column is in the way, if w is no row of it
   none_left : (a : ℕ) → a < n → a ≢ c → p ≢ w → parts a c ≡ false
   none_left a la ac pw =
       elim (cases_Bool (between (slice_index x a) (slice_index x c) w)) [

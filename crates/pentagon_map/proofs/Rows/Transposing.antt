@@ -35,7 +35,7 @@ use Rattle.torus_geom.proofs.Circles.BetweenLemmas.{is_between}
 abbrev pub leads_to : ℕ → Marks → List ℕ → ℕ → ℕ → ℕ → Bool
 leads_to n g x q a b = is_open n (slice_index g.o) (slice_index g.x) (slice_index x) a b && eqb q (rank (swap x a b))
 
--- the border holds q where an odd number of rectangles are so
+-- the border holds q if an odd number of rectangles are so
 pub held_by : (n : ℕ) (g : Marks) → size g ≡ n → IsGrid g → (x : List ℕ) → IsBijection n x → (q : ℕ)
     → holds (border_of_state g x) q ≡ parity_below n (λ a. parity_below n (leads_to n g x q a))
 held_by n g e s =
@@ -108,7 +108,7 @@ module _ (n : ℕ) (O X f O' X' u : ℕ → ℕ) (oo : IsOneToOne n O) (ox : IsO
       ap (λ t. not (is_between j k (f c) && is_between a b t)) (back_f c l)
       ∙ ap not (and_comm (is_between j k (f c)) (is_between a b c)))
 
-  -- the rectangle of circles a and b is open where the transposed one is
+  -- the rectangle of circles a and b is open if the transposed one is
   pub open_by_rows : (a b : ℕ) → a < n → b < n → is_open n O' X' u (f a) (f b) ≡ is_open n O X f a b
   open_by_rows a b la lb =
       ap₂ (λ s t. differ (f a) (f b) && (is_clear_of n u (f a) (f b) s t && unmarked n O' X' (f a) (f b) s t))

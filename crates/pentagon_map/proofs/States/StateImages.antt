@@ -68,7 +68,7 @@ AreIndices-columns : (g : Marks) (c : ℕ) (corner : Corner) (z : Codes)
 unfolding image_by_columns over_codes.column_image
 AreIndices-columns g c corner z = AreIndices-reached (size g) (is_pentagon g c (crossing_row g c corner)) z
 
--- the same, where the size has another name
+-- the same, if the size has another name
 states_of-columns_at : (g : Marks) (n : ℕ) → size g ≡ n → (c : ℕ) (corner : Corner) (z : Codes) → AreIndices n z
     → states_of n (image_by_columns g c corner z) ≡ column_image g c corner (states_of n z)
 states_of-columns_at g n e c corner z =
@@ -127,7 +127,7 @@ states_of-image_of_state axis g s c corner x sx =
     ∙ ap (image axis g c corner) (states_of-single n x sx)
 
 -- ---- laws
--- where the size has another name
+-- if the size has another name
 pub states_of-image_at : (axis : Axis) (g : Marks) → IsGrid g → (n : ℕ) → size g ≡ n
     → (c : ℕ) (corner : Corner) (z : Codes)
     → AreIndices n z → states_of n (over_codes.image axis g c corner z) ≡ image axis g c corner (states_of n z)

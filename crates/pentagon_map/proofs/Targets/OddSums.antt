@@ -69,7 +69,7 @@ swap_comm n x sx a b la lb =
     either : (a b i : ℕ) → exchanged a b i ≡ exchanged b a i
     either a b i = grind arith
 
--- a bit that is 1 or 0 by a test is set where the test holds
+-- a bit that is 1 or 0 by a test is set if the test holds
 pub set_by : (bits i : ℕ) (t : Bool) → bit_at bits i ≡ cond t 1 0 → is_set bits i ≡ t
 set_by bits i t e = ap (λ k. eqb k 1) e ∙ by t
   where
@@ -77,7 +77,7 @@ set_by bits i t e = ap (λ k. eqb k 1) e ∙ by t
     by true = refl
     by false = refl
 
--- a set bit of one number where the other has it
+-- a set bit of one number if the other has it
 pub set_alike : (u v i j : ℕ) → bit_at u i ≡ bit_at v j → is_set u i ≡ is_set v j
 set_alike u v i j e = ap (λ k. eqb k 1) e
 
@@ -92,13 +92,13 @@ module _ (g : Marks) (s : IsGrid g) (c : ℕ) (corner : Corner) (lc : c < size g
   abbrev P : ℕ → ℕ → Bool
   P a b = is_pentagon_at g c (crossing_row g c corner) x a b
 
-  -- the rectangle is a pentagon where the test of the state holds
+  -- the rectangle is a pentagon if the test of the state holds
   pentagon_is : (a b : ℕ) → a < size g → b < size g
       → pentagon_at g s c w lc lw (slice_index x) a b ≡ (differ a b && P a b)
   unfolding is_pentagon_at
   pentagon_is a b la lb = sym (passes_at-pentagon g s c w lc lw x sx a b la lb)
 
-  -- where no circle is c there is none
+  -- if no circle is c there is none
   off_circle : (a b : ℕ) → a ≢ c → b ≢ c → P a b ≡ false
   unfolding is_pentagon_at
   off_circle a b p q =

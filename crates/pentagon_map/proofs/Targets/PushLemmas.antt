@@ -16,7 +16,7 @@ use Rattle.rectangles.specs.Inner.Open.{leaving}
 use Rattle.pentagon_map.specs.Inner.Exchanges.{is_odd_circle, is_pentagon_at, is_set, lowers, picked, raises}
 use Rattle.pentagon_map.specs.Pentagon.{has_mark_in_rows, is_pentagonal, is_unmarked_beside}
 
--- one circle more, appended where it passes
+-- one circle more, appended if it passes
 pub picked_more : (x : List ℕ) (a : ℕ) (test : ℕ → Bool) (circles : List ℕ) (i b : ℕ) → i < length circles
     → slice_index circles i ≡ b
     → (old items : List (List ℕ)) → items ≡ old ++ picked x a test (take i circles) → (t : Bool) → test b ≡ t

@@ -12,6 +12,6 @@ between-shift n f sf a b t la lb lt =
     sym (in_range-between n (f a) (f b) (f t) (sf.one.small a la) (sf.one.small b lb) (sf.one.small t lt))
     ∙ sf.range a b t la lb lt ∙ in_range-between n a b t la lb lt
 
--- numbers are different where they are after the renaming
+-- numbers are different if they are after the renaming
 pub differ-shift : (n : ℕ) (f : ℕ → ℕ) → IsOneToOne n f → (a b : ℕ) → a < n → b < n → differ (f a) (f b) ≡ differ a b
 differ-shift n f one a b la lb = ap not (eqb-shift n f one a b la lb)

@@ -42,7 +42,7 @@ use Rattle.rectangles.proofs.Law.GridComplexLemmas.{grid_complex_rules}
 use Rattle.rectangles.proofs.Square.BorderLemmas.{border_of_state-below}
 
 -- ---- the states that pass a test
--- an index is held where its state passes
+-- an index is held if its state passes
 holds-states_where : (n : ℕ) (test : List ℕ → Bool) (q : ℕ) → q < factorial n
     → holds (states_where n test) q ≡ test (unrank n q)
 holds-states_where n test q l =

@@ -6,7 +6,7 @@ use Rattle.torus_geom.specs.Counts.{all_below}
 use Rattle.rectangles.proofs.Square.TwoSteps.{differ, differ-true}
 use Rattle.torus_geom.proofs.Sums.AllBelowLemmas.{all_below-same}
 
--- two tests hold below n where both do
+-- two tests hold below n if both do
 pub all_below-and : (n : ℕ) (p q : ℕ → Bool) → all_below n (λ t. p t && q t) ≡ (all_below n p && all_below n q)
 all_below-and zero p q = refl
 all_below-and (suc n) p q =

@@ -29,7 +29,7 @@ between_back a b t p = grind arith
 abbrev orders : Bool → Bool → Bool → Bool → Bool → Bool → Bool
 orders ab ba bc cb ca ac = ((ab ⊻ ba) && ((bc ⊻ cb) && (ca ⊻ ac))) && (not (ab && (bc && ca)) && not (ba && (cb && ac)))
 
--- what holds of t, where ab says that a is below b
+-- what holds of t, if ab says that a is below b
 abbrev passes : Bool → Bool → Bool → Bool
 passes ab x y = (not ab || (not y || x)) && (ab || (not x || y))
 
@@ -42,7 +42,7 @@ orders_hold a b c p q r = grind arith
 pub passes_hold : (a b t : ℕ) → a ≢ b → passes (ltb a b) (leb a t) (leb b t) ≡ true
 passes_hold a b t p = grind arith
 
--- a third place of a triple is in a range between the other two just where the range goes the other way round
+-- a third place of a triple is in a range between the other two exactly if the range goes the other way round
 pub third_out : (a b c : ℕ) → a ≢ b → b ≢ c → c ≢ a → between a b c ≡ not (is_cyclic a b c)
 third_out a b c p q r = grind arith
 

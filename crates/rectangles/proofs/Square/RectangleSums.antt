@@ -124,7 +124,7 @@ is_same-equal n x y sx sy h = same_list n x y sx.long sy.long (λ c l.
     (subst (λ m. all_below m (λ c. eqb (slice_index x c) (slice_index y c)) ≡ true) sx.long (and_parts _ _ h).1) c
     l))
 
--- a state is the one of index k where its index is k
+-- a state is the one of index k if its index is k
 is_same-unrank : (n : ℕ) (x : List ℕ) → IsBijection n x → (k : ℕ) → k < factorial n
     → is_same x (unrank n k) ≡ eqb k (rank x)
 is_same-unrank n x sx k l = elim (cases_eq k (rank x)) [

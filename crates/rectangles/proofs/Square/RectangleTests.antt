@@ -38,7 +38,7 @@ is_inside-between n a b i la lb li = ap (λ t. t && not (eqb i a)) (in_range-bet
 
 -- ---- rectangles
 
--- a rectangle of a state is empty by the one test where it is by the other
+-- a rectangle of a state is empty by the one test if it is by the other
 pub is_empty-corners : (n : ℕ) (x : List ℕ) → IsBijection n x → (a b j k : ℕ) → a < n → b < n → j < n → k < n
     → is_empty x (corners a b j k) ≡ is_clear_of n (slice_index x) a b j k
 is_empty-corners n x s a b j k la lb lj lk =

@@ -1,5 +1,5 @@
 -- A sum modulo 2 over two steps, each between two places. It splits into a part at four places, one at
--- three and one at two. At four places steps cancel in pairs where they may be taken in either order;
+-- three and one at two. At four places steps cancel in pairs if they may be taken in either order;
 -- at three places the terms of three triples in a circle cancel, so three times the sum is 0.
 use Rattle.std.proofs.Common.{◌≡◌, ◌≢◌, ℕ, ◌<◌, Bool, true, false, not, ◌&&◌, refl, ap, ap₂, ◌∙◌, sym, eqb, arith, inl, inr}
 use Rattle.std.proofs.lemmas.Bool.{eq-eqb, ne_eqb, cases_eq}
@@ -87,7 +87,7 @@ module _ (n : ℕ) (F : ℕ → ℕ → ℕ → ℕ → Bool) where
   abbrev pub at_four : ℕ → ℕ → ℕ → ℕ → Bool
   at_four a b c d = four_differ a b c d && F a b c d
 
-  -- the part at three places a, b and c, where the second step shares b with the first
+  -- the part at three places a, b and c, if the second step shares b with the first
   abbrev pub at_three : ℕ → ℕ → ℕ → Bool
   at_three a b c = (F a b b c ⊻ F a b c b) ⊻ (F b a b c ⊻ F b a c b)
 
@@ -336,7 +336,7 @@ module _ (n : ℕ) (F : ℕ → ℕ → ℕ → ℕ → Bool) where
       (parity-xor (λ a. parity_below n (λ b. parity_below n (by_first a b))) (λ a. parity_below n (at_two a)) (below n)
       ∙ ap (λ x. x ⊻ parity_below n (λ a. parity_below n (at_two a))) (three_cancel h3))
 
-  -- where steps at two places cancel too, the sum vanishes
+  -- if steps at two places cancel too, the sum vanishes
   pub steps_cancel : ((a c d : ℕ) → F a a c d ≡ false) → ((a b c : ℕ) → F a b c c ≡ false)
       → ((a b c d : ℕ) → a < n → b < n → c < n → d < n → four_differ a b c d ≡ true → F a b c d ≡ F c d a b)
       → ((a b c : ℕ) → a < n → b < n → c < n → three_differ a b c ≡ true

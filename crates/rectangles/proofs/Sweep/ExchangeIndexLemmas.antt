@@ -14,7 +14,7 @@ use Rattle.state_rank.proofs.SwapLemmas.{IsBijection-swap}
 use Rattle.state_rank.proofs.BlockLemmas.{swap-next}
 use Rattle.rectangles.specs.Inner.ExchangeIndices.{between, gain, exchange_gain}
 
--- 1 where the test holds, else 0
+-- 1 if the test holds, else 0
 abbrev one : Bool → ℕ
 one b = cond b 1 0
 
@@ -269,7 +269,7 @@ module _ (n : ℕ) (x : List ℕ) (s : IsBijection n x) (a b : ℕ) (left : a < 
   rank-exchanged_parts =
       rank-lehmer n (swap x a b) (IsBijection-swap n x a b (omega arith) inside s) ∙ ap lehmer exchanged
 
-  -- where the left point is the lower one
+  -- if the left point is the lower one
   pub rank-swap_up : p < q → rank (swap x a b) ≡ rank x + exchange_gain x a b p q
   rank-swap_up l =
       rank-exchanged_parts
@@ -282,7 +282,7 @@ module _ (n : ℕ) (x : List ℕ) (s : IsBijection n x) (a b : ℕ) (left : a < 
       not_above : (p q : ℕ) → between p q q ≡ false
       not_above p q = grind arith
 
-  -- where it is the higher one
+  -- if it is the higher one
   pub rank-swap_down : q < p → rank x ≡ rank (swap x a b) + exchange_gain x a b q p
   rank-swap_down l =
       rank-parts

@@ -23,7 +23,7 @@ use Rattle.rectangles.proofs.Square.RectangleTests.{is_empty-corners, is_unmarke
 use Rattle.rectangles.proofs.Square.RectangleSums.{is_odd-steps, is_same-equal}
 use Rattle.torus_geom.proofs.Chains.StateTests.{is_same-refl}
 
--- where an odd number of tests hold, one holds
+-- if an odd number of tests hold, one holds
 pub parity_below-some : (n : ℕ) (f : ℕ → Bool) → parity_below n f ≡ true → (t : ℕ) × (t < n) × (f t ≡ true)
 parity_below-some zero f h = absurd (true≢false (sym h))
 parity_below-some (suc n) f h = elim (cases_Bool (f n)) [
@@ -53,7 +53,7 @@ module _ (g : Marks) (s : IsGrid g) (x : List ℕ) (sx : IsBijection (size g) x)
       → slice_index (swap x a b) c ≡ slice_index x c
   moved a b c la lb lc p q = slice_index-swap_other x a b c (within a la) (within b lb) p q
 
-  -- where an exchange moves the point on d, d is one of its circles
+  -- if an exchange moves the point on d, d is one of its circles
   one_of_two : (a b c d : ℕ) → a < size g → b < size g → c < size g → d < size g → c ≢ d → swap x c d ≡ swap x a b
       → (c ≡ a) ⊎ (c ≡ b)
   one_of_two a b c d la lb lc ld p e = elim (cases_eq c a) [

@@ -97,7 +97,7 @@ module _ (x opens : List ℕ) (s : IsBijection (length x) x) (short : length x �
     far = λ b lb m. h.far b lb (omega arith);
   }
 
--- the bits of the odd pairs, where `opens` has those of the open rectangles
+-- the bits of the odd pairs, if `opens` has those of the open rectangles
 pub odd_bit-open : (g : Marks) (x opens : List ℕ) (n a b : ℕ) → a < n → b < n
     → ((a b : ℕ) → a < n → b < n → bit_at (slice_index opens a) b ≡ cond (is_open g x a b) 1 0)
     → odd_bit opens a b ≡ cond (ltb a b && is_odd_pair g x a b) 1 0

@@ -36,7 +36,7 @@ module _ {A : Type 0} where
       ap₂ (λ b xs. cond b (f 0 ∷ xs) xs) (h 0 (omega arith))
       (filter-tabulate_same p q n (λ i. f (suc i)) (λ i l. h (suc i) (omega arith)))
 
-  -- the first that passes, where q is p without it
+  -- the first that passes, if q is p without it
   filter-tabulate_first : (p q : A → Bool) (n : ℕ) (f : ℕ → A) (i : ℕ) → i < n → p (f i) ≡ true → q (f i) ≡ false
       → ((j : ℕ) → j < i → p (f j) ≡ false) → ((j : ℕ) → j < n → j ≢ i → q (f j) ≡ p (f j))
       → filter p (tabulate n f) ≡ f i ∷ filter q (tabulate n f)
@@ -54,7 +54,7 @@ module _ {A : Type 0} where
       (λ j m d. rest (suc j) (omega arith) (λ e. d (omega arith)))
       ∙ ap (λ xs. f (suc i) ∷ xs) (sym (take_no (q (f 0)) (f 0) (filter q (tabulate n (λ i. f (suc i)))) same))
 
-  -- those of the first k places, where q is p there, and fails elsewhere
+  -- those of the first k places, if q is p there, and fails elsewhere
   filter-tabulate_start : (p q : A → Bool) (n : ℕ) (f : ℕ → A) (k : ℕ) → k ≤ n
       → ((i : ℕ) → i < k → q (f i) ≡ p (f i)) → ((i : ℕ) → k ≤ i → i < n → q (f i) ≡ false)
       → filter q (tabulate n f) ≡ filter p (tabulate k f)

@@ -1,6 +1,6 @@
 -- The sweep to the right from a circle: which rectangles with their left at this circle are open.
 -- Route: circles and rows are counted by how far they are, right of the left circle and above its row.
--- A rectangle is open where its height is at most that of each mark of its columns and of each point of
+-- A rectangle is open if its height is at most that of each mark of its columns and of each point of
 -- its circles; the least of these heights so far is the limit of the sweep.
 use Rattle.std.proofs.Common.{◌≡◌, ◌≢◌, ℕ, suc, ◌+◌, ◌-◌, ◌*◌, ◌%◌, ◌^◌, ◌<◌, ◌≤◌, Bool, true, false, not, ◌&&◌, ◌||◌, List, slice_index, refl, ap, ap₂, subst, ◌∙◌, sym, eqb, ltb, arith, inl, inr, cond, min, bit_or}
 use Rattle.std.proofs.lemmas.Bool.{cases_eq, cases_lt, eq-eqb, ne_eqb, eqb-false, lt-ltb, le-ltb, ltb-false, and_from, and_parts, and_left, and_right, and_cases, not-true, or_parts, or_from, true≢false, false_from_ne_true}
@@ -77,7 +77,7 @@ module _ (g : Marks) (x : List ℕ) (a : ℕ) where
     pub below_x : (t : ℕ) → t < m → d ≤ rise (slice_index g.x (turned (size g) a t))
     pub below_points : (t : ℕ) → 0 < t → t < p → d ≤ rise (slice_index x (turned (size g) a t))
 
-  -- the bit of b where the circles before the w-th right of a are looked at
+  -- the bit of b if the circles before the w-th right of a are looked at
   abbrev pub swept_bit : ℕ → ℕ → ℕ
   swept_bit w b = cond (ltb (offset (size g) a b) w && is_open g x a b) 1 0
 

@@ -29,7 +29,7 @@ use Rattle.rectangles.proofs.Sweep.ExchangeOrder.{order_same, order_lowered, ord
 
 -- ---- the exchanges of a state
 module _ (g : Marks) (s : IsGrid g) (x : List ℕ) (sx : IsBijection (size g) x) where
-  -- ---- the list, where `odds` has for each circle the rows of the higher circles with which it is an odd pair
+  -- ---- the list, if `odds` has for each circle the rows of the higher circles with which it is an odd pair
   module _ (odds : List ℕ) (has : (a b : ℕ) → a < size g → b < size g
       → bit_at (slice_index odds a) (slice_index x b) ≡ cond (ltb a b && is_odd_pair g x a b) 1 0) where
     columns : List ℕ

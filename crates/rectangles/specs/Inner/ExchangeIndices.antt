@@ -2,7 +2,7 @@
 -- left one of the two on.
 --     between p q r               r is above p and below q
 --     gain p q first d k rows     what the rows of columns add: a row between p and q adds `first` and the number of
---                                 states of the columns behind it where these are more than k, else d
+--                                 states of the columns behind it if these are more than k, else d
 --     exchange_gain x a b p q     the difference of the indices where the points on a and b, a left of b, have the rows
 --                                 p and q, the lower one first
 use Rattle.std.specs.Prelude.{ℕ, ◌+◌, ◌-◌, Bool, ◌&&◌, nat_lt, if◌then◌else◌, List, [], ◌∷◌, length, drop}

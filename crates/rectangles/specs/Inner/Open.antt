@@ -1,9 +1,9 @@
 -- The rectangles by which the border of a state is found. From a state x two rectangles lead to the
 -- state that has the points of x on the circles a and b exchanged: one has a on its left, the other b.
 --     leaving x a b                      the rectangle from the point of x on circle a up to its point on circle b
---     is_open g x a b                    it is empty for x and unmarked; there is none where a is b
+--     is_open g x a b                    it is empty for x and unmarked; there is none if a is b
 --     is_odd_pair g x a b                exactly one of the two rectangles between the circles a and b is open
---     odd_bit opens a b                  1 where b is right of a and exactly one of the two is open by the sets of bits
+--     odd_bit opens a b                  1 if b is right of a and exactly one of the two is open by the sets of bits
 --                                        `opens`, else 0
 --     AreRowsBetween from to rows        the bits of `rows` are those of the rows from `from` up to `to`, without `to`
 --     exchanges x columns a odd rows     the exchanges of circle a with the circles of those of the rows whose bit is

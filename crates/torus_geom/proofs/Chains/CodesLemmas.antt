@@ -24,7 +24,7 @@ abbrev pub AreIndices : ℕ → Codes → Type 0
 AreIndices n z = (s : ℕ) → holds z s ≡ true → s < factorial n
 
 -- ---- what a set of codes stands for
--- a state is in it where its index is
+-- a state is in it if its index is
 pub states_of-at : (n : ℕ) (z : Codes) (x : List ℕ) → IsBijection n x → states_of n z x ≡ holds z (rank x)
 unfolding states_of
 states_of-at n z x sx = ap (λ b. b && holds z (rank x)) (is_state-is n x sx)
@@ -45,7 +45,7 @@ IsChain-states_of n z x h = (in_states_of n z x h).0
 pub states_of-unrank : (n : ℕ) (z : Codes) (s : ℕ) → s < factorial n → states_of n z (unrank n s) ≡ holds z s
 states_of-unrank n z s l = states_of-at n z (unrank n s) (IsBijection-unrank n s l) ∙ ap (holds z) (rank-unrank n s l)
 
--- a chain is that of a set of codes where it has the states with these indices and nothing else
+-- a chain is that of a set of codes if it has the states with these indices and nothing else
 pub is_states_of : (n : ℕ) (z : Codes) (w : Chain) → ((x : List ℕ) → IsBijection n x → holds z (rank x) ≡ w x)
     → ((x : List ℕ) → (IsBijection n x → ⊥) → w x ≡ false) → states_of n z ≡ w
 is_states_of n z w inside outside = same_states (states_of n z) w (λ x. by x (is_state n x) refl)
@@ -106,7 +106,7 @@ pub AreIndices-single : (n : ℕ) (x : List ℕ) → IsBijection n x → AreIndi
 AreIndices-single n x sx s h =
     subst (λ k. k < factorial n) (sym (eqb-true s (rank x) (sym (holds-single (rank x) s) ∙ h))) (rank-below n x sx)
 
--- a set of indices is empty where its chain is
+-- a set of indices is empty if its chain is
 pub nothing_from_states_of : (n : ℕ) (z : Codes) → AreIndices n z → states_of n z ≡ nothing → z ≡ over_codes.nothing
 nothing_from_states_of n z below e =
     states_of_one_to_one n z over_codes.nothing below (λ s h. absurd (false≢true (sym (holds-nothing s) ∙ h)))

@@ -104,7 +104,7 @@ border_codes g y z sy sz e =
     states_of_one_to_one (size g) y (over_codes.border g z) sy (AreIndices-border g z)
     (e ∙ sym (states_of-border g z sz))
 
--- where the size has another name
+-- if the size has another name
 pub states_of-border_at : (g : Marks) (n : ℕ) → size g ≡ n → (z : Codes) → AreIndices n z
     → states_of n (over_codes.border g z) ≡ border g (states_of n z)
 states_of-border_at g n e z =

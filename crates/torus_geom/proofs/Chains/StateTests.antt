@@ -50,7 +50,7 @@ any-member p (y ∷ ys) x h e = elim (member_cases y ys x h) [
     or-true true = refl
     or-true false = refl
 
--- where some element passes, there is one
+-- if some element passes, there is one
 pub member_of_any : {A : Type 0} (p : A → Bool) (xs : List A) → list_any p xs ≡ true
     → (x : A) × Contains xs x × (p x ≡ true)
 member_of_any p [] h = absurd (false≢true h)
@@ -95,7 +95,7 @@ pub parity-states : (n : ℕ) (p q : List ℕ → Bool) → ((x : List ℕ) → 
     → parity p (states n) ≡ parity q (states n)
 parity-states n p q h = parity-members p q (states n) (λ x m. h x (member_of_states n x m))
 
--- the length of a list is odd where it has an odd number of elements
+-- the length of a list is odd if it has an odd number of elements
 odd-length : {A : Type 0} (xs : List A) → is_odd (length xs) ≡ parity (λ (x : A). true) xs
 odd-length [] = refl
 odd-length (x ∷ xs) = ap not (odd-length xs)

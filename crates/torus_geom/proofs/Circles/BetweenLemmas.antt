@@ -4,7 +4,7 @@ use Rattle.std.proofs.Common.{◌≡◌, ◌≢◌, ℕ, Bool, true, false, not,
 use Rattle.std.proofs.lemmas.Bool.{eq-eqb, ne_eqb}
 use Rattle.f2_algebra.proofs.Chains.Tables.{◌⊻◌}
 
--- t is in the range from a up to b; where a is b, no t is
+-- t is in the range from a up to b; if a is b, no t is
 abbrev pub between : ℕ → ℕ → ℕ → Bool
 between a b t = leb a t ⊻ leb b t ⊻ ltb b a
 

@@ -161,7 +161,7 @@ same_ints (suc n) f g h =
       | false ↦ same_ints n (f false) (g false) (and_parts _ _ h).1
     ]
 
--- where a test is known to pass
+-- if a test is known to pass
 pub under_test : (b : Bool) (x y : ℤ) → b ≡ true → cond b x (pos 0) ≡ cond b y (pos 0) → x ≡ y
 under_test true x y h e = e
 under_test false x y h e = absurd (false≢true h)

@@ -1,4 +1,4 @@
--- Each cancelled arrow is one more entry; where no arrow is found, the slice is reduced.
+-- Each cancelled arrow is one more entry; if no arrow is found, the slice is reduced.
 use Rattle.std.proofs.Common.{◌++◌, ◌∷◌, [], refl, subst, sym, ◌∙◌}
 use Rattle.std.specs.List.{All}
 use Rattle.f2_algebra.specs.Slice.{IsReduced}

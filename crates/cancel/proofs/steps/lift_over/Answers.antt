@@ -1,4 +1,4 @@
--- Where the chain meets the sources evenly it stays.
+-- If the chain meets the sources evenly it stays.
 use Rattle.std.proofs.Common.{sym, ◌∙◌}
 use Rattle.cancel.specs.Logs.{entry_of}
 use Rattle.cancel.proofs.MapLemmas.{lift-odd, lift-even}

@@ -1,4 +1,4 @@
--- Source and target are taken out, and the target put in where the cochain meets the targets oddly.
+-- Source and target are taken out, and the target put in if the cochain meets the targets oddly.
 use Rattle.std.proofs.Common.{sym, ◌∙◌}
 use Rattle.cancel.specs.Logs.{entry_of}
 use Rattle.cancel.proofs.MapLemmas.{pull-odd, pull-even}

@@ -1,4 +1,4 @@
--- Source and target are taken out, and where the target was held its targets are toggled.
+-- Source and target are taken out, and if the target was held its targets are toggled.
 use Rattle.std.proofs.Common.{sym, ◌∙◌}
 use Rattle.cancel.specs.Logs.{entry_of}
 use Rattle.cancel.proofs.MapLemmas.{rest-held, rest-not_held}

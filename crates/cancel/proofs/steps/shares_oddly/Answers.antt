@@ -1,4 +1,4 @@
--- Each code adds one to the parity where the chain holds it.
+-- Each code adds one to the parity if the chain holds it.
 use Rattle.std.proofs.Common.{sym, ap, ◌∙◌, take_all, arith}
 use Rattle.f2_algebra.specs.Chain.{holds}
 use Rattle.f2_algebra.proofs.Chains.Sets.{parity, pairs_oddly-list}

@@ -1,4 +1,4 @@
--- Where none is ahead, all were toggled.
+-- If none is ahead, all were toggled.
 use Rattle.std.proofs.Common.{arith}
 use Rattle.cancel.proofs.MapLemmas.{toggled-all}
 use Rattle.cancel.proofs.steps.toggle_all.Goals as goal

@@ -1,4 +1,4 @@
--- Slices are equal where their numbers are.
+-- Slices are equal if their numbers are.
 use Rattle.std.proofs.lemmas.Bool.Decides.{Decides-int_eq}
 use Rattle.std.proofs.lemmas.Slice.Eq.{slice_eq-Decides}
 use Rattle.f2_algebra.proofs.Chains.Tables.{same_test}

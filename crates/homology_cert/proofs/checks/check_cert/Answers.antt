@@ -1,4 +1,4 @@
--- The verdict of the sets of indices is that of the states; one that passes tells the table.
+-- The verdict of the sets of indices is that of the states; one that passes implies the table.
 use Rattle.std.proofs.Common.{◌∙◌}
 use Rattle.std.proofs.lemmas.Result.{IfOk-weaker}
 use Rattle.homology_cert.proofs.States.CertificateLemmas.{verdict_of-states}

@@ -1,4 +1,4 @@
--- Where no state is ahead, all were looked at.
+-- If no state is ahead, all were looked at.
 use Rattle.std.proofs.Common.{◌≡◌, ap, ◌∙◌, w32, arith, rules}
 use mir.Val.{SFits}
 use Rattle.std.proofs.lemmas.Int.{to_z-of_z}

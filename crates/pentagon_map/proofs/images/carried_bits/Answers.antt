@@ -1,4 +1,4 @@
--- A bit is carried where it is set.
+-- A bit is carried if it is set.
 use Rattle.std.proofs.Common.{◌+◌, subst, sym, ◌∙◌, arith}
 use Rattle.std.proofs.lemmas.Nat.Bits.{shr_and_one}
 use Rattle.pentagon_map.proofs.Targets.OddSums.{AreCarried, carried_yes, carried_no}

@@ -1,4 +1,4 @@
--- A circle is taken in where it is odd.
+-- A circle is taken in if it is odd.
 use Rattle.std.proofs.Common.{◌+◌, subst, sym, ◌∙◌, arith}
 use Rattle.pentagon_map.proofs.Targets.PushLemmas.{IsOddBefore, odd_before_yes, odd_before_no}
 use Rattle.pentagon_map.proofs.pentagons.odd_circles.Goals.{then-is_odd, else-is_odd}

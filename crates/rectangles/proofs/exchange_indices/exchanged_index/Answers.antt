@@ -1,4 +1,4 @@
--- The exchange raises the index where the left point is the lower one, else it lowers it.
+-- The exchange raises the index if the left point is the lower one, else it lowers it.
 use Rattle.std.proofs.Common.{◌≡◌, ◌<◌, ◌≤◌, ◌≢◌, ◌+◌, ℕ, List, length, slice_index, swap, ap, ◌∙◌, sym, arith}
 use Rattle.state_rank.specs.States.{IsState, rank, factorial}
 use Rattle.state_rank.proofs.LehmerLemmas.{factorial_grows}
@@ -21,7 +21,7 @@ overflow_add-result c =
     let k = c.difference.ensures.small in
     omega arith
 
--- where the right point is the lower one
+-- if the right point is the lower one
 lowered : (x : List ℕ) → IsState x → (a b index left right difference : ℕ) → a < b → b < length x → index ≡ rank x
     → left ≡ slice_index x a → right ≡ slice_index x b → right ≤ left → difference ≡ exchange_gain x a b right left
     → index ≡ rank (swap x a b) + difference

@@ -1,4 +1,4 @@
--- A row is taken in where the two bits of its circle and `a` differ.
+-- A row is taken in if the two bits of its circle and `a` differ.
 use Rattle.std.proofs.Common.{◌+◌, subst, sym, arith}
 use Rattle.rectangles.proofs.Sweep.PushLemmas.{IsOddRows, odd_rows_none, odd_rows_yes, odd_rows_no}
 use Rattle.rectangles.proofs.target_states.odd_rows.Goals.{then-there-back, else-there-back}

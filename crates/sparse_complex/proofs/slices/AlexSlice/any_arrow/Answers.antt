@@ -1,4 +1,4 @@
--- The key at the cursor has an arrow, and where there is no such key there is none.
+-- The key at the cursor has an arrow, and if there is no such key there is none.
 use Rattle.std.proofs.Common.{◌<◌, ◌≤◌, sym, ap, ap₂, subst, ◌∙◌, arith}
 use Rattle.f2_algebra.specs.Complex.{arrow}
 use Rattle.f2_algebra.specs.Slice.{slice_complex}
