@@ -89,7 +89,7 @@ def shortened(o, x):
 
 
 def exchanged(o, x, c):
-    """The grid with columns c - 1 and c exchanged, or None where they do not commute."""
+    """The grid with columns c - 1 and c exchanged, or None if they do not commute."""
     first, second = {o[c - 1], x[c - 1]}, {o[c], x[c]}
     low, high = sorted(first)
     if first & second or len([r for r in second if low < r < high]) == 1:
@@ -100,7 +100,7 @@ def exchanged(o, x, c):
 
 
 def smaller(o, x, steps=20000):
-    """A grid of the same link, with fewer columns where that is found."""
+    """A grid of the same link, with fewer columns if that is found."""
     chance = random.Random(1)
     for _ in range(steps):
         turned = chance.random() < 0.5

@@ -50,7 +50,7 @@ def run(program, words, text, **environment):
 
 
 def kind_of(ended, whole):
-    """What a run with a refused growth came to, or None where it is neither of the three."""
+    """What a run with a refused growth came to, or None if it is none of the three."""
     status, written = ended
     if ended == whole:
         return "the whole answer"
