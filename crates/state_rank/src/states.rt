@@ -315,8 +315,16 @@ fn raise(rows: &mut [u8; ROOM], from: u8, to: u8, row: u8)
     ensures kept_above { (c : ℕ) → to ≤ c → slice_index rows.new c ≡ slice_index rows.old c }
 {
     for c in from..to {
-        if rows[c as usize] >= row {
-            rows[c as usize] += 1;
-        }
+        rows[c as usize] = raised(rows[c as usize], row);
     }
+}
+
+// The row `other`, raised by one if it is not below `row`: by a sum and no branch, for which way would be taken cannot
+// be foreseen.
+fn raised(other: u8, row: u8) -> u8
+    requires fits { other < MAX_SIZE }
+    ensures low { other < row → result ≡ other }
+    ensures high { row ≤ other → result ≡ other + 1 }
+{
+    other + u8::from(other >= row)
 }
