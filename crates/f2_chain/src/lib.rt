@@ -13,6 +13,3 @@ mod code_sets;
 
 pub use builders::Builder;
 pub use code_sets::{Chain, Cochain, CodeSet};
-
-#[cfg(test)]
-mod tests;

@@ -45,22 +45,3 @@ pub fn minus_state(g: &Grid) -> State
 {
     g.x_state()
 }
-
-#[cfg(test)]
-mod tests {
-    use super::*;
-    use std::test::Fail;
-
-    // x+ of a trefoil, and x+ and x- of an unknot of size three.
-    #[test]
-    fn states_of_small_grids(rt: HostRuntime) -> Result<(), Fail> {
-        let trefoil = Grid::of(&[0, 1, 2, 3, 4], &[2, 3, 4, 0, 1])
-            .ok()
-            .ok_or("trefoil")?;
-        let small = Grid::of(&[2, 1, 0], &[1, 0, 2]).ok().ok_or("small")?;
-        assert_eq!(rt; plus_state(&trefoil).rows(), [2, 3, 4, 0, 1].as_slice());
-        assert_eq!(rt; plus_state(&small).rows(), [0, 2, 1].as_slice());
-        assert_eq!(rt; minus_state(&small).rows(), [1, 0, 2].as_slice());
-        Ok(())
-    }
-}

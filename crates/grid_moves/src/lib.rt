@@ -12,6 +12,3 @@ mod turns;
 
 pub use commutations::{Axis, commutes, swap};
 pub use turns::{Side, turn, turn_state};
-
-#[cfg(test)]
-mod tests;

@@ -20,6 +20,3 @@ pub use memory::{MemSink, MemSource};
 pub use ports::{Sink, Source};
 pub use standard::{StdSink, StdSource};
 pub use whole::{read_all, write_all};
-
-#[cfg(test)]
-mod tests;

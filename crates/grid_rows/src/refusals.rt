@@ -256,4 +256,150 @@ $ run
 < end
 = 2
 > refused BadWord line 4
+
+$ run
+< grid 2
+< O 1 1
+= 2
+> refused NotPermutation line 2
+
+$ run
+< # a
+<
+< \tgrid 2\r
+< O 1 1
+= 2
+> refused NotPermutation line 4
+
+$ run
+< grid 2
+< O 1 0
+< X 0 1
+<
+< # a
+<  \t\r
+= 2
+> refused NoEnd line 7
+
+$ run
+< grid 2
+< O 1 0
+< X 0 1
+< end
+<
+< #
+< show
+= 2
+> refused AfterEnd line 7
+
+$ run
+< grid 2
+< O 1 0
+< X 0 1
+< show # a
+= 2
+> refused BadCount line 4
+
+$ run
+< picture 3
+< O?
+= 2
+> refused BadCount line 2
+
+$ run
+< picture 3
+< O?O
+= 2
+> refused BadChoice line 2
+
+$ run
+< picture 4
+< OOX.
+= 2
+> refused NotPermutation line 2
+
+$ run
+< picture 3
+< XOX
+= 2
+> refused NotPermutation line 2
+
+$ run
+< picture 3
+< ..X
+= 2
+> refused NotPermutation line 2
+
+$ run
+< picture 3
+< OX.
+< # a
+<
+< XO.
+= 2
+> refused NoEnd line 6
+
+$ run
+< picture 3
+< OX.
+< # a
+<
+< .XO
+= 2
+> refused NotPermutation line 5
+
+$ run
+< picture 2
+< OX
+< XO
+< OX
+= 2
+> refused BadWord line 4
+
+$ run
+< picture 11
+= 2
+> refused BadNumber line 1
+
+$ run
+< picture
+= 2
+> refused BadCount line 1
+
+$ run
+< picture2 2
+= 2
+> refused BadWord line 1
+
+$ run
+< grid2
+= 2
+> refused BadCount line 1
+
+$ run
+< grid2 11
+= 2
+> refused BadNumber line 1
+
+$ run
+< grid 2
+< OX
+= 2
+> refused BadWord line 2
+
+$ run
+< grid 2
+< O 1 0
+< X 0 1
+< show\r\r
+= 2
+> refused BadWord line 4
+
+$ run
+< grid 2
+< O 1 0
+< X 0 1
+< class\r+
+= 2
+> refused BadWord line 4
 ";

@@ -178,4 +178,12 @@ $ run
 > rank 0 0 2
 > rank -1 -1 1
 > front tb 0 rot 0 components 2
+
+$ run
+< grid 6
+< O 1 0 3 2 5 4
+< X 0 1 2 3 4 5
+< front
+< end
+> front tb -3 rot 0 components 3
 ";

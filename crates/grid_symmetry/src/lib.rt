@@ -12,6 +12,3 @@
 mod symmetries;
 
 pub use symmetries::{Symmetry, apply, apply_state};
-
-#[cfg(test)]
-mod tests;

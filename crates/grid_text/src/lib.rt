@@ -32,6 +32,3 @@ pub use pairs::{JudgedPair, PairEnd, judge_pair};
 pub use printing::print;
 pub use scripts::Script;
 pub use words::numeral;
-
-#[cfg(test)]
-mod tests;

@@ -25,6 +25,3 @@ pub use products::times_factor;
 pub use quotients::divide;
 pub use rank_maps::{Ranks, rows_of};
 pub use tables::{MAX_RANK, Table, TableRow};
-
-#[cfg(test)]
-mod tests;

@@ -40,6 +40,3 @@ pub use printing::print_cert;
 pub use reading::{CertEnd, MAX_CERTIFICATE, read_cert};
 pub use tables::{corank_table, rank_table};
 pub use verdicts::{CertTest, CertVerdict};
-
-#[cfg(test)]
-mod tests;

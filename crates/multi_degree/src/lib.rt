@@ -12,6 +12,3 @@
 mod components;
 
 pub use components::{component_degrees, component_exponents};
-
-#[cfg(test)]
-mod tests;

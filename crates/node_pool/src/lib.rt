@@ -48,6 +48,3 @@ pub(crate) const BLANK: Node = Node {
     next_in: 0,
     prev_in: 0,
 };
-
-#[cfg(test)]
-mod tests;

@@ -15,8 +15,6 @@ mod exchange_indices;
 mod first_marks;
 pub mod laws;
 mod target_states;
-#[cfg(test)]
-mod tests;
 
 pub use borders::{border, border_of_state};
 pub use first_marks::FirstMarks;

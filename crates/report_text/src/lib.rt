@@ -19,6 +19,3 @@ pub use lines::{
     class_line, corank_lines, euler_lines, front_line, hat_lines, refused_line, set_line,
     table_lines, verdict_word,
 };
-
-#[cfg(test)]
-mod tests;

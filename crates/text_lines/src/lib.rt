@@ -15,6 +15,3 @@ mod sets;
 pub use numbers::push_number;
 pub use parts::first_part;
 pub use sets::push_set_line;
-
-#[cfg(test)]
-mod tests;

@@ -59,30 +59,3 @@ pub(crate) fn is_inside(n: u8, a: u8, b: u8, i: u8) -> bool
 {
     in_range(n, a, b, i) && i != a
 }
-
-#[cfg(test)]
-mod tests {
-    use super::*;
-
-    #[test]
-    fn ranges(rt: HostRuntime) {
-        // from, up to, and the circles of size five that are met
-        let cases: [(u8, u8, &[u8]); 4] = [
-            (0, 4, &[0, 1, 2, 3]),
-            (2, 3, &[2]),
-            (3, 1, &[0, 3, 4]),
-            (4, 0, &[4]),
-        ];
-        for (a, b, met) in cases {
-            for i in 0..5u8 {
-                if a < 5 && b < 5 && a != b {
-                    assert_eq!(rt;
-                        in_range(5, a, b, i),
-                        met.contains(&i),
-                        "{i} from {a} to {b}"
-                    );
-                }
-            }
-        }
-    }
-}

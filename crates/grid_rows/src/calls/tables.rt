@@ -1,10 +1,15 @@
+//! Products and quotients of tables, Euler numbers, and the line of a table that has no hat.
 ghost use Rattle.std.specs.Prelude.{◌↔◌, IsTrue};
 ghost use Rattle.std.specs.List.{All};
 ghost use Rattle.hat_division.specs.Product.{IsSmall};
 
-use crate::{Table, TableRow, divide, times_factor};
+use grid_euler::{EulerRow, euler_of_states};
 use grid_ports::NoMemory;
+use hat_division::{Table, TableRow, divide, times_factor};
+use report_text::hat_lines;
 use std::process::Abort;
+use std::test::Fail;
+use torus_geom::Grid;
 
 fn is_small(row: &TableRow) -> bool
     ensures { IsTrue result ↔ IsSmall row.now }
@@ -35,5 +40,37 @@ fn a_table_is_multiplied_and_divided(rt: HostRuntime) -> Result<(), NoMemory> {
     let quotient = divide(rt.alloc(), &product, 2)?.expect(&rt, "a quotient");
     assert_eq!(rt; quotient.rows(), [row(1, 1), row(0, 2)].as_slice());
     assert!(rt; divide(rt.alloc(), &product, 4)?.is_none());
+    Ok(())
+}
+
+/// The Euler numbers of the trefoil on a grid of size five: its Alexander polynomial times the fourth power of
+/// 1 - t^-1.
+#[test]
+fn numbers_of_the_trefoil(rt: HostRuntime) -> Result<(), Fail> {
+    let g = Grid::of(&[0, 1, 2, 3, 4], &[2, 3, 4, 0, 1])
+        .ok()
+        .ok_or("grid")?;
+    let expected = [
+        (1, 1),
+        (0, -5),
+        (-1, 11),
+        (-2, -14),
+        (-3, 11),
+        (-4, -5),
+        (-5, 1),
+    ];
+    let found = euler_of_states(rt.alloc(), &g).ok().ok_or("memory")?;
+    assert_eq!(rt; found.rows().len(), expected.len());
+    for (row, (a, value)) in found.rows().iter().zip(expected) {
+        assert_eq!(rt; *row, EulerRow { a, value });
+    }
+    Ok(())
+}
+
+/// The line of a table that has no hat.
+#[test]
+fn the_line_of_no_hat(rt: HostRuntime) -> Result<(), NoMemory> {
+    let none = hat_lines(rt.alloc(), 1, None)?;
+    assert_eq!(rt; none.as_slice(), b"hat none\n".as_slice());
     Ok(())
 }
