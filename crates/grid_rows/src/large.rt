@@ -1,4 +1,4 @@
-//! Grids of seven to nine columns.
+//! Grids of seven to ten columns.
 //!
 //! Each text has a test of its own, of a few seconds. The tables, the hat of eleven rows and the verdicts of `make` are
 //! those of a second program, whose Rust has nothing of this one's.

@@ -238,7 +238,7 @@ $ run
 > chain
 ";
 
-/// Grids of the greatest size.
+/// Grids of nine columns.
 pub(crate) const MOVES_OF_NINE: &str = "
 $ run
 < grid 9

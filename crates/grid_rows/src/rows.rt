@@ -7,7 +7,7 @@
 //!     < LINE         a line that the first call reads
 //!     . TEXT         the same, with no end of line
 //!     r N LINE       the same line, so many times
-//!     s WORD N K     a line of WORD and the first K states of size N, the last of them first
+//!     s WORD N K     a line of WORD and the first K states of size N, from 2 to 9, the last of them first
 //!     ! read A B     the row is tried with each of the reads from A to B failing; all reads and writes are of one byte
 //!     ! write A B    the same for the writes
 //!     ! room N       the sink has room for so many bytes
@@ -168,10 +168,11 @@ fn states(alloc: Global, rest: &str, is_turned: bool) -> Result<String, Fail> {
     let n = size as u8;
     for place in 0..count {
         let code = if is_turned { count - 1 - place } else { place };
-        if code < u64::from(state_count(n)) {
-            line.push(b' ')?;
-            State::unrank(n, code as u32).push_word(&mut line)?;
+        if code >= u64::from(state_count(n)) {
+            return Err("a number of states".into());
         }
+        line.push(b' ')?;
+        State::unrank(n, code as u32).push_word(&mut line)?;
     }
     Ok(String::from_utf8(line).ok().ok_or("a text")?)
 }

@@ -1,4 +1,4 @@
-//! Sets of codes that are toggled, and the borders of small states.
+//! Sets of codes that are toggled, and the targets of small states.
 use f2_chain::{Builder, CodeSet};
 use grid_ports::NoMemory;
 use rectangles::targets;
@@ -22,29 +22,30 @@ fn codes_toggled_in_any_order(rt: HostRuntime) -> Result<(), NoMemory> {
     Ok(())
 }
 
+// All states of a border, in order, which `border` prints from their indices.
 #[test]
-fn borders_of_small_states(rt: HostRuntime) -> Result<(), Fail> {
+fn targets_of_small_states(rt: HostRuntime) -> Result<(), Fail> {
     let small = Grid::of(&[2, 1, 0], &[1, 0, 2]).ok().ok_or("small")?;
     let trefoil = Grid::of(&[0, 1, 2, 3, 4], &[2, 3, 4, 0, 1])
         .ok()
         .ok_or("trefoil")?;
-    let two = Grid::of(&[1, 0], &[0, 1]).ok().ok_or("two")?;
-    // a grid, a state, and the only state of its border, if there is one
-    let cases: [(&Grid, &[u8], Option<&[u8]>); 4] = [
-        (&small, &[0, 1, 2], Some(&[1, 0, 2])),
-        (&small, &[0, 2, 1], None),
-        (&trefoil, &[2, 3, 4, 0, 1], None),
-        (&two, &[0, 1], None),
+    // a grid, a state, and the words of the states of its border
+    let cases: [(&Grid, &[u8], &[&str]); 3] = [
+        (&small, &[0, 1, 2], &["102"]),
+        (&trefoil, &[2, 3, 4, 0, 1], &[]),
+        (
+            &trefoil,
+            &[3, 4, 0, 1, 2],
+            &["24013", "30412", "34021", "34102", "43012"],
+        ),
     ];
-    for (g, rows, only) in cases {
+    for (g, rows, words) in cases {
         let x = State::of(rows).ok_or("state")?;
-        if x.size() == g.size() {
-            let found = targets(rt.alloc(), g, &x);
-            assert_eq!(rt;
-                found.first().map(|y| y.rank()),
-                only.and_then(State::of).map(|y| y.rank()),
-                "at {rows:?}"
-            );
+        assert_eq!(rt; x.size(), g.size());
+        let found = targets(rt.alloc(), g, &x);
+        assert_eq!(rt; found.len(), words.len(), "at {rows:?}");
+        for (y, word) in found.iter().zip(words) {
+            assert_eq!(rt; Some(*y), State::of_word(word.as_bytes()));
         }
     }
     Ok(())

@@ -8,7 +8,7 @@ use torus_geom::{Grid, Rect, in_range, is_empty, is_unmarked};
 
 #[test]
 fn ranges(rt: HostRuntime) {
-    // from, up to, and the circles of size five that are met
+    // from, up to, and those of five circles that are met
     let cases: [(u8, u8, &[u8]); 4] = [
         (0, 4, &[0, 1, 2, 3]),
         (2, 3, &[2]),
@@ -17,77 +17,64 @@ fn ranges(rt: HostRuntime) {
     ];
     for (a, b, met) in cases {
         for i in 0..5u8 {
-            if a < 5 && b < 5 && a != b {
-                assert_eq!(rt;
-                    in_range(5, a, b, i),
-                    met.contains(&i),
-                    "{i} from {a} to {b}"
-                );
-            }
+            assert!(rt; a < 5 && b < 5 && a != b);
+            assert_eq!(rt;
+                in_range(5, a, b, i),
+                met.contains(&i),
+                "{i} from {a} to {b}"
+            );
         }
     }
 }
 
 // The two rectangles that leave the state 201 at the circles 0 and 2, of which one is empty.
 #[test]
-fn rectangles_of_a_state(rt: HostRuntime) {
-    let x = State::of(&[2, 0, 1]).unwrap_or_default();
-    if x.size() == 3 {
-        let plain = Rect::leaving(&x, 0, 2);
-        let across = Rect::leaving(&x, 2, 0);
-        assert_eq!(rt;
-            plain,
-            Rect {
-                left: 0,
-                right: 2,
-                low: 2,
-                high: 1
-            }
-        );
-        assert!(rt; !is_empty(&x, &plain));
-        assert!(rt; is_empty(&x, &across));
-    }
+fn rectangles_of_a_state(rt: HostRuntime) -> Result<(), Fail> {
+    let x = State::of(&[2, 0, 1]).ok_or("state")?;
+    assert_eq!(rt; x.size(), 3);
+    let plain = Rect::leaving(&x, 0, 2);
+    let across = Rect::leaving(&x, 2, 0);
+    assert_eq!(rt;
+        plain,
+        Rect {
+            left: 0,
+            right: 2,
+            low: 2,
+            high: 1
+        }
+    );
+    assert!(rt; !is_empty(&x, &plain));
+    assert!(rt; is_empty(&x, &across));
+    Ok(())
 }
 
+// A square with no mark, one with an X and one with an O.
 #[test]
-fn marks_in_a_rectangle(rt: HostRuntime) {
-    if let Ok(g) = Grid::of(&[2, 1, 0], &[1, 0, 2])
-        && g.size() == 3
-    {
-        assert!(rt;
-            is_unmarked(
-                &g,
-                &Rect {
-                    left: 0,
-                    right: 1,
-                    low: 0,
-                    high: 1
-                }
-            )
-        );
-        assert!(rt;
-            !is_unmarked(
-                &g,
-                &Rect {
-                    left: 1,
-                    right: 2,
-                    low: 0,
-                    high: 1
-                }
-            )
-        );
-        assert!(rt;
-            !is_unmarked(
-                &g,
-                &Rect {
-                    left: 1,
-                    right: 2,
-                    low: 1,
-                    high: 2
-                }
-            )
-        );
-    }
+fn marks_in_a_rectangle(rt: HostRuntime) -> Result<(), Fail> {
+    let g = Grid::of(&[2, 1, 0], &[1, 0, 2]).ok().ok_or("grid")?;
+    assert_eq!(rt; g.size(), 3);
+    let blank = Rect {
+        left: 0,
+        right: 1,
+        low: 0,
+        high: 1,
+    };
+    let with_x = Rect {
+        left: 1,
+        right: 2,
+        low: 0,
+        high: 1,
+    };
+    let with_o = Rect {
+        left: 1,
+        right: 2,
+        low: 1,
+        high: 2,
+    };
+    assert!(rt; is_unmarked(&g, &blank));
+    assert!(rt; !is_unmarked(&g, &with_x));
+    assert!(rt; !is_unmarked(&g, &with_o));
+    Ok(())
 }
 
 #[test]
@@ -99,14 +86,13 @@ fn moves_of_a_small_grid(rt: HostRuntime) -> Result<(), Fail> {
     assert_eq!(rt; turn(&left, Side::Right), g);
     assert_eq!(rt; turn(&g, Side::Up), up);
     assert_eq!(rt; turn(&up, Side::Down), g);
-    assert!(rt; commutes(&g, Axis::Cols, 1) && !commutes(&g, Axis::Cols, 2));
+    assert!(rt; !commutes(&g, Axis::Cols, 2));
     let exchanged = Grid::of(&[2, 0, 1, 3], &[3, 1, 2, 0])
         .ok()
         .ok_or("exchanged")?;
     assert_eq!(rt; g.transpose().transpose(), g);
-    if commutes(&g, Axis::Cols, 1) {
-        assert_eq!(rt; swap(&g, Axis::Cols, 1), exchanged);
-    }
+    assert!(rt; commutes(&g, Axis::Cols, 1));
+    assert_eq!(rt; swap(&g, Axis::Cols, 1), exchanged);
     Ok(())
 }
 
@@ -137,7 +123,7 @@ fn symmetries_of_a_state(rt: HostRuntime) -> Result<(), Fail> {
     Ok(())
 }
 
-// The state that bounds x+ of the stabilised trefoil, where it goes across the seam.
+// The state that bounds x+ of the trefoil after a stabilisation, across the seam.
 #[test]
 fn plus_bound_of_the_trefoil(rt: HostRuntime) -> Result<(), Fail> {
     let trefoil = Grid::of(&[0, 1, 2, 3, 4], &[2, 3, 4, 0, 1])
@@ -150,7 +136,7 @@ fn plus_bound_of_the_trefoil(rt: HostRuntime) -> Result<(), Fail> {
     Ok(())
 }
 
-// And the state that bounds x-.
+// The state that bounds x- of the trefoil after a stabilisation.
 #[test]
 fn minus_bound_of_the_trefoil(rt: HostRuntime) -> Result<(), Fail> {
     let trefoil = Grid::of(&[0, 1, 2, 3, 4], &[2, 3, 4, 0, 1])

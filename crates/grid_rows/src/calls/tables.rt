@@ -43,10 +43,10 @@ fn a_table_is_multiplied_and_divided(rt: HostRuntime) -> Result<(), NoMemory> {
     Ok(())
 }
 
-/// The Euler numbers of the trefoil on a grid of size five: its Alexander polynomial times the fourth power of
-/// 1 - t^-1.
+/// The Euler numbers of the trefoil from its states alone, where `euler` takes them from its table: the Alexander
+/// polynomial times the fourth power of 1 - t^-1.
 #[test]
-fn numbers_of_the_trefoil(rt: HostRuntime) -> Result<(), Fail> {
+fn euler_numbers_by_states(rt: HostRuntime) -> Result<(), Fail> {
     let g = Grid::of(&[0, 1, 2, 3, 4], &[2, 3, 4, 0, 1])
         .ok()
         .ok_or("grid")?;
